@@ -32,7 +32,7 @@ int main(int count, char **words) {
     uint64_t sum = 0;
     EACH("insert_new", aug_insert(&user, 2 * half(i) + 1))
     EACH("insert_present", aug_insert(&user, 2 * half(i)))
-    EACH("put", aug_put(&user, 2 * half(i), i))
+    EACH("put", aug_put(&user, 2 * half(i), i, NULL))
     EACH("look", aug_look(&user) || aug_look_done(&user))
     if (aug_look(&user)) return 1;
     EACH("again", aug_look_again(&user))

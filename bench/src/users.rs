@@ -8,11 +8,11 @@ impl Seat for User {
     fn update(&mut self, update: Update) -> Change {
         match update {
             Update::Insert(key) if self.insert(key).expect(OPEN) => Change::Came,
-            Update::Remove(key) if self.remove(key).expect(OPEN) => Change::Left,
+            Update::Remove(key) if self.remove(key).expect(OPEN).is_some() => Change::Left,
             Update::Insert(_) | Update::Remove(_) => Change::Nothing,
             Update::Put(key, weight) => match self.put(key, weight).expect(OPEN) {
                 Put::Accepted => Change::Came,
-                Put::Replaced => Change::Weighed,
+                Put::Replaced { .. } => Change::Weighed,
                 Put::Refused => Change::Nothing,
             },
         }

@@ -28,6 +28,7 @@ int64_t aug_try_weight(aug_user *user, uint32_t key);
 int64_t aug_try_size(aug_user *user);
 int64_t aug_try_rank(aug_user *user, uint32_t key);
 int64_t aug_try_select(aug_user *user, uint32_t index);
+int64_t aug_try_select_by_weight(aug_user *user, uint64_t sum);
 int64_t aug_try_before(aug_user *user, uint32_t key);
 int64_t aug_try_after(aug_user *user, uint32_t key);
 int64_t aug_try_first(aug_user *user);
@@ -40,6 +41,7 @@ int64_t aug_try_keys(aug_user *user, uint32_t from, uint32_t *out, size_t room);
 int64_t aug_try_list(aug_user *user, uint32_t from, uint32_t *keys, size_t room, uint32_t *weights, size_t weight_room);
 int64_t aug_try_list_back(aug_user *user, uint32_t below, uint32_t *keys, size_t room, uint32_t *weights, size_t weight_room);
 int64_t aug_try_changes(aug_user *user, uint32_t from, aug_change *out, size_t room);
+int64_t aug_try_changes_since(aug_user *user, const uint32_t *keys, size_t n, const uint32_t *weights, size_t weight_count, uint32_t from, aug_change *out, size_t room);
 
 /* ---- Version and texts ---- */
 
@@ -258,14 +260,24 @@ int64_t aug_look_done(aug_user *user) {
 #define AT_LAST(call) do { int64_t code_; CALLS_AGAIN(code_, user->of, call); return code_; } while (0)
 
 static SELDOM int64_t insert_at_last(aug_user *user, uint32_t key) { AT_LAST(aug_try_insert(user, key)); }
-static SELDOM int64_t remove_at_last(aug_user *user, uint32_t key) { AT_LAST(aug_try_remove(user, key)); }
-static SELDOM int64_t put_at_last(aug_user *user, uint32_t key, uint32_t weight) { AT_LAST(aug_try_put(user, key, weight)); }
+static SELDOM int64_t remove_at_last(aug_user *user, uint32_t key, aug_told *told) { AT_LAST(aug_try_remove(user, key, told)); }
+static SELDOM int64_t put_at_last(aug_user *user, uint32_t key, uint32_t weight, aug_told *told) { AT_LAST(aug_try_put(user, key, weight, told)); }
 static SELDOM int64_t look_at_last(aug_user *user) { AT_LAST(aug_try_look(user)); }
 
 int64_t aug_insert(aug_user *user, uint32_t key) { OF_USER(aug_try_insert(user, key), insert_at_last(user, key)); }
-int64_t aug_remove(aug_user *user, uint32_t key) { OF_USER(aug_try_remove(user, key), remove_at_last(user, key)); }
-int64_t aug_put(aug_user *user, uint32_t key, uint32_t weight) { OF_USER(aug_try_put(user, key, weight), put_at_last(user, key, weight)); }
 int64_t aug_look(aug_user *user) { OF_USER(aug_try_look(user), look_at_last(user)); }
+
+int64_t aug_remove(aug_user *user, uint32_t key, aug_told *told) {
+    aug_told unwanted;
+    if (!told) told = &unwanted;
+    OF_USER(aug_try_remove(user, key, told), remove_at_last(user, key, told));
+}
+
+int64_t aug_put(aug_user *user, uint32_t key, uint32_t weight, aug_told *told) {
+    aug_told unwanted;
+    if (!told) told = &unwanted;
+    OF_USER(aug_try_put(user, key, weight, told), put_at_last(user, key, weight, told));
+}
 
 /* A change of what is there, which is made again too if another user changed the key in between. Nobody is waited for then. */
 #define OF_CHANGE(call) do { \
@@ -275,8 +287,15 @@ int64_t aug_look(aug_user *user) { OF_USER(aug_try_look(user), look_at_last(user
     return code_; \
 } while (0)
 
-int64_t aug_add(aug_user *user, uint32_t key, uint32_t amount) { OF_CHANGE(aug_try_add(user, key, amount)); }
-int64_t aug_sub(aug_user *user, uint32_t key, uint32_t amount) { OF_CHANGE(aug_try_sub(user, key, amount)); }
+int64_t aug_add(aug_user *user, uint32_t key, uint32_t amount, aug_told *told) {
+    aug_told unwanted;
+    OF_CHANGE(aug_try_add(user, key, amount, told ? told : &unwanted));
+}
+
+int64_t aug_sub(aug_user *user, uint32_t key, uint32_t amount, aug_told *told) {
+    aug_told unwanted;
+    OF_CHANGE(aug_try_sub(user, key, amount, told ? told : &unwanted));
+}
 
 int64_t aug_pop_first(aug_user *user, aug_member *member) {
     aug_member unwanted;
@@ -294,6 +313,7 @@ int64_t aug_weight(aug_user *user, uint32_t key) { return user ? aug_try_weight(
 int64_t aug_size(aug_user *user) { return user ? aug_try_size(user) : AUG_CLOSED; }
 int64_t aug_rank(aug_user *user, uint32_t key) { return user ? aug_try_rank(user, key) : AUG_CLOSED; }
 int64_t aug_select(aug_user *user, uint32_t index) { return user ? aug_try_select(user, index) : AUG_CLOSED; }
+int64_t aug_select_by_weight(aug_user *user, uint64_t sum) { return user ? aug_try_select_by_weight(user, sum) : AUG_CLOSED; }
 int64_t aug_before(aug_user *user, uint32_t key) { return user ? aug_try_before(user, key) : AUG_CLOSED; }
 int64_t aug_after(aug_user *user, uint32_t key) { return user ? aug_try_after(user, key) : AUG_CLOSED; }
 int64_t aug_first(aug_user *user) { return user ? aug_try_first(user) : AUG_CLOSED; }
@@ -384,17 +404,33 @@ int64_t aug_list_back(aug_user *user, uint32_t below, uint32_t *keys, uint32_t *
 /* How many changes a proved call writes at most: it writes fewer only if no more come. */
 enum { PAGE = 32 };
 
+/* Changes, a page after the other, from the key `from` on, which each call names. */
+#define OF_PAGES(call) do { \
+    aug_change *next = ARRAY(out); \
+    size_t left = room; \
+    for (;;) { \
+        const size_t places = left < PAGE ? left : PAGE; \
+        int64_t code_ = (call); \
+        if (code_ < 0) return code_; \
+        next += code_; \
+        left -= (size_t)code_; \
+        if (code_ < PAGE || !left) return (int64_t)(room - left); \
+        from = next[-1].key + 1; \
+    } \
+} while (0)
+
 int64_t aug_changes(aug_user *user, uint32_t from, aug_change *out, size_t room) {
-    aug_change *next = ARRAY(out);
-    size_t left = room;
-    int64_t code = refuses(user, NULL, 0, out, room);
-    if (code != AUG_OK) return code;
-    for (;;) {
-        code = aug_try_changes(user, from, next, left < PAGE ? left : PAGE);
-        if (code < 0) return code;
-        next += code;
-        left -= (size_t)code;
-        if (code < PAGE || !left) return (int64_t)(room - left);
-        from = next[-1].key + 1;
-    }
+    int64_t refused = refuses(user, NULL, 0, out, room);
+    if (refused != AUG_OK) return refused;
+    OF_PAGES(aug_try_changes(user, from, next, places));
+}
+
+int64_t aug_changes_since(aug_user *user, const uint32_t *keys, const uint32_t *weights, size_t n, uint32_t from, aug_change *out, size_t room) {
+    int64_t refused = refuses(user, keys, n, keys, n);
+    if (refused == AUG_OK) refused = refuses(user, weights, n, weights, n);
+    if (refused == AUG_OK) refused = refuses(user, NULL, 0, out, room);
+    if (refused != AUG_OK) return refused;
+    /* The proved call refuses keys that do not rise. */
+    if (n && keys[n - 1] >= universe(user)) return AUG_BAD_KEY;
+    OF_PAGES(aug_try_changes_since(user, ARRAY(keys), n, ARRAY(weights), n, from, next, places));
 }

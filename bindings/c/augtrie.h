@@ -32,7 +32,7 @@
  * Answers. Each call answers a number that is 0 or more, or one of the codes below. A call that answers a code has changed nothing of the
  * set, except one for an array that answers AUG_CLOSED or AUG_AGAIN. A handle that is null, zeroed, closed, or of the other kind is
  * answered AUG_CLOSED. aug_open and aug_user_open open a zeroed or closed one, and leave an open one of either kind as it was. Only these
- * two take memory. The calls aug_try_.. are proved, with all that they answer; what calls them again is in augtrie.c.
+ * two take memory. The calls aug_try_.. are proved, with all that they answer; the others, which call these again, are not.
  */
 #ifndef AUGTRIE_H
 #define AUGTRIE_H
@@ -101,6 +101,13 @@ typedef struct aug_change {
     int64_t now;    /* in the later one */
 } aug_change;
 
+/* What a key weighed before an update, and what it weighs after it: AUG_NONE where it is no member. If nothing was stored, both are what the
+   update found. No update was made if the answer is AUG_CLOSED, AUG_BAD_KEY, AUG_LOOKING or AUG_AGAIN; then all stays as it was. */
+typedef struct aug_told {
+    int64_t before;
+    int64_t now;
+} aug_told;
+
 /* What the members of an interval come to. Of no members, the least and the greatest are 0. */
 typedef struct aug_span {
     uint64_t sum;      /* the sum of their weights, modulo 2^64 */
@@ -163,27 +170,28 @@ int64_t aug_user_close(aug_user *user);
 /* Closes the trie. Updates and looks of its users answer AUG_CLOSED from then on. `report` may be null. Answers 0 or AUG_CLOSED. */
 int64_t aug_close(aug_trie *trie, aug_report *report);
 
-/* ---- Updates. A user that holds a look makes none: AUG_LOOKING. ---- */
+/* ---- Updates. A user that holds a look makes none: AUG_LOOKING. `told` may be null. ---- */
 
 /* Puts a key in, with the key itself as its weight. Answers 1 if it was not there, 0 if it was, or AUG_CLOSED, AUG_BAD_KEY,
    AUG_LOOKING. */
 AUG_NODISCARD int64_t aug_insert(aug_user *user, uint32_t key);
 
-/* Takes a key out. Answers 1 if it was there, 0 if it was not, or as aug_insert. */
-AUG_NODISCARD int64_t aug_remove(aug_user *user, uint32_t key);
+/* Takes a key out. Answers 1 if it was there, 0 if it was not, or as aug_insert. Also 0 if another user changed the key meanwhile and nothing
+   was stored: `told` has the weight that was found then, and not AUG_NONE. */
+AUG_NODISCARD int64_t aug_remove(aug_user *user, uint32_t key, aug_told *told);
 
 /* Puts a key in with a weight, or gives a member this weight. Answers 1 if it was not there, 2 if it was, 0 if another user changed the
    key meanwhile and nothing was stored, or as aug_insert. */
-AUG_NODISCARD int64_t aug_put(aug_user *user, uint32_t key, uint32_t weight);
+AUG_NODISCARD int64_t aug_put(aug_user *user, uint32_t key, uint32_t weight, aug_told *told);
 
 /* Adds an amount to a key's weight. A key that is not there goes in with it. Answers 1 if it was not there, 2 if it was, 3 if the amount
    is 0 and nothing changed, AUG_TOO_GREAT, or as aug_insert. It is made again if another user changed the key meanwhile, so no amount is
-   lost, and somebody's update succeeds in each turn. */
-AUG_NODISCARD int64_t aug_add(aug_user *user, uint32_t key, uint32_t amount);
+   lost, and somebody's update succeeds in each turn. `told` is that of the last turn. */
+AUG_NODISCARD int64_t aug_add(aug_user *user, uint32_t key, uint32_t amount, aug_told *told);
 
 /* Takes an amount from a key's weight, as aug_add. A key of whose weight nothing is left goes out. Answers 1 if it went out, 2 if it is
    still there, 3 if the amount is 0, AUG_TOO_LITTLE, or as aug_insert. */
-AUG_NODISCARD int64_t aug_sub(aug_user *user, uint32_t key, uint32_t amount);
+AUG_NODISCARD int64_t aug_sub(aug_user *user, uint32_t key, uint32_t amount, aug_told *told);
 
 /* Takes out the member with the least key, or the greatest, and writes it to `member`, which may be null. Answers 1, or AUG_NONE if there is
    none, AUG_CLOSED, AUG_LOOKING. Each member comes to one caller. The call is made again as aug_add is. */
@@ -230,6 +238,11 @@ int64_t aug_rank(aug_user *user, uint32_t key);
 /* The member with exactly so many members below it, or AUG_NONE. */
 int64_t aug_select(aug_user *user, uint32_t index);
 
+/* The member up to which the weights, added up from the least member on, first come to more than `sum`, or AUG_NONE if all of them do not: of 5,
+   which weighs 70, and 9, which weighs 30, it is 5 for 0 to 69, and 9 for 70 to 99. A member that weighs 0 is never the answer. No sum wraps:
+   all weights of a trie come to less than 2^48. */
+int64_t aug_select_by_weight(aug_user *user, uint64_t sum);
+
 /* The greatest member below the key, or AUG_NONE. */
 int64_t aug_before(aug_user *user, uint32_t key);
 
@@ -269,16 +282,21 @@ AUG_NODISCARD int64_t aug_list_back(aug_user *user, uint32_t below, uint32_t *ke
    long as the answer is `room`. What no update has touched in between is passed over, and nobody is waited for. */
 AUG_NODISCARD int64_t aug_changes(aug_user *user, uint32_t from, aug_change *out, size_t room);
 
+/* The same between a set that you listed and the snapshot: n keys that rise, each with the weight that has its index, as aug_list wrote them. So what
+   changed over a roll-over is told too, or since a look that has ended. Answers as aug_changes; AUG_BAD_KEY if the keys do not rise, or one is not below
+   2^bits; or AUG_BAD_LENGTH if n is more than 2^bits. Then nothing is written. It goes over all members of both, however few of them changed. */
+AUG_NODISCARD int64_t aug_changes_since(aug_user *user, const uint32_t *keys, const uint32_t *weights, size_t n, uint32_t from, aug_change *out, size_t room);
+
 /* ---- The calls that never wait: what they may answer beside that is AUG_AGAIN. No handle, array or result may be null. ---- */
 
 AUG_NODISCARD int64_t aug_try_insert(aug_user *user, uint32_t key);
-AUG_NODISCARD int64_t aug_try_remove(aug_user *user, uint32_t key);
-AUG_NODISCARD int64_t aug_try_put(aug_user *user, uint32_t key, uint32_t weight);
+AUG_NODISCARD int64_t aug_try_remove(aug_user *user, uint32_t key, aug_told *told);
+AUG_NODISCARD int64_t aug_try_put(aug_user *user, uint32_t key, uint32_t weight, aug_told *told);
 AUG_NODISCARD int64_t aug_try_look(aug_user *user);
 
 /* These are not made again either if another user changed the key meanwhile, and answer 0 then. */
-AUG_NODISCARD int64_t aug_try_add(aug_user *user, uint32_t key, uint32_t amount);
-AUG_NODISCARD int64_t aug_try_sub(aug_user *user, uint32_t key, uint32_t amount);
+AUG_NODISCARD int64_t aug_try_add(aug_user *user, uint32_t key, uint32_t amount, aug_told *told);
+AUG_NODISCARD int64_t aug_try_sub(aug_user *user, uint32_t key, uint32_t amount, aug_told *told);
 AUG_NODISCARD int64_t aug_try_pop_first(aug_user *user, aug_member *member);
 AUG_NODISCARD int64_t aug_try_pop_last(aug_user *user, aug_member *member);
 

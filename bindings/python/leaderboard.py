@@ -6,16 +6,18 @@ import threading
 from augtrie import Trie
 
 # The players of a club have numbers one after the other.
-CLUBS, PLAYERS, MATCHES = 20, 50, 1500
+CLUBS, PLAYERS, MATCHES, GOAL = 20, 50, 1500, 100
 
 
-def play(board, seed, won):
-    """Plays matches. Each win raises a score, which other threads may raise at the same time."""
+def play(board, seed, won, winners):
+    """Plays matches. Each win raises a score, which other threads may raise at the same time. But one alone sees it reach the goal."""
     chance = random.Random(seed)
     for _ in range(MATCHES):
         player, points = int(chance.random() ** 2 * CLUBS * PLAYERS), 1 + int(chance.random() * 3)
-        board.increment(player, points)
+        score = board.increment(player, points)
         won[player] += points
+        if score - points < GOAL <= score:
+            winners.append(player)
 
 
 def club_totals(table):
@@ -35,8 +37,9 @@ def watch(board, is_over):
 def main():
     with Trie(bits=10) as board:
         won = [[0] * (CLUBS * PLAYERS) for _ in range(4)]
+        winners = []
         is_over = threading.Event()
-        threads = [threading.Thread(target=play, args=(board, seed, won[seed])) for seed in range(4)]
+        threads = [threading.Thread(target=play, args=(board, seed, won[seed], winners)) for seed in range(4)]
         reader = threading.Thread(target=watch, args=(board, is_over))
         for thread in [*threads, reader]:
             thread.start()
@@ -47,6 +50,7 @@ def main():
         with board.snapshot() as table:
             # No point is lost.
             assert [score or 0 for score in table.weights(range(CLUBS * PLAYERS))] == [sum(points) for points in zip(*won)]
+            assert sorted(winners) == [player for player, score in table.items() if score >= GOAL]
             ranked = sorted(table.items(), key=lambda it: (-it[1], it[0]))
             print("top ten:", ", ".join(f"{player} has {score}" for player, score in ranked[:10]))
             print(f"player 500 is at rank {1 + ranked.index((500, table.weight(500)))} of {len(table)}, the next player is {table.after(500)}")

@@ -117,6 +117,9 @@ def check(now, model, keys):
             assert now[index] == want[index] and now.peekitem(index) == (want[index], model[want[index]])
         else:
             assert raises(IndexError, lambda: now[index]) and raises(IndexError, now.peekitem, index)
+    sums = list(itertools.accumulate(model[it] for it in want))
+    for number in sorted({-(1 << 70), -1, 0, 1 << 63, 1 << 64, 1 << 70, *(it + more for it in sums for more in (-1, 0, 1))}):
+        assert now.select_by_weight(number) == next((key for key, total in zip(want, sums) if total > number), None)
     for start, stop in itertools.product(keys[:9], keys[:9]):
         inside = [it for it in want if start <= it < stop]
         total = sum(model[it] for it in inside)
@@ -133,22 +136,26 @@ def a_trie_answers_as_a_sorted_list():
             check(trie, model, [0, 1])
             for _ in range(8 * min(size, 64)):
                 key, number = rng.randrange(size), rng.randrange(1, 4)
-                what = rng.choice(("add", "add", "put", "increment", "increment", "decrement", "discard", "remove", "popitem"))
+                what = rng.choice(("add", "add", "put", "increment", "increment", "decrement", "discard", "remove", "pop", "popitem"))
                 if what == "add":
                     assert trie.add(key) is (key not in model)
                     model.setdefault(key, key)
                 elif what == "put":
-                    assert trie.put(key, number) is (key not in model)
+                    assert trie.put(key, number) == model.get(key)
                     model[key] = number
                 elif what == "increment":
-                    assert trie.increment(key, number) is (key not in model)
                     model[key] = model.get(key, 0) + number
+                    assert trie.increment(key, number) == model[key]
                 elif what == "decrement" and model.get(key, 0) < number:
                     assert raises(augtrie.TooLittle, trie.decrement, key, number)
                 elif what == "decrement":
                     model[key] -= number
-                    assert trie.decrement(key, amount=number) is (model[key] == 0)
+                    assert trie.decrement(key, amount=number) == model[key]
                     model = {it: weight for it, weight in model.items() if weight or it != key}
+                elif what == "pop":
+                    if key not in model:
+                        assert raises(KeyError, trie.pop, key)
+                    assert trie.pop(key, rng) == model.pop(key, rng)
                 elif what == "popitem":
                     index = rng.choice((0, -1))
                     if model:
@@ -207,16 +214,38 @@ def a_loop_over_a_trie_may_change_it():
 def amounts_stay_within_a_weight():
     most = (1 << 32) - 1
     with Trie(4) as trie:
-        assert trie.increment(3, most - 1) and not trie.increment(3)
+        assert (trie.increment(3, most - 1), trie.increment(3)) == (most - 1, most)
         assert raises(augtrie.TooGreat, trie.increment, 3) and raises(OverflowError, trie.increment, 3)
-        assert not trie.decrement(3, most - 2) and trie.weight(3) == 2
+        assert (trie.put(3, most), trie.increment(3, 0), trie.decrement(3, most - 2), trie.weight(3)) == (most, most, 2, 2)
         assert raises(augtrie.TooLittle, trie.decrement, 3, 3) and raises(ValueError, trie.decrement, 4)
-        assert trie.decrement(3, 2) and 3 not in trie
-        assert trie.increment(3, 0) is False and trie.decrement(3, 0) is False and len(trie) == 0
+        assert trie.decrement(3, 2) == 0 and 3 not in trie
+        assert trie.increment(3, 0) == trie.decrement(3, 0) == len(trie) == 0
         for number in (-1, 1 << 32, 1 << 70):
             for call in (trie.put, trie.increment, trie.decrement):
                 assert raises(ValueError, call, 3, number)
-        assert trie.put(3, 0) and trie.weight(3) == 0
+        assert trie.put(3, 0) is None and trie.weight(3) == trie.put(3, 0) == trie.decrement(3, 0) == trie.pop(3) == 0
+        assert trie.put(3, most) is None and trie.pop(3) == most and trie.put(3, 1) is None
+
+
+@test
+def a_key_is_popped_as_from_a_dict():
+    with Trie(4) as trie:
+        trie.put_all([3, 5, 7], [30, 0, 70])
+        model = {3: 30, 5: 0, 7: 70}
+        for key in (3, 5, 5, 0, 15, 16, -1, 1 << 32, 1 << 70):
+            for default in ((), (None,), (0,), (trie,)):
+                try:
+                    want = model.pop(key, *default)
+                except KeyError as fault:
+                    assert fault.args == (key,) and raises(KeyError, trie.pop, key)
+                else:
+                    assert trie.pop(key, *default) == want
+        assert list(trie.items()) == [(7, 70)]
+        assert raises(TypeError, trie.pop) and raises(TypeError, trie.pop, 7, 1, 2) and raises(TypeError, trie.pop, 7, default=1)
+        with trie.snapshot():
+            assert raises(augtrie.Looking, trie.pop, 7) and raises(augtrie.Looking, trie.pop, 7, None)
+        assert trie.pop(Seven(), None) == 70
+    assert raises(augtrie.Closed, trie.pop, 7) and raises(augtrie.Closed, trie.pop, 7, None)
 
 
 @test
@@ -274,12 +303,12 @@ def refusals_speak_of_snapshots():
 @test
 def what_has_an_index_is_a_number():
     with Trie(Seven(), users=Seven(), bytes=1 << 20) as trie:
-        assert trie.bits == 7 and trie.add(Seven()) and not trie.add(7) and trie.put(True, Seven())
+        assert trie.bits == 7 and trie.add(Seven()) and not trie.add(7) and trie.put(True, Seven()) is None
         assert trie.update(iter([Seven(), 9])) == 1 and Seven() in trie and trie.total(True, Seven()) == 7 and trie[True] == 7
         now = trie.snapshot()
         for no_number in (7.0, "7", b"7", None, [7]):
             for call in (now.weight, now.bisect_left, now.bisect_right, now.before, now.after, now.index, now.__contains__, now.__getitem__,
-                         trie.add, trie.discard, trie.remove, trie.increment, Trie, lambda it: now.total(1, it), lambda it: now.span(it, 1),
+                         trie.add, trie.discard, trie.remove, trie.pop, trie.increment, Trie, lambda it: now.total(1, it), lambda it: now.span(it, 1),
                          lambda it: trie.put(1, it), lambda it: trie.decrement(it, 1), lambda it: trie.update([1, it]),
                          lambda it: Trie(4, it), lambda it: now.weights([it]), now.peekitem, lambda it: now.items(it or ())):
                 assert raises(TypeError, call, no_number), (call, no_number)
@@ -370,11 +399,41 @@ def a_renewal_tells_what_it_changed():
                     assert isinstance(elsewhere(call), int)
                     now.renew()
                     assert old is None or list(now.changes()) == [(key, old, new) for key in range(count)]
-            assert elsewhere(lambda: (trie.put(9, 1), trie.discard(9))) == (True, True)
+            assert elsewhere(lambda: (trie.put(9, 1), trie.pop(9))) == (None, 1)
             now.renew()
             assert list(now.changes()) == []
         with trie.snapshot() as now:
             assert list(now.changes()) == []
+
+
+@test
+def what_changed_since_a_list_is_told_over_roll_overs():
+    rng = random.Random(5)
+    with Trie(7, users=1, bytes=1 << 16) as trie:
+        model = {}
+        for updates in (0, 1, 40, 3000, 0, 200, 3000):
+            with trie.snapshot() as now:
+                kept, before = list(now.items()), dict(model)
+            for _ in range(updates):
+                key, weight = rng.randrange(128), rng.randrange(3)
+                if rng.random() < 0.5:
+                    trie.put(key, weight)
+                    model[key] = weight
+                else:
+                    assert trie.discard(key) is (model.pop(key, None) is not None)
+            with trie.snapshot() as now:
+                assert list(now.changes_since(kept)) == differences(before, model) == list(now.changes_since(iter(kept)))
+                assert list(now.changes_since([])) == differences({}, model) and list(now.changes_since(now.items())) == []
+                walk = now.changes_since(kept)
+                now.renew()
+                assert not differences(before, model) or raises(RuntimeError, next, walk)
+                for wrong in ([(2, 1), (1, 1)], [(2, 1), (2, 1)], [(1, 1), (128, 1)], [(-1, 1)]):
+                    assert raises(augtrie.BadKey, now.changes_since, wrong)
+                assert raises(augtrie.BadLength, now.changes_since, [(i, 1) for i in range(129)])
+                assert raises(ValueError, now.changes_since, [(1, 2, 3)]) and raises(ValueError, now.changes_since, [(1, -1)])
+                assert raises(TypeError, now.changes_since, 5) and raises(TypeError, now.changes_since, [5]) and raises(TypeError, now.changes_since)
+            assert raises(augtrie.NotLooking, now.changes_since, kept)
+    assert raises(augtrie.Closed, now.changes_since, kept)
 
 
 @test
@@ -537,18 +596,22 @@ def four_threads_raise_the_same_keys():
 
         def work(seed):
             rng = random.Random(seed)
-            given = [0] * 10
+            # By the key, the weight before each change and after it.
+            told = [[] for _ in range(10)]
             for _ in range(turns):
                 key, amount = rng.randrange(10), rng.randrange(1, 6)
-                trie.increment(key, amount)
-                given[key] += amount
+                now = trie.increment(key, amount)
+                told[key].append((now - amount, now))
                 if rng.random() < 0.3:
-                    trie.decrement(key)
-                    given[key] -= 1
-            return given
+                    now = trie.decrement(key)
+                    told[key].append((now + 1, now))
+            return told
 
         found = all_at_once(*(lambda seed=seed: work(seed) for seed in range(4)))
-        assert trie.weights(range(10)) == [sum(it) for it in zip(*found)]
+        for key, parts in enumerate(zip(*found)):
+            before, now = zip(*sum(parts, []))
+            # Each weight is found as often as it is left: 0 at first, and the last one now.
+            assert sorted([*before, trie.weight(key)]) == sorted([0, *now])
 
 
 @test
@@ -561,8 +624,8 @@ def a_hundred_thousand_calls_answer_as_a_sorted_dict_does():
             at = bisect.bisect_left(keys, key)
             is_new = key not in weights
             if what < 3:
-                assert trie.increment(key, what + 1) is is_new
                 weights[key] = weights.get(key, 0) + what + 1
+                assert trie.increment(key, what + 1) == weights[key]
             elif what == 3:
                 assert trie.add(key) is is_new
                 weights.setdefault(key, key)
@@ -743,7 +806,7 @@ def a_wait_can_be_interrupted():
         with Trie(**SMALL) as trie:
             assert interrupted(trie, lambda: call(trie))
             # The user is not in the call any longer.
-            assert trie.put(9, 9) and trie.weight(9) == 9 and len(list(trie)) >= 1
+            assert trie.put(9, 9) is None and trie.pop(9) == 9 and len(list(trie)) >= 1
 
 
 @test
@@ -836,7 +899,7 @@ def exceptions_of_the_caller_leave_nothing_behind():
         bad = Acting(fail)
         for call in (lambda: trie.update(numbers()), lambda: trie.difference_update([0, bad]), lambda: trie.put_all([1], [bad]), lambda: trie.add(bad),
                      lambda: trie.increment(1, bad), lambda: bad in trie, lambda: trie[bad], lambda: trie[bad:], lambda: trie.weights([1, bad]),
-                     lambda: trie.irange(bad), lambda: trie.total(0, bad), lambda: Trie(4, bad), lambda: trie.remove(bad)):
+                     lambda: trie.irange(bad), lambda: trie.total(0, bad), lambda: Trie(4, bad), lambda: trie.remove(bad), lambda: trie.pop(bad, 0)):
             assert raises(KeyError, call) and len(trie) == 0 and trie.add(0) and trie.discard(0)
 
 
@@ -845,7 +908,7 @@ def a_number_may_call_the_trie_that_reads_it():
     with Trie(4) as trie:
         again = Acting(lambda: (trie.add(6), trie.discard(6), len(trie)))
         assert trie.add(again) and trie.update([again, 1]) == 1 and again in trie and trie.weights([again]) == [5] and trie[again:] == []
-        assert trie.increment(again, again) is False and trie.weight(5) == 10 and list(trie.irange(again)) == [5]
+        assert trie.increment(again, again) == trie.weight(5) == 10 and list(trie.irange(again)) == [5]
         held = []
         assert raises(augtrie.Looking, trie.add, Acting(lambda: held.append(trie.snapshot())))
         held.clear()

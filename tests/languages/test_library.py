@@ -21,6 +21,7 @@ import sysconfig
 import tarfile
 import tempfile
 import xml.etree.ElementTree
+import zipfile
 
 from common import TOP, crates_below, read, toolchain
 
@@ -42,7 +43,7 @@ SANITIZERS = {
     "thread": ["-fsanitize=thread"],
     "address": ["-fsanitize=address,undefined", "-fno-sanitize-recover=all"],
 }
-SUPPRESSED = os.path.join(BINDINGS, "c", "tests", "proved.supp")
+SUPPRESSED = os.path.join(BINDINGS, "c", "augtrie.supp")
 REPORTS = {
     "TSAN_OPTIONS": f"halt_on_error=1:exitcode=66:suppressions={SUPPRESSED}",
     "ASAN_OPTIONS": "detect_leaks=1:exitcode=66",
@@ -146,6 +147,21 @@ def shown():
     return set(re.findall(r"^(?:AUG_NODISCARD )?(?:int64_t |const char \*)(\w+)\(", read("bindings", "c", "augtrie.h"), re.M))
 
 
+def defined(library, *words):
+    """The names that a library defines for others."""
+    return set(re.findall(r"^\w+ [A-Z] (\w+)$", said_by("nm", "--defined-only", *words, library), re.M))
+
+
+# A path or the name of a file, as pages have them, and not behind a variable or another folder.
+NAMED = re.compile(r"(?<![\w$./)*-])((?:[\w.-]+/)+[\w.-]*|[\w-]+\.(?:a|c|csv|h|md|py|rs|rt|so|supp|toml))(?![\w/])")
+
+
+def foreign(page, files):
+    """The files and folders that a page names and that are none of these, but for the headers of the C library."""
+    found = NAMED.findall(re.sub(r"^ *#include <.*", "", page, flags=re.M))
+    return [name for name in found if not any(f"/{file}".endswith("/" + name.rstrip("/.")) for file in files)]
+
+
 def extension():
     """The sources of the Python module."""
     folder = os.path.join(BINDINGS, "python", "native")
@@ -193,6 +209,11 @@ def test_names_and_versions_agree():
     version = ".".join(re.findall(r"^#define AUG_VERSION_\w+ (\d+)$", read("bindings", "c", "augtrie.h"), re.M))
     assert re.fullmatch(r"\d+\.\d+\.\d+", version), version
     assert f'\nversion = "{version}"\n' in read("bindings", "rust", "Cargo.toml")
+
+
+def test_names_that_a_packed_page_may_not_have():
+    page = "`src/` has it, as `docs/using.md` and one.c say:\n#include <stdint.h>\ncc tests/one.c $HOME/augtrie/lib/libaugtrie.a *.whl bindings/c\n"
+    assert foreign(page, ["src", "tests/one.c"]) == ["docs/using.md", "bindings/c"]
 
 
 HELD = tempfile.TemporaryDirectory(prefix="library-")
@@ -267,8 +288,14 @@ class Installed:
     def test_c_changes(self):
         assert self.answers_in("changes.c") >= 500000
 
+    def test_c_sums(self):
+        assert self.answers_in("sums.c") >= 36000
+
     def test_c_pops(self):
         assert self.answers_in("pops.c") >= 8192
+
+    def test_c_told(self):
+        assert self.answers_in("told.c") >= 10000
 
     def test_c_updates_beside_readers(self):
         said = said_by(self.compiled("c", "tests", "readers.c"))
@@ -301,8 +328,7 @@ class Installed:
     def test_c_library_defines_what_the_header_does_alone(self):
         archive, shared = (os.path.join(self.folder, "lib", f"libaugtrie.{end}") for end in ("a", "so"))
         assert len(shown()) >= 49
-        for words in ["-g", archive], ["-D", shared]:
-            assert set(re.findall(r"^\w+ [A-Z] (\w+)$", said_by("nm", "--defined-only", *words), re.M)) == shown()
+        assert defined(archive, "-g") == defined(shared, "-D") == shown()
         assert re.search(r"SONAME.*\[libaugtrie\.so\.\d+\.\d+\]", said_by("readelf", "-d", shared))
 
     def test_c_two_libraries_in_one_program(self):
@@ -372,7 +398,7 @@ class Checked:
     """What valgrind says of the C programs."""
 
     def test_c_under_valgrind(self):
-        programs = [self.compiled("c", "tests", f"{name}.c", words=[CC, "-std=c11", "-g"]) for name in ("threads", "many", "tries", "pops", "waits", "changes")]
+        programs = [self.compiled("c", "tests", f"{name}.c", words=[CC, "-std=c11", "-g"]) for name in ("threads", "many", "tries", "pops", "told", "waits", "changes")]
         for program in self.refused("-g"), *programs:
             said_by("valgrind", "-q", "--error-exitcode=9", "--leak-check=full", program)
 
@@ -467,12 +493,49 @@ class Packed:
                 with tarfile.open(os.path.join(cls.packs, name)) as packed:
                     packed.extractall(os.path.join(cls.folder, name.rpartition(".")[2]))
         cls.c, cls.crate = (glob.glob(os.path.join(cls.folder, end, "augtrie-*"))[0] for end in ("gz", "crate"))
+        cls.wheel, = glob.glob(os.path.join(cls.packs, "*.whl"))
 
     def elsewhere(self, *words, **more):
         """What a command prints that knows neither the toolchain nor other settings of this process."""
         path = os.pathsep.join(folder for folder in os.environ["PATH"].split(os.pathsep) if not os.path.exists(os.path.join(folder, "rt")))
         assert not shutil.which("rt", path=path)
         return said_by(shutil.which(words[0], path=path), *words[1:], cwd=self.folder, env={"PATH": path, "HOME": os.path.expanduser("~"), **more})
+
+    def test_packed_folders_differ(self):
+        own, crates = (os.listdir(os.path.dirname(folder)) for folder in (self.c, self.crate))
+        assert len(own) == len(crates) == 1
+        assert own != crates
+
+    def pages(self):
+        """What people read of each package, with the names of the files in it."""
+        with zipfile.ZipFile(self.wheel) as wheel:
+            about, = (name for name in wheel.namelist() if name.endswith("/METADATA"))
+            yield wheel.read(about).decode().partition("\n\n")[2], wheel.namelist()
+        for folder, names in (self.c, ["README.md", "augtrie.supp", "include/augtrie.h"]), (self.crate, ["README.md"]):
+            files = [os.path.relpath(path, folder) for path in glob.glob(os.path.join(folder, "**"), recursive=True)]
+            for name in names:
+                yield read(folder, name), files
+
+    def test_packed_pages_name_no_file_that_is_not_packed(self):
+        for page, files in self.pages():
+            assert page and foreign(page, files) == []
+        assert "suppressions=augtrie.supp" in read(self.c, "README.md")
+
+    def test_packed_libraries_define_what_the_header_does_alone(self):
+        for folder in os.path.join(self.c, "lib"), os.path.join(self.crate, "native"):
+            assert defined(os.path.join(folder, "libaugtrie.a"), "-g") == shown()
+        assert defined(os.path.join(self.c, "lib", "libaugtrie.so"), "-D") == shown()
+        with zipfile.ZipFile(self.wheel) as wheel:
+            module = wheel.extract("augtrie/_augtrie.abi3.so", os.path.join(self.folder, "of-wheel"))
+        assert defined(module, "-D") == {"PyInit__augtrie"}
+
+    @with_tool("thread sanitizer")
+    def test_packed_list_for_a_thread_sanitizer(self):
+        library, program = os.path.join(self.c, "lib"), os.path.join(self.folder, "packed-crowd")
+        built = [compiler_for("thread"), "-std=c11", "-g", *SANITIZERS["thread"], f"-I{self.c}/include", os.path.join(BINDINGS, "c", "tests", "crowd.c")]
+        self.elsewhere(*built, f"-L{library}", "-laugtrie", "-lpthread", "-o", program)
+        options = f"halt_on_error=1:exitcode=66:suppressions={self.c}/augtrie.supp"
+        assert CROWD.fullmatch(self.elsewhere(program, CROWD_SECONDS, LD_LIBRARY_PATH=library, TSAN_OPTIONS=options))
 
     @with_tool("pkg-config")
     def test_packed_c(self):
@@ -503,8 +566,8 @@ class Packed:
         assert self.elsewhere(*words, CARGO_TARGET_DIR=target).splitlines() == PRINTED["order_book"]
 
     def test_packed_wheel(self):
-        site, wheels = os.path.join(self.folder, "packed-site"), glob.glob(os.path.join(self.packs, "*.whl"))
-        self.elsewhere(*PIP, "--target", site, *wheels)
+        site = os.path.join(self.folder, "packed-site")
+        self.elsewhere(*PIP, "--target", site, self.wheel)
         said = self.elsewhere(sys.executable, os.path.join(self.c, "examples", "leaderboard.py"), PYTHONPATH=site)
         assert said.splitlines() == PRINTED["leaderboard"]
 

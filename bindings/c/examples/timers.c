@@ -24,8 +24,8 @@ static void *set_timers(void *first) {
     uint32_t from = *(const uint32_t *)first;
     done(aug_user_open(&timers, &setter));
     for (uint32_t at = from; at < MOMENTS; at += 2) {
-        done(aug_put(&setter, at, 1000 + at));
-        if (at % 20 == from) done(aug_remove(&setter, at));
+        done(aug_put(&setter, at, 1000 + at, NULL));
+        if (at % 20 == from) done(aug_remove(&setter, at, NULL));
     }
     aug_user_close(&setter);
     return NULL;

@@ -1,5 +1,5 @@
-/* What changed between two snapshots of a look: each answer is held to the lists of both, from many keys on and for many rooms, also while other threads
-   update. And each user that holds no look, and each array that is refused. */
+/* What changed between two snapshots of a look, and since a list: each answer is held to the lists of both, from many keys on and for many rooms, over
+   roll-overs, and while other threads update. And each user that holds no look, and each array that is refused. */
 #include "augtrie.h"
 #include "want.h"
 
@@ -18,6 +18,10 @@ static uint32_t keys;
 static int64_t before[AUG_MOST_KEYS], now[AUG_MOST_KEYS];
 static aug_change differ[AUG_MOST_KEYS];
 static uint32_t differ_count;
+
+/* The members of the snapshot before. */
+static uint32_t kept[AUG_MOST_KEYS], kept_weights[AUG_MOST_KEYS];
+static size_t kept_count;
 
 static uint32_t drawn = 1;
 
@@ -57,12 +61,12 @@ static void look(void) {
     list();
 }
 
-/* Asks for so many changes from a key on: what is written, and the places behind. */
-static void ask(uint32_t from, uint32_t room) {
+/* Asks for so many changes from a key on, between the snapshots of the look or since the list: what is written, and the places behind. */
+static void ask(int is_since, uint32_t from, uint32_t room) {
     static aug_change out[AUG_MOST_KEYS + 1];
     uint32_t told = 0, first = 0;
     for (uint32_t i = 0; i <= room; i++) out[i] = (aug_change){UNWRITTEN, 0, 0};
-    int64_t count = aug_changes(&looks, from, out, room);
+    int64_t count = is_since ? aug_changes_since(&looks, kept, kept_weights, kept_count, from, out, room) : aug_changes(&looks, from, out, room);
     while (first < differ_count && differ[first].key < from) first++;
     for (; told < room && first + told < differ_count; told++) {
         const aug_change *want = &differ[first + told], *got = &out[told];
@@ -75,21 +79,43 @@ static void ask(uint32_t from, uint32_t room) {
     WANT(told, room + 1);
 }
 
-/* Takes the look again, and asks what changed, which is so many keys. */
-static void again(uint32_t count) {
-    const uint32_t rooms[] = {0, 1, 31, 32, 33, 63, 64, 65, 100, keys};
-    memcpy(before, now, sizeof now);
-    WANT(aug_look_again(&looks), AUG_OK);
+/* Keeps what the look shows as what it showed before. */
+static void keep(void) {
+    kept_count = 0;
+    for (uint32_t key = 0; key < AUG_MOST_KEYS; key++) {
+        before[key] = key < keys ? now[key] : AUG_NONE;
+        if (before[key] == AUG_NONE) continue;
+        kept[kept_count] = key;
+        kept_weights[kept_count++] = (uint32_t)before[key];
+    }
+}
+
+/* Counts what differs between what was kept and what the look shows. */
+static void compare(void) {
     list();
     differ_count = 0;
     for (uint32_t key = 0; key < keys; key++)
         if (before[key] != now[key]) differ[differ_count++] = (aug_change){key, before[key], now[key]};
-    WANT(differ_count, count);
+}
+
+/* Asks what changed, for many rooms and from many keys on. */
+static void ask_all(int is_since) {
+    const uint32_t rooms[] = {0, 1, 31, 32, 33, 63, 64, 65, 100, keys};
     for (size_t r = 0; r < sizeof rooms / sizeof *rooms; r++) {
         const uint32_t middle = differ_count ? differ[differ_count / 2].key : draw(keys);
         const uint32_t froms[] = {0, 1, draw(keys), middle, middle + 1, keys - 1, keys, UINT32_MAX};
-        for (size_t f = 0; f < sizeof froms / sizeof *froms; f++) ask(froms[f], rooms[r]);
+        for (size_t f = 0; f < sizeof froms / sizeof *froms; f++) ask(is_since, froms[f], rooms[r]);
     }
+}
+
+/* Takes the look again, and asks what changed, which is so many keys. */
+static void again(uint32_t count) {
+    keep();
+    WANT(aug_look_again(&looks), AUG_OK);
+    compare();
+    WANT(differ_count, count);
+    ask_all(0);
+    ask_all(1);
 }
 
 /* So many keys go in, get other weights, and go out. */
@@ -97,12 +123,12 @@ static void count_changes(uint32_t count) {
     open_all(12, BYTES);
     look();
     again(0);
-    for (uint32_t i = 0; i < count; i++) WANT(aug_put(&works, i * 2531 % keys, i), 1);
+    for (uint32_t i = 0; i < count; i++) WANT(aug_put(&works, i * 2531 % keys, i, NULL), 1);
     again(count);
-    for (uint32_t i = 0; i < count; i++) WANT(aug_add(&works, i * 2531 % keys, 1), 2);
+    for (uint32_t i = 0; i < count; i++) WANT(aug_add(&works, i * 2531 % keys, 1, NULL), 2);
     again(count);
     again(0);
-    for (uint32_t i = 0; i < count; i++) WANT(aug_remove(&works, i * 2531 % keys), 1);
+    for (uint32_t i = 0; i < count; i++) WANT(aug_remove(&works, i * 2531 % keys, NULL), 1);
     again(count);
     WANT(aug_look_done(&looks), AUG_OK);
     close_all();
@@ -121,7 +147,7 @@ static void draw_changes(uint32_t bits) {
             /* Often a key goes out and comes back with the weight that it had. */
             const uint32_t key = least + draw(most), weight = key + draw(2);
             const int is_put = draw(2);
-            WANT(is_put ? aug_put(&works, key, weight) : aug_remove(&works, key), is_put + (weights[key] >= 0));
+            WANT(is_put ? aug_put(&works, key, weight, NULL) : aug_remove(&works, key, NULL), is_put + (weights[key] >= 0));
             weights[key] = is_put ? (int64_t)weight : AUG_NONE;
         }
         for (uint32_t key = 0; key < keys; key++) count += weights[key] != now[key];
@@ -134,26 +160,26 @@ static void draw_changes(uint32_t bits) {
 static void unchanged(void) {
     aug_change change;
     open_all(6, BYTES);
-    for (uint32_t key = 0; key < 40; key++) WANT(aug_put(&works, key, 7), 1);
+    for (uint32_t key = 0; key < 40; key++) WANT(aug_put(&works, key, 7, NULL), 1);
     look();
     /* Not before the look is taken again. */
-    WANT(aug_remove(&works, 3), 1);
+    WANT(aug_remove(&works, 3, NULL), 1);
     WANT(aug_changes(&looks, 0, &change, 1), 0);
     again(1);
     /* The same weight, by each kind of update, alone and beside others. */
-    WANT(aug_remove(&works, 5), 1);
-    WANT(aug_put(&works, 5, 7), 1);
+    WANT(aug_remove(&works, 5, NULL), 1);
+    WANT(aug_put(&works, 5, 7, NULL), 1);
     again(0);
-    WANT(aug_put(&works, 6, 7), 2);
-    WANT(aug_add(&works, 7, 5), 2);
-    WANT(aug_sub(&works, 7, 5), 2);
+    WANT(aug_put(&works, 6, 7, NULL), 2);
+    WANT(aug_add(&works, 7, 5, NULL), 2);
+    WANT(aug_sub(&works, 7, 5, NULL), 2);
     WANT(aug_insert(&works, 60), 1);
-    WANT(aug_remove(&works, 60), 1);
+    WANT(aug_remove(&works, 60, NULL), 1);
     again(0);
-    WANT(aug_remove(&works, 8), 1);
+    WANT(aug_remove(&works, 8, NULL), 1);
     WANT(aug_insert(&works, 8), 1);
-    WANT(aug_put(&works, 9, 7), 2);
-    WANT(aug_put(&works, 10, 0), 2);
+    WANT(aug_put(&works, 9, 7, NULL), 2);
+    WANT(aug_put(&works, 10, 0, NULL), 2);
     again(2);
     /* The last two snapshots of this look, and of no other. */
     again(0);
@@ -174,6 +200,64 @@ static void unchanged(void) {
     WANT(aug_user_open(&trie, &looks), AUG_OK);
     look();
     close_all();
+}
+
+/* A list of an earlier round: the table is full after some 500 updates, and so again and again between two looks. And a list with fewer bits. */
+static void over_rounds(uint32_t bits) {
+    open_all(bits, 1 << 17);
+    look();
+    for (uint32_t turn = 0; turn < 20; turn++) {
+        const uint32_t updates = turn % 5 ? draw(4000) : 0;
+        keep();
+        WANT(aug_look_done(&looks), AUG_OK);
+        for (uint32_t i = 0; i < updates; i++) {
+            const uint32_t key = draw(keys);
+            WANT((draw(2) ? aug_put(&works, key, draw(3), NULL) : aug_remove(&works, key, NULL)) >= 0, 1);
+        }
+        look();
+        compare();
+        WANT(differ_count == 0, updates == 0);
+        ask_all(1);
+    }
+    keep();
+    WANT(aug_look_done(&looks), AUG_OK);
+    close_all();
+    open_all(bits + 2, BYTES);
+    for (uint32_t key = keys / 8; key < keys; key += 3) WANT(aug_put(&works, key, 1, NULL), 1);
+    look();
+    compare();
+    ask_all(1);
+    close_all();
+}
+
+static void refused_lists(void) {
+    static const uint32_t rising[] = {1, 3, 15}, same[] = {1, 3, 3}, falling[] = {3, 1, 15}, high[] = {1, 3, 16}, weights[17] = {7, 7, 7};
+    aug_change change = {UNWRITTEN, 0, 0};
+    WANT(aug_changes_since(NULL, rising, weights, 3, 0, &change, 1), AUG_CLOSED);
+    WANT(aug_changes_since(&looks, rising, weights, 3, 0, &change, 1), AUG_CLOSED);
+    open_all(4, BYTES);
+    WANT(aug_changes_since((aug_user *)&trie, rising, weights, 3, 0, &change, 1), AUG_CLOSED);
+    WANT(aug_changes_since(&looks, rising, weights, 3, 0, &change, 1), AUG_NOT_LOOKING);
+    WANT(aug_insert(&works, 1), 1);
+    WANT(aug_look(&looks), AUG_OK);
+    WANT(aug_changes_since(&looks, same, weights, 3, 0, &change, 1), AUG_BAD_KEY);
+    WANT(aug_changes_since(&looks, falling, weights, 3, 0, &change, 1), AUG_BAD_KEY);
+    WANT(aug_changes_since(&looks, falling, weights, 3, 0, NULL, 0), AUG_BAD_KEY);
+    WANT(aug_changes_since(&looks, high, weights, 3, 0, &change, 1), AUG_BAD_KEY);
+    WANT(aug_changes_since(&looks, weights, weights, 17, 0, &change, 1), AUG_BAD_LENGTH);
+    WANT(aug_changes_since(&looks, NULL, weights, 3, 0, &change, 1), AUG_BAD_LENGTH);
+    WANT(aug_changes_since(&looks, rising, NULL, 3, 0, &change, 1), AUG_BAD_LENGTH);
+    WANT(aug_changes_since(&looks, rising, weights, 3, 0, NULL, 1), AUG_BAD_LENGTH);
+    WANT(aug_changes_since(&looks, rising, weights, 3, 0, &change, (size_t)-1), AUG_BAD_LENGTH);
+    WANT(change.key, UNWRITTEN);
+    WANT(aug_changes_since(&looks, rising, weights, 3, 0, NULL, 0), 0);
+    WANT(aug_changes_since(&looks, rising, weights, 3, 0, &change, 1), 1);
+    WANT(change.key == 1 && change.before == 7 && change.now == 1, 1);
+    WANT(aug_changes_since(&looks, NULL, NULL, 0, 0, &change, 1), 1);
+    WANT(change.key == 1 && change.before == AUG_NONE && change.now == 1, 1);
+    WANT(aug_look_done(&looks), AUG_OK);
+    close_all();
+    WANT(aug_changes_since(&looks, rising, weights, 3, 0, &change, 1), AUG_CLOSED);
 }
 
 static void refusals(void) {
@@ -212,7 +296,7 @@ static void *write_on(void *place) {
     MUST(aug_user_open(&trie, &user), AUG_OK);
     for (uint32_t i = 0; i < UPDATES; i++) {
         const uint32_t key = (i * 37 + number) % keys;
-        MUST((i / 50 % 2 ? aug_remove(&user, key) : aug_put(&user, key, i)) >= 0, 1);
+        MUST((i / 50 % 2 ? aug_remove(&user, key, NULL) : aug_put(&user, key, i, NULL)) >= 0, 1);
     }
     MUST(aug_user_close(&user), AUG_OK);
     writing--;
@@ -261,7 +345,10 @@ static void beside_writers(void) {
 int main(void) {
     static const uint32_t counts[] = {1, 31, 32, 33, 63, 64, 65, 100, 4096}, bits[] = {1, 5, 6, 12, 16};
     refusals();
+    refused_lists();
     unchanged();
+    over_rounds(6);
+    over_rounds(10);
     for (size_t i = 0; i < sizeof counts / sizeof *counts; i++) count_changes(counts[i]);
     for (size_t i = 0; i < sizeof bits / sizeof *bits; i++) draw_changes(bits[i]);
     beside_writers();

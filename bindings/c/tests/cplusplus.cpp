@@ -46,8 +46,10 @@ int main() {
     WANT(aug_look_done(&users[0]), AUG_OK);
 
     aug_change change = {};
+    aug_told told = {};
     WANT(aug_look(&users[1]), AUG_OK);
-    WANT(aug_put(&users[0], 7, 9), 2);
+    WANT(aug_put(&users[0], 7, 9, &told), 2);
+    WANT(told.before == 7 && told.now == 9, 1);
     WANT(aug_look_again(&users[1]), AUG_OK);
     WANT(aug_changes(&users[1], 0, &change, 1), 1);
     WANT(change.key == 7 && change.before == 7 && change.now == 9, 1);

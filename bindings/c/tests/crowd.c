@@ -41,10 +41,10 @@ static uint32_t draw(struct worker *w, uint32_t below) {
 }
 
 /* Makes an update, and counts what came of it. */
-static int64_t update(struct worker *w, aug_user *user, enum update what, uint32_t key, uint32_t n) {
+static int64_t update(struct worker *w, aug_user *user, enum update what, uint32_t key, uint32_t n, aug_told *told) {
     int takes_out = what == REMOVE || what == SUB;
-    int64_t code = what == INSERT ? aug_insert(user, key) : what == REMOVE ? aug_remove(user, key) : what == PUT ? aug_put(user, key, n)
-        : what == ADD ? aug_add(user, key, n) : aug_sub(user, key, n);
+    int64_t code = what == INSERT ? aug_insert(user, key) : what == REMOVE ? aug_remove(user, key, told) : what == PUT ? aug_put(user, key, n, told)
+        : what == ADD ? aug_add(user, key, n, told) : aug_sub(user, key, n, told);
     w->inserts += code == 2 || (code == 1 && !takes_out);
     w->removals += code == 2 || (code == 1 && takes_out);
     w->operations++;
@@ -66,10 +66,17 @@ static int64_t model(enum update what, uint32_t key, uint32_t n, int64_t *weight
     }
 }
 
+/* What an update tells agrees with its answer. One that was lost to another user's change left what it had found. */
+static void check_told(enum update what, uint32_t key, uint32_t n, int64_t code, aug_told told) {
+    int64_t now = told.before;
+    if (code) MUST(model(what, key, n, &now), code);
+    MUST(told.now, now);
+}
+
 /* All answers of a look agree with one another, and show all that the thread did, through this user or another one. */
 static void check(struct worker *w, aug_user *user) {
     uint32_t *weights = malloc(PLACES * sizeof *weights), keys[KEYS], from = draw(w, KEYS), to = from + draw(w, KEYS), within = 0;
-    uint64_t sum = 0, sum_within = 0;
+    uint64_t sum = 0, sum_within = 0, sum_before;
     aug_span all, some;
     int64_t size = aug_size(user);
     MUST(aug_list(user, 0, keys, weights, KEYS), size);
@@ -79,9 +86,11 @@ static void check(struct worker *w, aug_user *user) {
         uint32_t key = keys[i];
         MUST(i > 0 && keys[i - 1] >= key, 0);
         MUST(owner(key) == SUMMED && weights[i] == 0, 0);
-        sum += weights[i];
+        sum_before = sum, sum += weights[i];
         if (from <= key && key < to) within++, sum_within += weights[i];
         if (draw(w, 8)) continue;
+        if (weights[i]) MUST(aug_select_by_weight(user, sum_before), key);
+        if (weights[i]) MUST(aug_select_by_weight(user, sum - 1), key);
         MUST(aug_has(user, key), 1);
         MUST(aug_weight(user, key), weights[i]);
         MUST(aug_rank(user, key), i);
@@ -89,6 +98,7 @@ static void check(struct worker *w, aug_user *user) {
         MUST(aug_before(user, key), i ? (int64_t)keys[i - 1] : AUG_NONE);
         MUST(aug_after(user, key), i + 1 < size ? (int64_t)keys[i + 1] : AUG_NONE);
     }
+    MUST(aug_select_by_weight(user, sum), AUG_NONE);
     MUST(aug_range(user, 0, KEYS, &all), size);
     MUST(all.count == size && all.sum == sum && all.least == (size ? keys[0] : 0) && all.greatest == (size ? keys[size - 1] : 0), 1);
     MUST(aug_first(user), size ? (int64_t)keys[0] : AUG_NONE);
@@ -115,8 +125,11 @@ static int step(struct worker *w, aug_user *user) {
     }
     if (whose < SUMMED) key = key - whose + w->number;
     if (whose == SUMMED) key = n % 4 ? SUMMED : key, what = what < ADD ? ADD + n % 2 : what;
-    int64_t code = update(w, user, what, key, n);
+    aug_told told;
+    int64_t code = update(w, user, what, key, n, &told);
     if (code == AUG_CLOSED) return 1;
+    if (what != INSERT) check_told(what, key, n, code, told);
+    if (whose < SUMMED && what != INSERT) MUST(told.before, w->weights[key]);
     if (whose < SUMMED) MUST(code, model(what, key, n, &w->weights[key]));
     else MUST(code >= (what >= ADD) || code == (what == ADD ? AUG_TOO_GREAT : what == SUB ? AUG_TOO_LITTLE : 0), 1);
     if (whose == SUMMED && code > 0) w->weights[key] += what == ADD ? n : -(int64_t)n;
@@ -143,7 +156,7 @@ static void *work_until_closed(void *arg) {
     struct worker *w = arg;
     while (!step(w, &w->user)) if (w->number % 2 && !draw(w, 1000)) break;
     if (w->number % 2 == 0) {
-        for (uint32_t key = 0; key < KEYS; key++) MUST(update(w, &w->user, (enum update)(key % 5), key, 1), AUG_CLOSED);
+        for (uint32_t key = 0; key < KEYS; key++) MUST(update(w, &w->user, (enum update)(key % 5), key, 1, NULL), AUG_CLOSED);
         MUST(aug_look(&w->user), AUG_CLOSED);
     }
     MUST(aug_user_close(&w->user), 0);

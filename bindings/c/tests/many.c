@@ -48,7 +48,7 @@ static void list_pages(void) {
         WANT(aug_list(&user, 0, keys, weights, 2), 0);
         WANT(aug_list_back(&user, AUG_MOST_KEYS, keys, weights, 2), 0);
         WANT(aug_look_done(&user), 0);
-        for (uint32_t i = 0; i < count; i++) WANT(aug_put(&user, first + i * step, first + i * step + 7), 1);
+        for (uint32_t i = 0; i < count; i++) WANT(aug_put(&user, first + i * step, first + i * step + 7, NULL), 1);
         WANT(aug_look(&user), 0);
         list_members(&user, first, step, count);
         WANT(aug_list_back(&user, first, keys, weights, 2), 0);
@@ -90,7 +90,7 @@ static void go_on(aug_user *user) {
     half = (aug_progress){3, 0};
     WANT(aug_try_put_all(user, in, 4, weights, 4, &half), 0);
     WANT(half.made == 4 && half.changed == 1, 1);
-    WANT(aug_put(user, 1, 30), 2);
+    WANT(aug_put(user, 1, 30, NULL), 2);
 }
 
 /* Each code has a text of its own, and no other number has one of them. */

@@ -40,7 +40,7 @@ int main(void) {
     WANT(aug_pop_first(&user, &member), AUG_NONE);
     WANT(aug_pop_last(&user, &member), AUG_NONE);
     WANT(member.key == 9 && member.weight == 9, 1);
-    for (uint32_t key = 2; key < 6; key++) WANT(aug_put(&user, key, key == 3 ? 0 : 10 * key), 1);
+    for (uint32_t key = 2; key < 6; key++) WANT(aug_put(&user, key, key == 3 ? 0 : 10 * key, NULL), 1);
     WANT(aug_pop_first(&user, &member), 1);
     WANT(member.key == 2 && member.weight == 20, 1);
     WANT(aug_try_pop_first(&user, &member), 1);
@@ -55,7 +55,7 @@ int main(void) {
     WANT(aug_pop_last(&user, NULL), 1);
     WANT(aug_pop_last(&user, NULL), AUG_NONE);
     WANT(aug_pop_first(NULL, &member), AUG_CLOSED);
-    for (uint32_t key = 0; key < TIMERS; key++) WANT(aug_put(&user, key, weight_of(key)), 1);
+    for (uint32_t key = 0; key < TIMERS; key++) WANT(aug_put(&user, key, weight_of(key), NULL), 1);
     pthread_t threads[THREADS];
     for (int i = 0; i < THREADS; i++) WANT(pthread_create(&threads[i], NULL, pop_all, popped[i]), 0);
     for (int i = 0; i < THREADS; i++) WANT(pthread_join(threads[i], NULL), 0);

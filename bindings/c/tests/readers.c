@@ -47,15 +47,16 @@ static void *stop_later(void *unused) {
 
 /* An update by a caller that calls again himself. */
 static int64_t add_by_tries(aug_user *user) {
-    int64_t code = aug_try_add(user, 3, 1);
+    aug_told told;
+    int64_t code = aug_try_add(user, 3, 1, &told);
     if (code != AUG_AGAIN) return code;
     MUST(aug_wait_begin(user), 0);
-    while ((code = aug_try_add(user, 3, 1)) == AUG_AGAIN) nap(50000);
+    while ((code = aug_try_add(user, 3, 1, &told)) == AUG_AGAIN) nap(50000);
     MUST(aug_wait_end(user), 0);
     return code;
 }
 
-static int64_t add(aug_user *user) { return aug_add(user, 3, 1); }
+static int64_t add(aug_user *user) { return aug_add(user, 3, 1, NULL); }
 
 /* How long the longest update took within a second, and how many there were. */
 static int64_t longest_of(aug_user *user, int64_t (*update)(aug_user *), uint32_t *updates) {

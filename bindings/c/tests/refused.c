@@ -34,10 +34,13 @@ int __wrap_pthread_mutex_init(pthread_mutex_t *lock, const pthread_mutexattr_t *
 }
 
 /* At times another user is said to have changed the key, and then another thread to be waited for. */
-int64_t __real_aug_try_add(aug_user *, uint32_t, uint32_t);
-int64_t __wrap_aug_try_add(aug_user *user, uint32_t key, uint32_t amount) {
+int64_t __real_aug_try_add(aug_user *, uint32_t, uint32_t, aug_told *);
+int64_t __wrap_aug_try_add(aug_user *user, uint32_t key, uint32_t amount, aug_told *told) {
     static _Thread_local unsigned turn;
-    return ++turn % 50 == 0 ? 0 : turn % 50 == 1 ? AUG_AGAIN : __real_aug_try_add(user, key, amount);
+    if (++turn % 50 == 1) return AUG_AGAIN;
+    if (turn % 50) return __real_aug_try_add(user, key, amount, told);
+    *told = (aug_told){amount + 1, amount + 1};
+    return 0;
 }
 
 /* Refuses the first request of a call, then the second, until the call makes no more of them. Counts them in `requests`. */
@@ -58,11 +61,16 @@ static void *work(void *unused) {
     (void)unused;
     for (int i = 0; i < 2; i++) {
         aug_user user = AUG_ZEROED;
+        aug_told told;
         long requests;
         REFUSED_EACH(aug_user_open(&trie, &user));
         for (uint32_t n = 0; n < UPDATES; n++) {
-            if (n / KEYS % 2) MUST(aug_remove(&user, n % KEYS) >= 0, 1);
-            else MUST(aug_add(&user, n % KEYS, n) > 0, 1);
+            if (n / KEYS % 2) {
+                MUST(aug_remove(&user, n % KEYS, NULL) >= 0, 1);
+            } else {
+                MUST(aug_add(&user, n % KEYS, n, &told) > 0, 1);
+                MUST(told.now, n && told.before == AUG_NONE ? n : told.before + n);
+            }
             if (n % 100) continue;
             MUST(aug_look(&user), 0);
             MUST(aug_look_again(&user), 0);
@@ -77,13 +85,14 @@ static void *work(void *unused) {
 /* How many updates the table has room for: a look keeps it from being given a new round. */
 static uint32_t room(void) {
     aug_user user = AUG_ZEROED, looks = AUG_ZEROED;
+    aug_told told;
     uint32_t made = 0;
     long requests;
     REFUSED_EACH(aug_user_open(&trie, &looks));
     WANT(requests > 0, 1);
     REFUSED_EACH(aug_user_open(&trie, &user));
     WANT(aug_look(&looks), 0);
-    for (int64_t code; (code = aug_try_put(&user, made % KEYS, made)) != AUG_AGAIN; made++) WANT(code > 0, 1);
+    for (int64_t code; (code = aug_try_put(&user, made % KEYS, made, &told)) != AUG_AGAIN; made++) WANT(code > 0, 1);
     WANT(aug_user_close(&looks), 0);
     /* The place of a user that was closed takes no memory. */
     REFUSED_EACH(aug_user_open(&trie, &looks));

@@ -30,7 +30,7 @@ static void one_by_one(uint32_t bits, uint32_t count) {
         open_all(count);
         for (uint32_t i = 0; i < count; i++) {
             uint32_t key = (turn * count + i) * 40503 % keys;
-            WANT(aug_put(&users[i], key, i), 1 + members[key]);
+            WANT(aug_put(&users[i], key, i, NULL), 1 + members[key]);
             size += !members[key], members[key] = 1;
             WANT(aug_look(&users[i]), AUG_OK);
             WANT(aug_size(&users[i]), size);
@@ -50,7 +50,7 @@ static void one_by_one(uint32_t bits, uint32_t count) {
 static void *add(void *of) {
     aug_user *user = of;
     for (uint32_t i = 0; i < ADDITIONS; i++) {
-        MUST(aug_add(user, i % (1 << BITS), 1) > 0, 1);
+        MUST(aug_add(user, i % (1 << BITS), 1, NULL) > 0, 1);
         if (i % 32) continue;
         MUST(aug_look(user), AUG_OK);
         MUST(aug_weight(user, i % (1 << BITS)) > 0, 1);

@@ -33,7 +33,7 @@ static void *work(void *arg) {
     if (aug_user_open(&trie, &user) != 0) return "open";
     for (uint32_t k = 0; k < KEYS; k++) {
         if (k % w->step == 0) { int64_t r = aug_insert(&user, k); if (r < 0) return "insert"; w->in += (uint32_t)r; }
-        if (k % 7 == w->step % 7) { int64_t r = aug_remove(&user, k); if (r < 0) return "remove"; w->out += (uint32_t)r; }
+        if (k % 7 == w->step % 7) { int64_t r = aug_remove(&user, k, NULL); if (r < 0) return "remove"; w->out += (uint32_t)r; }
         if (k % 16 == 0) {
             const char *wrong = check(&user, k);
             if (wrong) return (void *)wrong;
@@ -109,14 +109,14 @@ static void misuses(void) {
     WANT(aug_user_open(&third, (aug_user *)&other), AUG_CLOSED);
     WANT(aug_close(&third, NULL), 0);
     WANT(aug_insert(&one, KEYS), AUG_BAD_KEY);
-    WANT(aug_put(&one, 9, 4000000000u), 1);
-    WANT(aug_put(&one, 9, 4000000001u), 2);
+    WANT(aug_put(&one, 9, 4000000000u, NULL), 1);
+    WANT(aug_put(&one, 9, 4000000001u, NULL), 2);
     WANT(aug_size(&one), AUG_NOT_LOOKING);
     WANT(aug_look_again(&one), AUG_NOT_LOOKING);
     WANT(aug_look_done(&one), AUG_NOT_LOOKING);
     WANT(aug_look(&one), 0);
     WANT(aug_look(&one), AUG_LOOKING);
-    WANT(aug_remove(&one, 9), AUG_LOOKING);
+    WANT(aug_remove(&one, 9, NULL), AUG_LOOKING);
     WANT(aug_has(&one, 9), 1);
     WANT(aug_has(&one, 4000000000u), 0);
     WANT(aug_weight(&one, 9), 4000000001LL);
@@ -128,7 +128,7 @@ static void misuses(void) {
     WANT(aug_user_close(&one), 0);
     WANT(aug_user_close(&one), AUG_CLOSED);
     WANT(aug_user_open(&other, &more), 0);
-    WANT(aug_remove(&more, 9), 1);
+    WANT(aug_remove(&more, 9, NULL), 1);
     WANT(aug_close(&other, NULL), 0);
     WANT(aug_close(&other, NULL), AUG_CLOSED);
     WANT(aug_user_open(&other, &one), AUG_CLOSED);
@@ -144,6 +144,7 @@ static void waits(void) {
     aug_trie small = AUG_ZEROED;
     aug_user looks = AUG_ZEROED, works = AUG_ZEROED;
     aug_progress so_far = {0, 0};
+    aug_told told = {77, 78};
     uint32_t keys[SOME], made = 0;
     for (uint32_t k = 0; k < SOME; k++) keys[k] = k;
     WANT(aug_open(&small, 6, 2, 8000), 0);
@@ -153,8 +154,11 @@ static void waits(void) {
     int64_t code;
     while ((code = aug_try_insert(&works, made)) == 1) made++;
     WANT(code, AUG_AGAIN);
-    WANT(aug_try_remove(&works, 0), AUG_AGAIN);
-    WANT(aug_try_put(&works, 0, 7), AUG_AGAIN);
+    WANT(aug_try_remove(&works, 0, &told), AUG_AGAIN);
+    WANT(aug_try_put(&works, 0, 7, &told), AUG_AGAIN);
+    WANT(aug_try_add(&works, 0, 7, &told), AUG_AGAIN);
+    WANT(aug_try_sub(&works, 0, 7, &told), AUG_AGAIN);
+    WANT(told.before == 77 && told.now == 78, 1);
     WANT(aug_try_look(&works), AUG_AGAIN);
     WANT(aug_size(&looks), 0);
     WANT(aug_try_insert_all(&works, keys, SOME, &so_far), AUG_AGAIN);

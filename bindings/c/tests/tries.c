@@ -34,7 +34,7 @@ static void step(uint32_t t, uint32_t u) {
             open_users[t][u] = 0;
             break;
         case 3:
-            WANT(aug_put(user, draw(16), 7) >= 0, open_users[t][u] == 1);
+            WANT(aug_put(user, draw(16), 7, NULL) >= 0, open_users[t][u] == 1);
             break;
         case 4:
             WANT(aug_look(user), open_users[t][u] == 1 ? 0 : AUG_CLOSED);
@@ -56,7 +56,7 @@ static aug_trie shared = AUG_ZEROED;
 static void *come(void *place) {
     aug_user *user = place;
     if (aug_user_open(&shared, user) != 0) return "open";
-    for (uint32_t k = 0; k < 500; k++) if (aug_put(user, k % 64, k) < 0) return "put";
+    for (uint32_t k = 0; k < 500; k++) if (aug_put(user, k % 64, k, NULL) < 0) return "put";
     return NULL;
 }
 
@@ -78,7 +78,7 @@ static void cross(void) {
     for (int i = 0; i < THREADS - 1; i++) WANT(pthread_create(&threads[i], 0, go, &mine[i]), 0);
     for (int i = 0; i < THREADS - 1; i++) { WANT(pthread_join(threads[i], &what), 0); WANT(what == NULL, 1); }
     WANT(aug_close(&shared, NULL), 0);
-    for (int i = 0; i < THREADS; i++) WANT(aug_put(&mine[i], 1, 1), AUG_CLOSED);
+    for (int i = 0; i < THREADS; i++) WANT(aug_put(&mine[i], 1, 1, NULL), AUG_CLOSED);
     for (int i = 0; i < THREADS - 1; i++) WANT(aug_user_close(&mine[i]), AUG_CLOSED);
     WANT(aug_user_close(&mine[THREADS - 1]), 0);
 }

@@ -14,11 +14,11 @@ static void update(aug_user *user) {
     WANT(aug_put_all(user, keys, KEYS, keys, KEYS), KEYS);
     WANT(aug_remove_all(user, keys, KEYS), KEYS);
     WANT(aug_insert(user, 7), 1);
-    WANT(aug_put(user, 3, 4), 1);
-    WANT(aug_add(user, 3, 2), 2);
-    WANT(aug_sub(user, 3, 5), 2);
-    WANT(aug_remove(user, 7), 1);
-    WANT(aug_remove(user, 64), AUG_BAD_KEY);
+    WANT(aug_put(user, 3, 4, NULL), 1);
+    WANT(aug_add(user, 3, 2, NULL), 2);
+    WANT(aug_sub(user, 3, 5, NULL), 2);
+    WANT(aug_remove(user, 7, NULL), 1);
+    WANT(aug_remove(user, 64, NULL), AUG_BAD_KEY);
     WANT(aug_pop_first(user, &member), 1);
     WANT(aug_pop_last(user, &member), AUG_NONE);
     WANT(aug_insert(user, 20), 1);
@@ -43,6 +43,7 @@ static void look(aug_user *user) {
     WANT(aug_size(user), 1);
     WANT(aug_rank(user, 30), 1);
     WANT(aug_select(user, 0), 20);
+    WANT(aug_select_by_weight(user, 19), 20);
     WANT(aug_before(user, 30), 20);
     WANT(aug_after(user, 1), 20);
     WANT(aug_first(user), 20);
@@ -55,6 +56,7 @@ static void look(aug_user *user) {
     WANT(aug_list(user, 0, ranks, weights, KEYS), 1);
     WANT(aug_list_back(user, 64, ranks, weights, KEYS), 1);
     WANT(aug_changes(user, 0, &change, 1), 0);
+    WANT(aug_changes_since(user, ranks, weights, 1, 0, &change, 1), 0);
     WANT(aug_look_done(user), AUG_OK);
 }
 

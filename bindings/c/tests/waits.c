@@ -1,6 +1,6 @@
 /* What others do while a call waits for them: the calls by which the library waits are those of this program, in which the others have their turn. An
-   array that a look holds up in its middle goes on from there, the end of a look leaves time to whoever waits, and a trie is closed while its last
-   user goes. */
+   update that a look holds up tells what it finds when it is made, an array that one holds up in its middle goes on from there, the end of a look
+   leaves time to whoever waits, and a trie is closed while its last user goes. */
 #define _POSIX_C_SOURCE 200809L
 #include "augtrie.h"
 #include "want.h"
@@ -45,11 +45,45 @@ static void close_user(void) {
     WANT(naps, before + 1);
 }
 
-/* Begins a look in a round that has just begun, of which one update was made. It holds up an array that has more keys than there are updates. */
-static void hold_up(void) {
+/* Fills the table, in which 0 is a member, while there is a look. It ends when the next update waits. */
+static void fill(void) {
     WANT(aug_look(&looks), AUG_OK);
     for (int64_t code = 0; code != AUG_AGAIN; code = aug_try_insert(&works, 0)) WANT(code, 0);
     others = end_look;
+}
+
+/* The update waited, and told the weight before and after it. */
+static void check_told(const aug_told *told, int64_t before, int64_t now) {
+    WANT(others == NULL, 1);
+    WANT(told->before == before && told->now == now, 1);
+}
+
+static void updates_tell(void) {
+    aug_told told = {77, 78};
+    WANT(aug_open(&trie, BITS, 2, BYTES), AUG_OK);
+    WANT(aug_user_open(&trie, &works), AUG_OK);
+    WANT(aug_user_open(&trie, &looks), AUG_OK);
+    WANT(aug_insert(&works, 0), 1);
+    fill();
+    WANT(aug_put(&works, 3, 7, &told), 1);
+    check_told(&told, AUG_NONE, 7);
+    fill();
+    WANT(aug_add(&works, 3, 5, &told), 2);
+    check_told(&told, 7, 12);
+    fill();
+    WANT(aug_sub(&works, 3, 10, &told), 2);
+    check_told(&told, 12, 2);
+    fill();
+    WANT(aug_remove(&works, 3, &told), 1);
+    check_told(&told, 2, AUG_NONE);
+    WANT(aug_close(&trie, NULL), AUG_OK);
+    WANT(aug_user_close(&works), AUG_OK);
+    WANT(aug_user_close(&looks), AUG_OK);
+}
+
+/* Begins a look in a round that has just begun, of which one update was made. It holds up an array that has more keys than there are updates. */
+static void hold_up(void) {
+    fill();
     WANT(aug_insert(&works, 0), 0);
     WANT(others == NULL, 1);
     WANT(aug_look(&looks), AUG_OK);
@@ -104,6 +138,7 @@ static void trie_is_closed(void) {
 }
 
 int main(void) {
+    updates_tell();
     arrays_go_on();
     trie_is_closed();
     printf("ok: %u answers\n", wanted);

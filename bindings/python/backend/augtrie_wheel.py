@@ -15,7 +15,7 @@ import zipfile
 TOP = os.path.dirname(os.path.dirname(os.path.abspath(__file__)))
 MODULE = "_augtrie.abi3.so"
 FLAGS = ["-std=c11", "-O2", "-fPIC", "-shared", "-fvisibility=hidden", "-Wall", "-Wextra", "-Wl,--exclude-libs,ALL"]
-SUMMARY = "A set of whole numbers with weights that threads share without locks, proved correct"
+SUMMARY = "A set of whole numbers with weights that threads share, with snapshots, over a core that is proved correct"
 
 
 def installed():

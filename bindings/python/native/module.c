@@ -47,6 +47,11 @@ PyObject *told_number(int64_t answer) {
     return answer < 0 ? raise_code(answer) : PyLong_FromLongLong(answer);
 }
 
+PyObject *number_or_none(int64_t answer) {
+    if (answer == AUG_NONE) Py_RETURN_NONE;
+    return told_number(answer);
+}
+
 void free_object(PyObject *self) {
     PyTypeObject *type = Py_TYPE(self);
     PyObject_Free(self);

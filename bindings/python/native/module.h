@@ -53,6 +53,9 @@ void *raise_code(int64_t code);
 /* The number that a call answered, or NULL with the exception of its code. */
 PyObject *told_number(int64_t answer);
 
+/* The same, but None for AUG_NONE. */
+PyObject *number_or_none(int64_t answer);
+
 /* A span or a report of its fields, or NULL with an exception. */
 PyObject *record_of(PyTypeObject *type, Py_ssize_t count, const uint64_t *fields);
 
@@ -69,6 +72,8 @@ int read_place(PyObject *from, int64_t *place);
 int read_key(PyObject *from, uint32_t *key);
 int read_bound(PyObject *from, uint32_t *bound);
 int read_weight(PyObject *from, uint32_t *weight);
+/* A sum of weights: -1 for all numbers below 0. */
+int read_sum(PyObject *from, int64_t *sum);
 /* A number of a trie that is opened: one that is out of range is still out of range. */
 int read_wide(PyObject *from, uint64_t *number);
 

@@ -42,6 +42,13 @@ int read_weight(PyObject *from, uint32_t *weight) {
     return -1;
 }
 
+int read_sum(PyObject *from, int64_t *sum) {
+    long long number;
+    int over = read_number(from, &number);
+    *sum = over > 0 ? INT64_MAX : over || number < 0 ? -1 : number;
+    return over == -2 ? -1 : 0;
+}
+
 int read_wide(PyObject *from, uint64_t *number) {
     long long read;
     int over = read_number(from, &read);

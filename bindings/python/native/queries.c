@@ -44,6 +44,7 @@ static int64_t place_of(aug_user *user, int64_t place) {
 
 static int64_t before(aug_user *user, int64_t place) { return place < 0 ? AUG_NONE : aug_before(user, (uint32_t)place); }
 static int64_t after(aug_user *user, int64_t place) { return place < 0 ? aug_first(user) : aug_after(user, (uint32_t)place); }
+static int64_t by_weight(aug_user *user, int64_t sum) { return sum < 0 ? aug_first(user) : aug_select_by_weight(user, (uint64_t)sum); }
 
 static int64_t size(aug_user *user, int64_t unused) {
     (void)unused;
@@ -68,13 +69,17 @@ static int64_t answer_of(PyObject *self, Query query, int64_t place) {
     return answer;
 }
 
-/* A query of a key: a number, or None. */
-static PyObject *ask(PyObject *self, PyObject *key, Query query) {
-    int64_t place;
-    if (read_place(key, &place)) return NULL;
+/* The same as a number, or None. */
+static PyObject *number_of(PyObject *self, Query query, int64_t place) {
     int64_t answer = answer_of(self, query, place);
     if (answer == AUG_NONE) Py_RETURN_NONE;
     return answer < 0 ? NULL : PyLong_FromLongLong(answer);
+}
+
+/* A query of a key: a number, or None. */
+static PyObject *ask(PyObject *self, PyObject *key, Query query) {
+    int64_t place;
+    return read_place(key, &place) ? NULL : number_of(self, query, place);
 }
 
 static PyObject *get_weight(PyObject *self, PyObject *key) { return ask(self, key, weight); }
@@ -82,6 +87,11 @@ static PyObject *bisect_left(PyObject *self, PyObject *key) { return ask(self, k
 static PyObject *bisect_right(PyObject *self, PyObject *key) { return ask(self, key, right); }
 static PyObject *get_before(PyObject *self, PyObject *key) { return ask(self, key, before); }
 static PyObject *get_after(PyObject *self, PyObject *key) { return ask(self, key, after); }
+
+static PyObject *select_by_weight(PyObject *self, PyObject *number) {
+    int64_t sum;
+    return read_sum(number, &sum) ? NULL : number_of(self, by_weight, sum);
+}
 
 static PyObject *get_index(PyObject *self, PyObject *key) {
     PyObject *index = ask(self, key, place_of);
@@ -155,11 +165,6 @@ static int64_t weight_all(aug_user *user, const uint32_t *keys, size_t n, int64_
 static int64_t items_of(aug_user *user, Py_ssize_t start, Py_ssize_t step, size_t n, int64_t *answers) {
     for (size_t i = 0; i < n; i++) answers[i] = aug_select(user, (uint32_t)(start + (Py_ssize_t)i * step));
     return AUG_OK;
-}
-
-static PyObject *number_or_none(int64_t answer) {
-    if (answer == AUG_NONE) Py_RETURN_NONE;
-    return told_number(answer);
 }
 
 static PyObject *truth(int64_t answer) {
@@ -348,6 +353,9 @@ static PyMethodDef members_methods[] = {
     {"index", get_index, METH_O, "index($self, key, /)\n--\n\nThe index of a member. ValueError if it is none."},
     {"before", get_before, METH_O, "before($self, key, /)\n--\n\nThe greatest member below a key, or None."},
     {"after", get_after, METH_O, "after($self, key, /)\n--\n\nThe least member above a key, or None."},
+    {"select_by_weight", select_by_weight, METH_O,
+     "select_by_weight($self, sum, /)\n--\n\nThe member up to which the weights, added up from the least member on, first come to more than a number, "
+     "or None if all of them do not."},
     {"total", get_total, METH_VARARGS,
      "total($self, start, stop, /)\n--\n\nThe sum of the weights of the members from `start` on that are below `stop`."},
     {"span", get_span, METH_VARARGS,
@@ -402,14 +410,22 @@ typedef struct {
     PyObject_HEAD
     Snapshot *source;
     unsigned renewals;  /* of the source, when it began */
+    uint32_t *members;  /* which the source is compared with, the keys and then the weights; NULL if it is what it showed before */
+    size_t kept;        /* how many members these are */
     uint32_t from;      /* from here on changes are not listed yet */
     size_t next, count; /* a page that is not full is the last */
     aug_change page[CHANGES];
 } Changes;
 
-static PyObject *changes_of(Snapshot *source) {
+/* It owns the members then, or frees them with an exception. */
+static PyObject *changes_of(Snapshot *source, uint32_t *members, size_t kept) {
     Changes *changes = PyObject_New(Changes, changes_type);
-    if (!changes) return NULL;
+    if (!changes) {
+        PyMem_Free(members);
+        return NULL;
+    }
+    changes->members = members;
+    changes->kept = kept;
     Py_INCREF(source);
     changes->source = source;
     changes->renewals = source->renewals;
@@ -419,6 +435,7 @@ static PyObject *changes_of(Snapshot *source) {
 }
 
 static void changes_free(PyObject *self) {
+    PyMem_Free(((Changes *)self)->members);
     Py_DECREF(((Changes *)self)->source);
     free_object(self);
 }
@@ -430,13 +447,19 @@ static int refuse_renewed(const Changes *changes) {
     return -1;
 }
 
+/* Writes the first changes since so many members, from a key on. */
+static int64_t changes_since(Seat *seat, const uint32_t *members, size_t kept, uint32_t from, aug_change *page, size_t room) {
+    return aug_changes_since(&seat->handle, members, members + kept, kept, from, page, room);
+}
+
 /* Lists the next changes. 0, or -1 with an exception. */
 static int list_changes(Changes *changes) {
     Seat *seat = begin((PyObject *)changes->source);
     if (!seat || refuse_renewed(changes)) return -1;
     /* Another thread may have come first, if this one had to wait. */
     if (changes->next < changes->count || changes->count < CHANGES) return 0;
-    int64_t count = aug_changes(&seat->handle, changes->from, changes->page, CHANGES);
+    int64_t count = changes->members ? changes_since(seat, changes->members, changes->kept, changes->from, changes->page, CHANGES)
+                                     : aug_changes(&seat->handle, changes->from, changes->page, CHANGES);
     if (count < 0) {
         raise_code(count);
         return -1;
@@ -503,7 +526,47 @@ static PyObject *snapshot_renew(PyObject *self, PyObject *unused) {
 
 static PyObject *snapshot_changes(PyObject *self, PyObject *unused) {
     (void)unused;
-    return begin(self) ? changes_of((Snapshot *)self) : NULL;
+    return begin(self) ? changes_of((Snapshot *)self, NULL, 0) : NULL;
+}
+
+/* Reads a pair of a key and a weight. 0, or -1 with an exception. */
+static int read_member(PyObject *from, uint32_t *key, uint32_t *weight) {
+    int read = -1;
+    PyObject *pair = PySequence_Tuple(from);
+    if (!pair) return -1;
+    if (PyTuple_Size(pair) != 2) {
+        PyErr_SetString(PyExc_ValueError, "a member is a key and its weight");
+    } else if (!read_key(PyTuple_GetItem(pair, 0), key)) {
+        read = read_weight(PyTuple_GetItem(pair, 1), weight);
+    }
+    Py_DECREF(pair);
+    return read;
+}
+
+/* Reads the members of an iterable, the keys and then the weights, into memory for PyMem_Free, or answers NULL with an exception. */
+static uint32_t *read_members(PyObject *from, size_t *count) {
+    PyObject *items = PySequence_Tuple(from);
+    if (!items) return NULL;
+    *count = (size_t)PyTuple_Size(items);
+    uint32_t *numbers = PyMem_Malloc(2 * *count * sizeof *numbers);
+    if (!numbers) PyErr_NoMemory();
+    for (size_t i = 0; numbers && i < *count; i++) {
+        if (!read_member(PyTuple_GetItem(items, (Py_ssize_t)i), &numbers[i], &numbers[*count + i])) continue;
+        PyMem_Free(numbers);
+        numbers = NULL;
+    }
+    Py_DECREF(items);
+    return numbers;
+}
+
+static PyObject *snapshot_changes_since(PyObject *self, PyObject *from) {
+    size_t kept;
+    uint32_t *members = read_members(from, &kept);
+    Seat *seat = members ? begin(self) : NULL;
+    int64_t code = seat ? changes_since(seat, members, kept, 0, NULL, 0) : 0;
+    if (seat && code == 0) return changes_of((Snapshot *)self, members, kept);
+    PyMem_Free(members);
+    return seat ? raise_code(code) : NULL;
 }
 
 static PyObject *snapshot_close(PyObject *self, PyObject *unused) {
@@ -526,6 +589,9 @@ static PyMethodDef snapshot_methods[] = {
     {"changes", snapshot_changes, METH_NOARGS,
      "changes($self, /)\n--\n\nAn iterator over what the last `renew` changed: keys, rising, each with its weight before and now, or None where it "
      "is no member. There is nothing before the first one. RuntimeError if the snapshot is renewed meanwhile."},
+    {"changes_since", snapshot_changes_since, METH_O,
+     "changes_since($self, members, /)\n--\n\nThe same since members that were listed, as `list(snapshot.items())` has them: pairs of a key and its weight, "
+     "with rising keys. It goes over all members of both, however few of them changed."},
     {"close", snapshot_close, METH_NOARGS, "close($self, /)\n--\n\nEnds it, so that its thread may update again. Nothing if it has ended."},
     {"__enter__", snapshot_enter, METH_NOARGS, "The snapshot."},
     {"__exit__", snapshot_close, METH_VARARGS, "Ends it."},

@@ -90,30 +90,32 @@ static PyObject *trie_snapshot(PyObject *self, PyObject *unused) {
     return (PyObject *)snapshot;
 }
 
-/* An update that does not wait, of a key with a number. */
-typedef int64_t (*Update)(aug_user *user, uint32_t key, uint32_t number);
+/* An update that does not wait, of a key with a number. It is made again if another user changed the key meanwhile. */
+typedef int64_t (*Update)(aug_user *user, uint32_t key, uint32_t number, aug_told *told);
 
-static int64_t insert(aug_user *user, uint32_t key, uint32_t unused) {
-    (void)unused;
+/* A member stays as it is, so this tells nothing, and is not made again. */
+static int64_t insert(aug_user *user, uint32_t key, uint32_t unused, aug_told *told) {
+    (void)unused, (void)told;
     return aug_try_insert(user, key);
 }
 
 /* What is no key of the trie is not in. */
-static int64_t take_out(aug_user *user, uint32_t key, uint32_t unused) {
+static int64_t take_out(aug_user *user, uint32_t key, uint32_t unused, aug_told *told) {
+    int64_t answer;
     (void)unused;
-    int64_t answer = aug_try_remove(user, key);
+    do answer = aug_try_remove(user, key, told); while (answer == 0 && told->before != AUG_NONE);
     return answer == AUG_BAD_KEY ? 0 : answer;
 }
 
-/* These are made again if another user changed the key meanwhile. */
 #define MADE(call) do { int64_t answer_; while ((answer_ = (call)) == 0) {} return answer_; } while (0)
 
-static int64_t put(aug_user *user, uint32_t key, uint32_t weight) { MADE(aug_try_put(user, key, weight)); }
-static int64_t increment(aug_user *user, uint32_t key, uint32_t amount) { MADE(aug_try_add(user, key, amount)); }
-static int64_t decrement(aug_user *user, uint32_t key, uint32_t amount) { MADE(aug_try_sub(user, key, amount)); }
+static int64_t put(aug_user *user, uint32_t key, uint32_t weight, aug_told *told) { MADE(aug_try_put(user, key, weight, told)); }
+static int64_t increment(aug_user *user, uint32_t key, uint32_t amount, aug_told *told) { MADE(aug_try_add(user, key, amount, told)); }
+static int64_t decrement(aug_user *user, uint32_t key, uint32_t amount, aug_told *told) { MADE(aug_try_sub(user, key, amount, told)); }
 
-/* Makes an update of each key with its number: how many answered 1, or -1 with an exception. Other threads run while it waits. */
-static Py_ssize_t change(PyObject *self, Update update, const uint32_t *keys, const uint32_t *numbers, size_t count) {
+/* Makes an update of each key with its number: how many answered 1, or -1 with an exception. What the last one told is in `told`. Other threads run
+   while it waits. */
+static Py_ssize_t change(PyObject *self, Update update, const uint32_t *keys, const uint32_t *numbers, size_t count, aug_told *told) {
     Py_ssize_t changed = 0;
     unsigned turn = 0;
     for (size_t i = 0;;) {
@@ -123,7 +125,7 @@ static Py_ssize_t change(PyObject *self, Update update, const uint32_t *keys, co
         Seat *seat = seat_of((Trie *)self);
         if (!seat) return -1;
         PyThreadState *others = let_others_run(seat, stop - i);
-        for (; i < stop && (answer = update(&seat->handle, keys[i], numbers[i])) >= 0; i++) changed += answer == 1;
+        for (; i < stop && (answer = update(&seat->handle, keys[i], numbers[i], told)) >= 0; i++) changed += answer == 1;
         run_alone(seat, others);
         if (answer < 0 && answer != AUG_AGAIN) return raise_code(answer), -1;
         if (i == count) return changed;
@@ -133,50 +135,72 @@ static Py_ssize_t change(PyObject *self, Update update, const uint32_t *keys, co
 }
 
 /* An update of one key: whether it answered 1, or -1 with an exception. */
-static Py_ssize_t change_key(PyObject *self, PyObject *key, Update update) {
+static Py_ssize_t change_key(PyObject *self, PyObject *key, Update update, aug_told *told) {
     uint32_t at;
-    return read_key(key, &at) ? -1 : change(self, update, &at, &at, 1);
+    return read_key(key, &at) ? -1 : change(self, update, &at, &at, 1, told);
 }
 
 static PyObject *trie_add(PyObject *self, PyObject *key) {
-    Py_ssize_t changed = change_key(self, key, insert);
+    aug_told unwanted;
+    Py_ssize_t changed = change_key(self, key, insert, &unwanted);
     return changed < 0 ? NULL : PyBool_FromLong(changed);
 }
 
 static PyObject *trie_discard(PyObject *self, PyObject *key) {
-    Py_ssize_t changed = change_key(self, key, take_out);
+    aug_told unwanted;
+    Py_ssize_t changed = change_key(self, key, take_out, &unwanted);
     return changed < 0 ? NULL : PyBool_FromLong(changed);
 }
 
 static PyObject *trie_remove(PyObject *self, PyObject *key) {
-    Py_ssize_t changed = change_key(self, key, take_out);
+    aug_told unwanted;
+    Py_ssize_t changed = change_key(self, key, take_out, &unwanted);
     if (changed == 0) PyErr_SetObject(PyExc_KeyError, key);
     if (changed <= 0) return NULL;
     Py_RETURN_NONE;
 }
 
-/* An update of a key with a number, which is 1 if it may be left out and is. */
-static PyObject *change_by(PyObject *self, PyObject *args, PyObject *named, const char *format, char **words, Update update) {
+static PyObject *trie_pop(PyObject *self, PyObject *args) {
+    PyObject *key, *other = NULL;
+    aug_told told;
+    if (!PyArg_UnpackTuple(args, "pop", 1, 2, &key, &other)) return NULL;
+    Py_ssize_t changed = change_key(self, key, take_out, &told);
+    if (changed > 0) return PyLong_FromLongLong(told.before);
+    if (changed == 0 && !other) PyErr_SetObject(PyExc_KeyError, key);
+    if (changed < 0 || !other) return NULL;
+    Py_INCREF(other);
+    return other;
+}
+
+/* An update of a key with a number, which is 1 if it may be left out and is: 0, or -1 with an exception. */
+static int change_by(PyObject *self, PyObject *args, PyObject *named, const char *format, char **words, Update update, aug_told *told) {
     PyObject *key, *number = NULL;
     uint32_t at, by = 1;
-    if (!PyArg_ParseTupleAndKeywords(args, named, format, words, &key, &number)) return NULL;
-    if (read_key(key, &at) || (number && read_weight(number, &by))) return NULL;
-    Py_ssize_t changed = change(self, update, &at, &by, 1);
-    return changed < 0 ? NULL : PyBool_FromLong(changed);
+    if (!PyArg_ParseTupleAndKeywords(args, named, format, words, &key, &number)) return -1;
+    if (read_key(key, &at) || (number && read_weight(number, &by))) return -1;
+    return change(self, update, &at, &by, 1, told) < 0 ? -1 : 0;
+}
+
+/* The weight after an update, which is 0 of what is no member. */
+static PyObject *weight_now(const aug_told *told) {
+    return PyLong_FromLongLong(told->now == AUG_NONE ? 0 : told->now);
 }
 
 static char *key_and_weight[] = {"key", "weight", NULL}, *key_and_amount[] = {"key", "amount", NULL};
 
 static PyObject *trie_put(PyObject *self, PyObject *args, PyObject *named) {
-    return change_by(self, args, named, "OO:put", key_and_weight, put);
+    aug_told told;
+    return change_by(self, args, named, "OO:put", key_and_weight, put, &told) ? NULL : number_or_none(told.before);
 }
 
 static PyObject *trie_increment(PyObject *self, PyObject *args, PyObject *named) {
-    return change_by(self, args, named, "O|O:increment", key_and_amount, increment);
+    aug_told told;
+    return change_by(self, args, named, "O|O:increment", key_and_amount, increment, &told) ? NULL : weight_now(&told);
 }
 
 static PyObject *trie_decrement(PyObject *self, PyObject *args, PyObject *named) {
-    return change_by(self, args, named, "O|O:decrement", key_and_amount, decrement);
+    aug_told told;
+    return change_by(self, args, named, "O|O:decrement", key_and_amount, decrement, &told) ? NULL : weight_now(&told);
 }
 
 /* Takes out the first member or the last, by calls that are made again if another user changed that member meanwhile. */
@@ -203,9 +227,10 @@ static PyObject *trie_popitem(PyObject *self, PyObject *args, PyObject *named) {
 /* Makes the same update of many keys. Frees the numbers. */
 static PyObject *change_all(PyObject *self, Update update, uint32_t *keys, uint32_t *numbers, size_t count) {
     Py_ssize_t changed = 0;
+    aug_told unwanted;
     for (size_t i = 0; changed == 0 && update != take_out && i < count; i++) if (keys[i] >> ((Trie *)self)->bits) changed = -1;
     if (changed < 0) raise_code(AUG_BAD_KEY);
-    else changed = change(self, update, keys, numbers, count);
+    else changed = change(self, update, keys, numbers, count, &unwanted);
     if (numbers != keys) PyMem_Free(numbers);
     PyMem_Free(keys);
     return changed < 0 ? NULL : PyLong_FromSsize_t(changed);
@@ -247,14 +272,17 @@ static PyMethodDef methods[] = {
     {"add", trie_add, METH_O, "add($self, key, /)\n--\n\nPuts a key in, with the key itself as its weight: True if it was not there."},
     {"discard", trie_discard, METH_O, "discard($self, key, /)\n--\n\nTakes a key out: True if it was there."},
     {"remove", trie_remove, METH_O, "remove($self, key, /)\n--\n\nTakes a key out. KeyError if it was not there."},
+    {"pop", trie_pop, METH_VARARGS,
+     "pop(key[, default])\n\nTakes a key out: the weight that it had. If it was not there, the default, or KeyError if none is given."},
     {"put", WITH_WORDS(trie_put),
-     "put($self, /, key, weight)\n--\n\nPuts a key in with a weight, or gives a member this weight: True if it was not there."},
+     "put($self, /, key, weight)\n--\n\nPuts a key in with a weight, or gives a member this weight: the weight that it had, or None if it was not "
+     "there."},
     {"increment", WITH_WORDS(trie_increment),
-     "increment($self, /, key, amount=1)\n--\n\nAdds an amount to a key's weight. A key that is not there goes in with it: True then. TooGreat if "
-     "the sum does not fit 32 bits."},
+     "increment($self, /, key, amount=1)\n--\n\nAdds an amount to a key's weight: the weight that it has now. A key that is not there goes in with the "
+     "amount. TooGreat if the sum does not fit 32 bits."},
     {"decrement", WITH_WORDS(trie_decrement),
-     "decrement($self, /, key, amount=1)\n--\n\nTakes an amount from a key's weight. A key of whose weight nothing is left goes out: True then. "
-     "TooLittle if the key is not there, or weighs less."},
+     "decrement($self, /, key, amount=1)\n--\n\nTakes an amount from a key's weight: the weight that is left. A key of whose weight nothing is left goes "
+     "out. TooLittle if the key is not there, or weighs less."},
     {"popitem", WITH_WORDS(trie_popitem),
      "popitem($self, /, index=-1)\n--\n\nTakes out the last member, or with 0 the first: its key and its weight. KeyError if there is none. Each member "
      "comes to one caller."},

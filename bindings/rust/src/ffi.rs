@@ -67,6 +67,14 @@ pub struct Change {
     pub now: i64,
 }
 
+/// What a key weighed before an update and weighs after it, or a number below 0.
+#[repr(C)]
+#[derive(Default)]
+pub struct Told {
+    pub before: i64,
+    pub now: i64,
+}
+
 /// What the life of a trie came to. A weight that was replaced counts as an insertion and a removal.
 #[repr(C)]
 #[derive(Debug, Default, Clone, Copy, PartialEq, Eq)]
@@ -90,10 +98,10 @@ unsafe extern "C" {
     pub safe fn aug_user_close(user: &mut User) -> i64;
     pub safe fn aug_close(trie: &mut Trie, report: Option<&mut Report>) -> i64;
     pub safe fn aug_insert(user: &mut User, key: u32) -> i64;
-    pub safe fn aug_remove(user: &mut User, key: u32) -> i64;
-    pub safe fn aug_put(user: &mut User, key: u32, weight: u32) -> i64;
-    pub safe fn aug_add(user: &mut User, key: u32, amount: u32) -> i64;
-    pub safe fn aug_sub(user: &mut User, key: u32, amount: u32) -> i64;
+    pub safe fn aug_remove(user: &mut User, key: u32, told: Option<&mut Told>) -> i64;
+    pub safe fn aug_put(user: &mut User, key: u32, weight: u32, told: Option<&mut Told>) -> i64;
+    pub safe fn aug_add(user: &mut User, key: u32, amount: u32, told: Option<&mut Told>) -> i64;
+    pub safe fn aug_sub(user: &mut User, key: u32, amount: u32, told: Option<&mut Told>) -> i64;
     pub safe fn aug_pop_first(user: &mut User, member: &mut Member) -> i64;
     pub safe fn aug_pop_last(user: &mut User, member: &mut Member) -> i64;
     pub fn aug_insert_all(user: &mut User, keys: *const u32, n: usize) -> i64;
@@ -107,6 +115,7 @@ unsafe extern "C" {
     pub safe fn aug_size(user: &mut User) -> i64;
     pub safe fn aug_rank(user: &mut User, key: u32) -> i64;
     pub safe fn aug_select(user: &mut User, index: u32) -> i64;
+    pub safe fn aug_select_by_weight(user: &mut User, sum: u64) -> i64;
     pub safe fn aug_before(user: &mut User, key: u32) -> i64;
     pub safe fn aug_after(user: &mut User, key: u32) -> i64;
     pub safe fn aug_first(user: &mut User) -> i64;
@@ -121,4 +130,5 @@ unsafe extern "C" {
     pub fn aug_list(user: &mut User, from: u32, keys: *mut u32, weights: *mut u32, room: usize) -> i64;
     pub fn aug_list_back(user: &mut User, below: u32, keys: *mut u32, weights: *mut u32, room: usize) -> i64;
     pub fn aug_changes(user: &mut User, from: u32, out: *mut Change, room: usize) -> i64;
+    pub fn aug_changes_since(user: &mut User, keys: *const u32, weights: *const u32, n: usize, from: u32, out: *mut Change, room: usize) -> i64;
 }

@@ -63,11 +63,16 @@ pub use error::Error;
 pub use ffi::{Report, Span};
 pub use look::{Iter, Look};
 pub use trie::Trie;
-pub use user::{Put, Sum, User};
+pub use user::{Put, Told, User};
 
 /// The number that a call answered, or why it did nothing.
 fn number(answer: i64) -> Result<u32, Error> {
     u32::try_from(answer).map_err(|_| Error::of_code(answer))
+}
+
+/// The weight that a call told, or none if the key was no member.
+fn weight(told: i64) -> Option<u32> {
+    u32::try_from(told).ok()
 }
 
 /// The version of the library that is linked.

@@ -5,6 +5,7 @@ use crate::user::User;
 use std::cell::RefCell;
 use std::iter::FusedIterator;
 use std::ops::{Bound, RangeBounds};
+use std::ptr;
 
 /// A look at the set: a snapshot, which stays as it is until [`again`](Look::again). All its answers agree with one another. Any key may be
 /// asked for.
@@ -79,6 +80,13 @@ impl<'user> Look<'user> {
     #[must_use]
     pub fn select(&self, index: u32) -> Option<u32> {
         self.ask(|user| ffi::aug_select(user, index))
+    }
+
+    /// The member up to which the weights, added up from the least member on, first come to more than `sum`. A member that weighs 0 is never the
+    /// answer, and no sum wraps.
+    #[must_use]
+    pub fn select_by_weight(&self, sum: u64) -> Option<u32> {
+        self.ask(|user| ffi::aug_select_by_weight(user, sum))
     }
 
     /// The least member.
@@ -185,7 +193,38 @@ impl<'user> Look<'user> {
     /// # Ok::<(), Error>(())
     /// ```
     pub fn changes(&self) -> Changes<'_, 'user> {
-        Changes::of(self)
+        Changes::of(self, None)
+    }
+
+    /// The keys whose weights differ between a set that the caller listed and the snapshot, rising: `keys` are its members, rising, and `weights` what
+    /// they weighed. So what changed over a roll-over is told too, or since a look that has ended. Refused with `BadLength` if there are not as many
+    /// weights as keys, or more than `2^bits`; and with `BadKey` if the keys do not rise, or one is not below `2^bits`. It goes over all members of both,
+    /// however few of them changed.
+    ///
+    /// ```
+    /// use augtrie::{Change, Error, Trie};
+    ///
+    /// let trie = Trie::new(12, 1, 1 << 20)?;
+    /// let mut user = trie.user()?;
+    /// user.insert_all(&[7, 8])?;
+    /// let (keys, weights): (Vec<u32>, Vec<u32>) = user.look()?.iter().unzip();
+    /// user.remove(7)?;
+    /// let look = user.look()?;
+    /// assert!(look.changes_since(&keys, &weights)?.eq([Change { key: 7, before: Some(7), now: None }]));
+    /// # Ok::<(), Error>(())
+    /// ```
+    pub fn changes_since<'a>(&'a self, keys: &'a [u32], weights: &'a [u32]) -> Result<Changes<'a, 'user>, Error> {
+        if keys.len() != weights.len() {
+            return Err(Error::BadLength);
+        }
+        // SAFETY: the pointers are those of slices of this length, and nothing is written to no places.
+        let code = unsafe {
+            ffi::aug_changes_since(&mut self.user.borrow_mut().handle, keys.as_ptr(), weights.as_ptr(), keys.len(), 0, ptr::null_mut(), 0)
+        };
+        if code < 0 {
+            return Err(Error::of_code(code));
+        }
+        Ok(Changes::of(self, Some((keys, weights))))
     }
 }
 

@@ -1,7 +1,7 @@
 use crate::ffi::{self, Member};
 use crate::look::Look;
 use crate::shared::Shared;
-use crate::{Error, number};
+use crate::{Error, number, weight};
 
 // The code for no such member.
 const NONE: i64 = -1;
@@ -13,30 +13,21 @@ pub enum Put {
     /// The key was no member, and is one now.
     Accepted,
     /// The key was a member, and has the new weight now.
-    Replaced,
+    Replaced {
+        /// The weight that it had.
+        before: u32,
+    },
     /// Another user changed the key meanwhile, and nothing was stored.
     Refused,
 }
 
-/// What came of adding an amount to a weight, or of taking it away. No amount is lost if others change the key meanwhile.
-#[derive(Debug, Clone, Copy, PartialEq, Eq)]
-pub enum Sum {
-    /// The key went in with the amount, or out with the last of its weight.
-    Accepted,
-    /// The key was a member and still is, with the new weight.
-    Replaced,
-    /// The amount is 0, and nothing was to be changed.
-    Unchanged,
-}
-
-impl Sum {
-    fn of_answer(done: u32) -> Sum {
-        match done {
-            1 => Sum::Accepted,
-            2 => Sum::Replaced,
-            _ => Sum::Unchanged,
-        }
-    }
+/// What a key weighed before an amount was added to its weight, or taken away, and what it weighs after that.
+#[derive(Debug, Clone, Copy, PartialEq, Eq, Hash)]
+pub struct Told {
+    /// The weight before, if the key was a member.
+    pub before: Option<u32>,
+    /// The weight after it, if the key is a member.
+    pub now: Option<u32>,
 }
 
 /// A user of a trie, for one thread at a time: it updates the set, or looks at it. Dropping it frees its place for another.
@@ -47,16 +38,17 @@ impl Sum {
 /// user and works with another may wait for itself.
 ///
 /// ```
-/// use augtrie::{Error, Put, Sum, Trie};
+/// use augtrie::{Error, Put, Told, Trie};
 ///
 /// let trie = Trie::new(12, 1, 1 << 20)?;
 /// let mut user = trie.user()?;
 /// assert_eq!(user.put(7, 25), Ok(Put::Accepted));
-/// assert_eq!(user.add(7, 5), Ok(Sum::Replaced));
+/// assert_eq!(user.add(7, 5), Ok(Told { before: Some(25), now: Some(30) }));
 /// assert_eq!(user.sub(7, 31), Err(Error::TooLittle));
 /// assert_eq!(user.look()?.get(7), Some(30));
 /// assert_eq!(user.insert_all(&[7, 8, 9]), Ok(2));
 /// assert_eq!(user.pop_first(), Ok(Some((7, 30))));
+/// assert_eq!((user.remove(8), user.remove(8)), (Ok(Some(8)), Ok(None)));
 /// # Ok::<(), Error>(())
 /// ```
 #[derive(Debug)]
@@ -72,30 +64,44 @@ impl User {
         number(ffi::aug_insert(&mut self.handle, key)).map(|done| done == 1)
     }
 
-    /// Takes a key out. True if it was there.
-    pub fn remove(&mut self, key: u32) -> Result<bool, Error> {
-        number(ffi::aug_remove(&mut self.handle, key)).map(|done| done == 1)
+    // Makes an update that tells what the key weighed: its answer, and that.
+    fn tell(&mut self, update: impl FnOnce(&mut ffi::User, Option<&mut ffi::Told>) -> i64) -> Result<(u32, Told), Error> {
+        let mut told = ffi::Told::default();
+        let answer = number(update(&mut self.handle, Some(&mut told)))?;
+        Ok((answer, Told { before: weight(told.before), now: weight(told.now) }))
+    }
+
+    /// Takes a key out, and tells the weight that it had, or `None` if it was no member. It is made again if another user changed the key
+    /// meanwhile.
+    pub fn remove(&mut self, key: u32) -> Result<Option<u32>, Error> {
+        loop {
+            let (answer, told) = self.tell(|user, told| ffi::aug_remove(user, key, told))?;
+            if answer == 1 || told.before.is_none() {
+                return Ok(told.before);
+            }
+        }
     }
 
     /// Puts a key in with a weight, or gives a member this weight.
     pub fn put(&mut self, key: u32, weight: u32) -> Result<Put, Error> {
-        number(ffi::aug_put(&mut self.handle, key, weight)).map(|done| match done {
-            1 => Put::Accepted,
-            2 => Put::Replaced,
+        let (answer, told) = self.tell(|user, told| ffi::aug_put(user, key, weight, told))?;
+        Ok(match (answer, told.before) {
+            (1, _) => Put::Accepted,
+            (2, Some(before)) => Put::Replaced { before },
             _ => Put::Refused,
         })
     }
 
     /// Adds an amount to a key's weight. A key that is not there goes in with it. Refused with `TooGreat` too, if the sum does not fit 32
-    /// bits.
-    pub fn add(&mut self, key: u32, amount: u32) -> Result<Sum, Error> {
-        number(ffi::aug_add(&mut self.handle, key, amount)).map(Sum::of_answer)
+    /// bits. It is made again if another user changed the key meanwhile, so no amount is lost.
+    pub fn add(&mut self, key: u32, amount: u32) -> Result<Told, Error> {
+        self.tell(|user, told| ffi::aug_add(user, key, amount, told)).map(|(_, told)| told)
     }
 
-    /// Takes an amount from a key's weight. A key of whose weight nothing is left goes out. Refused with `TooLittle` too, if it is not there
-    /// or weighs less.
-    pub fn sub(&mut self, key: u32, amount: u32) -> Result<Sum, Error> {
-        number(ffi::aug_sub(&mut self.handle, key, amount)).map(Sum::of_answer)
+    /// Takes an amount from a key's weight, as `add`. A key of whose weight nothing is left goes out. Refused with `TooLittle` too, if it is
+    /// not there or weighs less.
+    pub fn sub(&mut self, key: u32, amount: u32) -> Result<Told, Error> {
+        self.tell(|user, told| ffi::aug_sub(user, key, amount, told)).map(|(_, told)| told)
     }
 
     /// Takes out the member with the least key, and tells that key and its weight. Each member comes to one user.

@@ -1,5 +1,5 @@
 //! The crate's calls beside a map, threads, and misuses that its types let through.
-use augtrie::{Change, Error, Look, Put, Sum, Trie, User};
+use augtrie::{Change, Error, Look, Put, Told, Trie, User};
 use std::collections::{BTreeMap, BTreeSet};
 use std::mem::forget;
 use std::ops::Bound;
@@ -30,6 +30,14 @@ fn small(bits: u32, users: u32) -> Trie {
     (0..25).find_map(|power| Trie::new(bits, users, 1 << power).ok()).expect("so many bytes are plenty")
 }
 
+/// Gives a key of a map a weight, or takes it out.
+fn set(map: &mut BTreeMap<u32, u32>, key: u32, weight: Option<u32>) {
+    match weight {
+        Some(weight) => map.insert(key, weight),
+        None => map.remove(&key),
+    };
+}
+
 /// Draws an update, and makes it of the trie and of the map, which have to answer the same.
 fn update(user: &mut User, map: &mut BTreeMap<u32, u32>, drawn: &mut Drawn, bits: u32) {
     let key = drawn.below(1 << bits);
@@ -38,28 +46,43 @@ fn update(user: &mut User, map: &mut BTreeMap<u32, u32>, drawn: &mut Drawn, bits
     let weight = [drawn.below(u32::MAX), drawn.below(9), old.unwrap_or(1)][drawn.below(3) as usize];
     match drawn.below(6) {
         0 => assert_eq!(user.insert(key), Ok(map.insert(key, old.unwrap_or(key)).is_none())),
-        1 => assert_eq!(user.remove(key), Ok(map.remove(&key).is_some())),
-        2 => assert_eq!(user.put(key, weight), Ok(if map.insert(key, weight).is_some() { Put::Replaced } else { Put::Accepted })),
+        1 => assert_eq!(user.remove(key), Ok(map.remove(&key))),
+        2 => assert_eq!(user.put(key, weight), Ok(map.insert(key, weight).map_or(Put::Accepted, |before| Put::Replaced { before }))),
         3 => {
-            let want = match old.unwrap_or(0).checked_add(weight) {
-                _ if weight == 0 => Ok(Sum::Unchanged),
-                Some(sum) => Ok(if map.insert(key, sum).is_some() { Sum::Replaced } else { Sum::Accepted }),
+            let now = match old.unwrap_or(0).checked_add(weight) {
+                _ if weight == 0 => Ok(old),
+                Some(sum) => Ok(Some(sum)),
                 None => Err(Error::TooGreat),
             };
-            assert_eq!(user.add(key, weight), want);
+            assert_eq!(user.add(key, weight), now.map(|now| Told { before: old, now }));
+            set(map, key, now.unwrap_or(old));
         }
         4 if weight % 2 == 0 => assert_eq!(user.pop_first(), Ok(map.pop_first())),
         4 => assert_eq!(user.pop_last(), Ok(map.pop_last())),
         _ => {
-            let want = match old.and_then(|old| old.checked_sub(weight)) {
-                _ if weight == 0 => Ok(Sum::Unchanged),
-                Some(0) => Ok(map.remove(&key).map_or(Sum::Unchanged, |_| Sum::Accepted)),
-                Some(left) => Ok(map.insert(key, left).map_or(Sum::Unchanged, |_| Sum::Replaced)),
+            let now = match old.and_then(|old| old.checked_sub(weight)) {
+                _ if weight == 0 => Ok(old),
+                Some(left) => Ok(Some(left).filter(|left| *left > 0)),
                 None => Err(Error::TooLittle),
             };
-            assert_eq!(user.sub(key, weight), want);
+            assert_eq!(user.sub(key, weight), now.map(|now| Told { before: old, now }));
+            set(map, key, now.unwrap_or(old));
         }
     }
+}
+
+/// The member up to which the weights first come to more than a number.
+fn first_over(pairs: &[(u32, u32)], number: u64) -> Option<u32> {
+    let mut sum = 0;
+    pairs.iter().find(|pair| { sum += u64::from(pair.1); sum > number }).map(|pair| pair.0)
+}
+
+/// Numbers that the weights up to some of the members come to, and those next to them.
+fn sums(pairs: &[(u32, u32)]) -> Vec<u64> {
+    let mut sum = 0;
+    let up_to: Vec<u64> = pairs.iter().map(|pair| { sum += u64::from(pair.1); sum }).collect();
+    let some = up_to.iter().step_by(up_to.len() / 16 + 1).chain(up_to.last()).flat_map(|sum| [sum.saturating_sub(1), *sum, sum + 1]);
+    some.chain([0, 1, u64::MAX]).collect()
 }
 
 /// Asks a look for everything, about keys that the trie has and others.
@@ -75,6 +98,9 @@ fn ask(look: &Look, map: &BTreeMap<u32, u32>, drawn: &mut Drawn, bits: u32) {
         assert_eq!(look.before(key), map.range(..key).next_back().map(|pair| *pair.0));
         assert_eq!(look.after(key), map.range((Bound::Excluded(key), Bound::Unbounded)).next().map(|pair| *pair.0));
         assert_eq!(look.select(key), pairs.get(key as usize).map(|pair| pair.0));
+    }
+    for sum in sums(&pairs) {
+        assert_eq!(look.select_by_weight(sum), first_over(&pairs, sum));
     }
     assert_eq!(look.ranks(&some), Ok(some.iter().map(|key| look.rank(*key)).collect::<Vec<_>>()));
     assert_eq!(look.contains_all(&some), Ok(some.iter().map(|key| map.contains_key(key)).collect::<Vec<_>>()));
@@ -229,6 +255,45 @@ fn so_many_changes_are_listed_as_there_are() -> Result<(), Error> {
 }
 
 #[test]
+fn changes_since_a_list_are_what_differs_from_it() -> Result<(), Error> {
+    let mut drawn = Drawn(12);
+    for bits in 1..=16 {
+        // Rounds roll over between two looks.
+        let trie = small(bits, 1);
+        let (mut user, mut map) = (trie.user()?, BTreeMap::new());
+        for updates in [0, 1, 5, 40, 120, 240, 1000, 2, 0] {
+            let before = map.clone();
+            let (keys, weights): (Vec<u32>, Vec<u32>) = user.look()?.iter().unzip();
+            (0..updates).for_each(|_| update(&mut user, &mut map, &mut drawn, bits));
+            let look = user.look()?;
+            let want = differences(&before, &map);
+            let mut iter = look.changes_since(&keys, &weights)?;
+            let at = drawn.below(want.len() as u32 + 1) as usize;
+            assert!(iter.by_ref().take(at).eq(want[..at].iter().copied()) && iter.clone().eq(want[at..].iter().copied()));
+            assert_eq!((iter.by_ref().count(), iter.next()), (want.len() - at, None));
+            assert!(look.changes_since(&[], &[])?.eq(differences(&BTreeMap::new(), &map)));
+        }
+    }
+    Ok(())
+}
+
+#[test]
+fn a_list_that_is_none_is_refused() -> Result<(), Error> {
+    let trie = Trie::new(4, 1, PLENTY)?;
+    let mut user = trie.user()?;
+    user.insert(3)?;
+    let look = user.look()?;
+    let refused = |keys: &[u32], weights: &[u32]| look.changes_since(keys, weights).err();
+    assert_eq!(refused(&[1, 2], &[1]), Some(Error::BadLength));
+    assert_eq!(refused(&[1; 17], &[1; 17]), Some(Error::BadLength));
+    assert_eq!(refused(&[2, 1], &[1, 1]), Some(Error::BadKey));
+    assert_eq!(refused(&[2, 2], &[1, 1]), Some(Error::BadKey));
+    assert_eq!(refused(&[2, 16], &[1, 1]), Some(Error::BadKey));
+    assert_eq!(refused(&[2, 15], &[1, 1]), None);
+    Ok(())
+}
+
+#[test]
 fn a_copy_follows_the_changes_that_three_threads_make() -> Result<(), Error> {
     let trie = small(6, 4);
     let mut looker = trie.user()?;
@@ -253,10 +318,7 @@ fn a_copy_follows_the_changes_that_three_threads_make() -> Result<(), Error> {
                 for change in look.changes() {
                     assert_eq!(copy.get(&change.key).copied(), change.before);
                     assert_ne!(change.before, change.now);
-                    let _ = match change.now {
-                        Some(weight) => copy.insert(change.key, weight),
-                        None => copy.remove(&change.key),
-                    };
+                    set(&mut copy, change.key, change.now);
                 }
                 assert!(look.iter().eq(copy.iter().map(|(key, weight)| (*key, *weight))));
             }
@@ -315,6 +377,66 @@ fn each_unit_of_four_threads_is_there() -> Result<(), Error> {
         assert!(trie.user()?.look()?.iter().eq((0..10).map(|key| (key, 4 * 300))));
         let report = trie.close()?;
         assert_eq!((report.size, report.inserts - report.removals), (10, 10));
+    }
+    Ok(())
+}
+
+/// Draws an update of a key, and makes it: what it told, if it stored something. The first four keys are only added to.
+fn link(user: &mut User, key: u32, drawn: &mut Drawn) -> Option<Told> {
+    let (number, what) = (1 + drawn.below(9), if key < 4 { 0 } else { drawn.below(4) });
+    let told = match what {
+        0 => user.add(key, number),
+        1 => user.sub(key, number),
+        2 => user.remove(key).map(|before| Told { before, now: None }),
+        _ => match user.put(key, number).expect("the trie is open") {
+            Put::Accepted => Ok(Told { before: None, now: Some(number) }),
+            Put::Replaced { before } => Ok(Told { before: Some(before), now: Some(number) }),
+            Put::Refused => return None,
+        },
+    };
+    assert!(key > 3 || told.is_ok_and(|told| told.now == Some(told.before.unwrap_or(0) + number)));
+    told.inspect_err(|cause| assert_eq!(*cause, Error::TooLittle)).ok()
+}
+
+#[test]
+fn each_update_finds_what_another_one_left() -> Result<(), Error> {
+    for trie in [small(4, 5), Trie::new(4, 5, PLENTY)?] {
+        let links = Mutex::new(vec![Vec::new(); 12]);
+        each(&trie, 4, |i, mut user| {
+            let mut drawn = Drawn(i.into());
+            let mut own = vec![Vec::new(); 12];
+            for _ in 0..6_000 {
+                let key = drawn.below(12);
+                own[key as usize].extend(link(&mut user, key, &mut drawn));
+            }
+            let mut links = links.lock().expect("no thread failed");
+            links.iter_mut().zip(own).for_each(|(links, own)| links.extend(own));
+        });
+        // Of each key, every weight is found as often as it is left: none at first, and the last one by the look. So where weights only rise the
+        // updates are one chain.
+        let mut user = trie.user()?;
+        let look = user.look()?;
+        for (key, links) in (0..).zip(links.into_inner().expect("no thread failed")) {
+            let mut found: Vec<Option<u32>> = links.iter().map(|told| told.before).chain([look.get(key)]).collect();
+            let mut left: Vec<Option<u32>> = [None].into_iter().chain(links.iter().map(|told| told.now)).collect();
+            found.sort_unstable();
+            left.sort_unstable();
+            assert!(links.len() > 100 && found == left, "key {key}");
+        }
+    }
+    Ok(())
+}
+
+#[test]
+fn a_removal_finds_a_member_whose_weight_others_change() -> Result<(), Error> {
+    for trie in [small(4, 4), Trie::new(4, 4, PLENTY)?] {
+        each(&trie, 4, |i, mut user| {
+            for unit in 0..5_000 {
+                // It is a member then, also if another user was quicker, and the first thread alone takes it out.
+                assert!(user.put(5, unit).is_ok());
+                assert!(i > 0 || user.remove(5).is_ok_and(|weight| weight.is_some()));
+            }
+        });
     }
     Ok(())
 }
@@ -406,7 +528,9 @@ fn a_trie_is_closed_while_its_users_work() -> Result<(), Error> {
                     let mut drawn = Drawn(i);
                     let cause = loop {
                         let key = drawn.below(256);
-                        let (done, count) = if drawn.below(2) == 0 { (user.insert(key), inserts) } else { (user.remove(key), removals) };
+                        let removes = drawn.below(2) == 0;
+                        let done = if removes { user.remove(key).map(|weight| weight.is_some()) } else { user.insert(key) };
+                        let count = if removes { removals } else { inserts };
                         match done {
                             Ok(changed) => count.fetch_add(u32::from(changed), SeqCst),
                             Err(cause) => break cause,
@@ -436,9 +560,8 @@ fn what_a_closed_trie_answers() -> Result<(), Error> {
     assert_eq!((report.inserts, report.removals, report.size), (1, 0, 1));
     assert_eq!((trie.close(), other.close()), (Err(Error::Closed), Err(Error::Closed)));
     assert_eq!(trie.user().err(), Some(Error::Closed));
-    let flags = [user.insert(1), user.remove(3)];
-    let counts = [user.insert_all(&[1]), user.remove_all(&[3]), user.put_all(&[1], &[1])];
-    assert_eq!((flags, counts), ([Err(Error::Closed); 2], [Err(Error::Closed); 3]));
+    assert_eq!((user.insert(1), user.remove(3)), (Err(Error::Closed), Err(Error::Closed)));
+    assert_eq!([user.insert_all(&[1]), user.remove_all(&[3]), user.put_all(&[1], &[1])], [Err(Error::Closed); 3]);
     assert_eq!([user.insert_all(&[]), user.remove_all(&[]), user.put_all(&[], &[])], [Err(Error::Closed); 3]);
     assert_eq!((user.put(1, 1), user.add(1, 1), user.sub(3, 1)), (Err(Error::Closed), Err(Error::Closed), Err(Error::Closed)));
     assert_eq!((user.look().err(), trie.bits()), (Some(Error::Closed), 4));
@@ -521,7 +644,7 @@ fn looks_agree_and_never_go_back_while_others_fill_the_table() -> Result<(), Err
             for unit in 0..5_000 {
                 assert!(user.add(i, 1).is_ok());
                 assert_eq!(user.put(8 + 16 * i + unit % 16, unit), Ok(Put::Accepted));
-                assert_eq!(user.remove(8 + 16 * i + unit % 16), Ok(true));
+                assert_eq!(user.remove(8 + 16 * i + unit % 16), Ok(Some(unit)));
             }
         };
         let mut threads = Vec::new();
@@ -608,7 +731,7 @@ fn a_panic_ends_the_look_and_frees_the_place() -> Result<(), Error> {
     assert!(fell.join().is_err());
     let mut user = trie.user()?;
     for unit in 0..1_000 {
-        assert_eq!(user.put(3, unit), Ok(Put::Replaced));
+        assert_eq!(user.put(3, unit), Ok(Put::Replaced { before: unit.checked_sub(1).unwrap_or(3) }));
     }
     assert_eq!(trie.close()?.size, 1);
     Ok(())

@@ -13,6 +13,11 @@ module _ {X : Type 0} (does : X → X → ℤ → Type 0) (old new : Option X) (
   pub on_some : (before after : X) (said : ℤ) → old ≡ Some before → new ≡ Some after → code ≡ said → does before after said → On does old new code
   on_some before after said was is says done = subst (λ (o : Option X). On does o new code) (sym was) (after, is, subst (does before after) (sym says) done)
 
+-- what does more does this too
+pub on_weaker : {X : Type 0} {does also : X → X → ℤ → Type 0} → ((before after : X) (said : ℤ) → does before after said → also before after said) → (old new : Option X) (code said : ℤ) → code ≡ said → On does old new said → On also old new code
+on_weaker weaker None new code said says on = (on.0, says ∙ on.1)
+on_weaker {X} {does} {also} weaker (Some old) new code said says on = (on.0, on.1, subst (also old on.0) (sym says) (weaker old on.0 said on.2))
+
 -- the look that a user holds is asked
 module _ (user : Option Seat) (held look new : LookFacts) (most : ℕ) (code : ℤ) (is : user ≡ Some (Looking held)) (same : look ≡ held) (asked : IsAsked span_of most look new) where
   holds : user ≡ Some (Looking look)

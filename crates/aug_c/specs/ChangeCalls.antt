@@ -1,8 +1,11 @@
--- What a call for the changes of a look answers: a page of those between the snapshot that the look showed before and the one that it shows. In the example
--- a look that saw 0 and 1 is taken again after 1 went out and 3 came in: the page from 0 on has 1, which weighed 1 and is gone (-1), and 3, which was no
--- member (-1) and weighs 3.
-use Rattle.std.specs.Prelude.{◌≡◌, ℕ, ℤ, pos, List, ◌++◌, length, map, take, drop, min}
+-- What a call for the changes of a look answers: a page of those between the snapshot that the look showed before and the one that it shows, or between a
+-- list and that. In the example a look that saw 0 and 1 is taken again after 1 went out and 3 came in: the page from 0 on has 1, which weighed 1 and is gone
+-- (-1), and 3, which was no member (-1) and weighs 3. It has the same changes since a list of 0 and 1, and a list of 1 and 0 is refused (-3).
+use Rattle.std.specs.Prelude.{◌≡◌, ◌≢◌, ℕ, ℤ, pos, List, ◌++◌, length, map, take, drop, min}
+use Rattle.std.specs.List.{zip}
+use Rattle.std.specs.List.Sorted.{IsStrictlyIncreasing}
 use Rattle.aug_model.specs.Differences.{changes_from}
+use Rattle.aug_model.specs.Keys.{SetFacts}
 use Rattle.aug_model.specs.declared.difference.Difference.{Difference}
 use Rattle.aug_live.specs.LiveHandles.{LookFacts, IsAsked, set_before, set_of_look}
 use Rattle.aug_c.specs.UserCalls.{found, span_of}
@@ -16,19 +19,38 @@ abbrev pub change_of : Difference → Change
 change_of one = record { key = one.key; before = found one.before; now = found one.after }
 
 -- the changes with keys from this one on, at most 32
-abbrev pub page_from : LookFacts → ℕ → List Change
-page_from look from = map change_of (take 32 (changes_from (set_before look) (set_of_look look) from))
+abbrev pub page_from : SetFacts → SetFacts → ℕ → List Change
+page_from earlier later from = map change_of (take 32 (changes_from earlier later from))
 
 -- the first of a page are written, as many as there is room for, and the answer is how many
-pub record ListsChanges (from : ℕ) (before after : List Change) (old new : LookFacts) (code : ℤ) : Type 0 where
+pub record ListsPage (page before after : List Change) (old new : LookFacts) (code : ℤ) : Type 0 where
   pub count : ℕ
   pub says : code ≡ pos count
-  pub counts : count ≡ min (length before) (length (page_from old from))
-  pub written : after ≡ take count (page_from old from) ++ drop count before
+  pub counts : count ≡ min (length before) (length page)
+  pub written : after ≡ take count page ++ drop count before
   pub most : ℕ
   pub asked : IsAsked span_of most old new
+
+-- those between the snapshot before and the one that is shown
+abbrev pub ListsChanges : ℕ → List Change → List Change → LookFacts → LookFacts → ℤ → Type 0
+ListsChanges from before after old new code = ListsPage (page_from (set_before old) (set_of_look old) from) before after old new code
+
+-- the set whose members are in one array, and their weights in the other
+abbrev pub set_of_arrays : List ℕ → List ℕ → SetFacts
+set_of_arrays keys weights = record { bits = 32; pairs = zip keys weights }
+
+-- those between such a set and the snapshot that is shown: which arrays are refused, so that nothing is written, and what is listed otherwise
+pub record ListsSince (keys weights : List ℕ) (from : ℕ) (before after : List Change) (old new : LookFacts) (code : ℤ) : Type 0 where
+  pub bad_length : length weights ≢ length keys → (code ≡ codes.bad_length) × (new ≡ old) × (after ≡ before)
+  pub bad_key : length weights ≡ length keys → (¬ IsStrictlyIncreasing keys) → (code ≡ codes.bad_key) × (new ≡ old) × (after ≡ before)
+  pub lists : length weights ≡ length keys → IsStrictlyIncreasing keys → ListsPage (page_from (set_of_arrays keys weights) (set_of_look old) from) before after old new code
 
 -- the same of a user, which holds a look
 abbrev pub ListsAllChanges : ℕ → List Change → List Change → Seat → Seat → ℤ → Type 0
 ListsAllChanges from before after (Free access) new code = (new ≡ Free access) × (code ≡ codes.not_looking) × (after ≡ before)
 ListsAllChanges from before after (Looking old) new code = (look : LookFacts) × (new ≡ Looking look) × ListsChanges from before after old look code
+
+-- and so for arrays
+abbrev pub ListsAllSince : List ℕ → List ℕ → ℕ → List Change → List Change → Seat → Seat → ℤ → Type 0
+ListsAllSince keys weights from before after (Free access) new code = (new ≡ Free access) × (code ≡ codes.not_looking) × (after ≡ before)
+ListsAllSince keys weights from before after (Looking old) new code = (look : LookFacts) × (new ≡ Looking look) × ListsSince keys weights from before after old look code

@@ -11,10 +11,12 @@ use Rattle.aug_model.specs.Folds.{summary_of}
 use Rattle.aug_model.specs.Keys.{SetFacts}
 use Rattle.aug_model.specs.declared.summary.Summary.{Summary}
 use Rattle.aug_trie.specs.Snapshot.{snapshot_cut}
-use Rattle.aug_trie.specs.Updates.{ComesTo, TakesSnapshot}
+use Rattle.aug_trie.specs.Updates.{TakesSnapshot, Updates}
 use Rattle.aug_trie.specs.declared.updates.outcome.Outcome.{Outcome}
 use Rattle.aug_trie.specs.declared.updates.outcome.Outcome.TheVariants.{Accepted, Replaced, Refused, Unchanged, TooGreat, TooLittle}
 use Rattle.aug_trie.specs.declared.updates.request.Request.{Request}
+use Rattle.aug_trie.specs.declared.updates.request.Request.TheVariants.{Insert}
+use Rattle.aug_trie.specs.declared.updates.told.Told.{Told}
 use Rattle.aug_live.specs.LiveHandles.{HandleFacts, LookFacts, Follows, Makes, IsAsked, LooksAgain, handle_of, set_of_look}
 use Rattle.aug_live.specs.LiveErrors.{RefusesCall}
 use Rattle.aug_live.specs.declared.error.LiveError.{LiveError}
@@ -23,6 +25,7 @@ use Rattle.aug_c.specs.declared.refusal.Refusal.TheVariants.{BadKey, Again, Clos
 use Rattle.aug_c.specs.declared.seat.Seat.{Seat}
 use Rattle.aug_c.specs.declared.seat.Seat.TheVariants.{Free, Looking}
 use Rattle.aug_c.specs.declared.span.Span.{Span}
+use Rattle.aug_c.specs.declared.updates.WeightsTold.{WeightsTold}
 use Rattle.aug_c.specs.Codes as codes
 
 -- the number of the keys, the sum of their weights, and the least and the greatest of them
@@ -36,19 +39,27 @@ refusal_code Again = codes.again
 refusal_code Closed = codes.closed
 
 -- what an update answers: 1 if the key went in or out, 2 if a member has a new weight, 3 if an amount is 0, and 0 if it was refused
-abbrev pub update_code : Result Outcome Refusal → ℤ
-update_code (Ok Accepted) = pos 1
-update_code (Ok Replaced) = pos 2
-update_code (Ok Refused) = pos 0
-update_code (Ok Unchanged) = pos 3
-update_code (Ok TooGreat) = codes.too_great
-update_code (Ok TooLittle) = codes.too_little
+abbrev pub outcome_code : Outcome → ℤ
+outcome_code Accepted = pos 1
+outcome_code Replaced = pos 2
+outcome_code Refused = pos 0
+outcome_code Unchanged = pos 3
+outcome_code TooGreat = codes.too_great
+outcome_code TooLittle = codes.too_little
+
+abbrev pub update_code : Result Told Refusal → ℤ
+update_code (Ok told) = outcome_code told.outcome
 update_code (Err cause) = refusal_code cause
 
 -- a number if there is one
 abbrev pub found : Option ℕ → ℤ
 found (Some n) = pos n
 found None = codes.none
+
+-- what an update that was made tells of its key is written, with -1 where it is no member, and else nothing
+abbrev pub told_in : Result Told Refusal → WeightsTold → WeightsTold → Type 0
+told_in (Ok told) before after = (after.before ≡ found told.before) × (after.now ≡ found told.now)
+told_in (Err cause) before after = after ≡ before
 
 -- 1 or 0
 abbrev pub truth : Bool → ℤ
@@ -60,24 +71,29 @@ abbrev pub ShowsClosed : HandleFacts → Type 0
 ShowsClosed access = (cause : LiveError) × RefusesCall access cause
 
 -- an update of a key by a user that holds no look: if the key is none of the trie, nothing changes; and else it is made, or the user follows on what it
--- knew
-pub record UpdatesFree (asked : Request) (key : ℕ) (old new : HandleFacts) (code : ℤ) : Type 0 where
-  pub answer : Result Outcome Refusal
+-- knew. What it tells is written to a place with these weights before and after the call
+pub record UpdatesFree (asked : Request) (key : ℕ) (before after : WeightsTold) (old new : HandleFacts) (code : ℤ) : Type 0 where
+  pub answer : Result Told Refusal
   pub says : code ≡ update_code answer
+  pub tells : told_in answer before after
   pub bad_key : IsErrOf answer BadKey ↔ (2 ^ old.half.round.bits ≤ key)
   pub same : IsErrOf answer BadKey → new ≡ old
-  pub made : IfOk answer (λ done. Makes 1 (λ a b. ComesTo asked key done a.knows b.knows) old new)
+  pub made : IfOk answer (λ told. Makes 1 (λ a b. Updates asked key told a.knows b.knows) old new)
   pub not_made : IfErr answer (λ _. Follows old new)
   pub closed : IsErrOf answer Closed → ShowsClosed new
 
 -- an update of a key by a user, which is refused while it holds a look
-abbrev pub UpdatesKey : Request → ℕ → Seat → Seat → ℤ → Type 0
-UpdatesKey asked key (Free old) new code = (access : HandleFacts) × (new ≡ Free access) × UpdatesFree asked key old access code
-UpdatesKey asked key (Looking look) new code = (new ≡ Looking look) × (code ≡ codes.looking)
+abbrev pub UpdatesKey : Request → ℕ → WeightsTold → WeightsTold → Seat → Seat → ℤ → Type 0
+UpdatesKey asked key before after (Free old) new code = (access : HandleFacts) × (new ≡ Free access) × UpdatesFree asked key before after old access code
+UpdatesKey asked key before after (Looking look) new code = (new ≡ Looking look) × (code ≡ codes.looking) × (after ≡ before)
 
--- a user that holds no look takes one, or follows on what it knew
+-- an insertion, which does not tell what its key weighed
+abbrev pub InsertsKey : ℕ → Seat → Seat → ℤ → Type 0
+InsertsKey key old new code = (told : WeightsTold × WeightsTold) × UpdatesKey Insert key told.0 told.1 old new code
+
+-- a user that holds no look takes one, of which nothing has changed yet, or follows on what it knew
 pub record TakesFree (old : HandleFacts) (new : Seat) (code : ℤ) : Type 0 where
-  pub looks : code ≡ pos 0 → (look : LookFacts) × (new ≡ Looking look) × Makes 0 (λ a b. TakesSnapshot a.knows b.knows (snapshot_cut b look.snapshot.number)) old (handle_of look)
+  pub looks : code ≡ pos 0 → (look : LookFacts) × (new ≡ Looking look) × (look.before ≡ look.snapshot) × Makes 0 (λ a b. TakesSnapshot a.knows b.knows (snapshot_cut b look.snapshot.number)) old (handle_of look)
   pub refused : code ≢ pos 0 → (access : HandleFacts) × (new ≡ Free access) × Follows old access × (code ≡ codes.closed → ShowsClosed access)
   pub others : (code ≡ pos 0) ⊎ (code ≡ codes.again) ⊎ (code ≡ codes.closed)
 

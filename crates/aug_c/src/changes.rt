@@ -1,13 +1,15 @@
-//! What changed between the snapshot that a look showed before and the one that it shows.
-ghost use Rattle.std.specs.Prelude.{◌≡◌, ◌++◌, Some, IsNone, length, map, take, drop, min};
-ghost use Rattle.aug_c.specs.ChangeCalls.{ListsAllChanges, ListsChanges, change_of};
+//! What changed between the snapshot that a look showed before, or a list of the caller's, and the snapshot that it shows.
+ghost use Rattle.std.specs.Prelude.{◌≡◌, ◌<◌, ◌++◌, ◌↔◌, Some, IsNone, true, length, map, take, drop, min, get_or};
+ghost use Rattle.std.specs.List.Sorted.{IsStrictlyIncreasing};
+ghost use Rattle.aug_c.specs.ChangeCalls.{ListsAllChanges, ListsAllSince, ListsChanges, ListsSince, change_of, set_of_arrays};
 ghost use Rattle.aug_c.specs.Handles.{user_of, On};
 
-use crate::codes::{CLOSED, NOT_LOOKING};
+use crate::codes::{BAD_KEY, BAD_LENGTH, CLOSED, NOT_LOOKING};
 use crate::queries::Number;
 use crate::seat::{LookOf, Seat};
 use crate::user_handle::UserHandle;
 use aug_model::Difference;
+use aug_query::MemberList;
 
 /// A key whose weight differs between two snapshots.
 #[repr(C)]
@@ -73,4 +75,107 @@ pub extern "C" fn aug_try_changes(user: &mut UserHandle, from: u32, out: &mut [C
         return CLOSED;
     }
     changes_in(&mut user.held.as_slot().seat, from, out)
+}
+
+// Members that rise in one array, and their weights in another.
+#[derive(Drop)]
+struct Arrays<'l> {
+    keys: &'l [u32],
+    weights: &'l [u32],
+    ghost rising: { IsStrictlyIncreasing keys.now },
+    ghost lengths: { length weights.now ≡ length keys.now },
+}
+
+impl MemberList for Arrays<'_> {
+    ghost use Rattle.aug_c.specs.ChangeCalls.{set_of_arrays};
+
+    ghost set_of = { λ arrays. set_of_arrays arrays.keys.now arrays.weights.now };
+
+    fn len(&self) -> usize {
+        self.keys.len()
+    }
+
+    fn member(&self, place: usize) -> (u32, u32) {
+        let key = number_at(self.keys, place);
+        let weight = number_at(self.weights, place);
+        (key, weight)
+    }
+}
+
+// The number at a place of an array.
+fn number_at(numbers: &[u32], place: usize) -> u32
+    requires { place < length numbers.now }
+    ensures { result ≡ get_or numbers.now place 0 }
+{
+    numbers[place]
+}
+
+// Whether each key is above the one before it.
+fn is_rising(keys: &[u32]) -> bool
+    ensures { (result ≡ true) ↔ IsStrictlyIncreasing keys.now }
+{
+    for place in 1..keys.len() {
+        if keys[place - 1] >= keys[place] {
+            return false;
+        }
+    }
+    true
+}
+
+fn page_since(
+    look: &mut LookOf,
+    keys: &[u32],
+    weights: &[u32],
+    from: u32,
+    out: &mut [Change],
+) -> i64
+    ensures { ListsSince keys.now weights.now from out.old out.new look.old look.new result }
+{
+    if weights.len() != keys.len() {
+        return BAD_LENGTH;
+    }
+    if !is_rising(keys) {
+        return BAD_KEY;
+    }
+    let list = Arrays { keys, weights };
+    let page = look.changes_since(&list, from);
+    put(page.as_slice(), out) as i64
+}
+
+fn changes_since_in(
+    user: &mut Option<Seat>,
+    keys: &[u32],
+    weights: &[u32],
+    from: u32,
+    out: &mut [Change],
+) -> i64
+    ensures lists { On (ListsAllSince keys.now weights.now from out.old out.new) user.old user.new result }
+    ensures closed { IsNone user.old → out.new ≡ out.old }
+{
+    match user {
+        None => CLOSED,
+        Some(Seat::Free(_)) => NOT_LOOKING,
+        Some(Seat::Looking(held)) => page_since(&mut held.look, keys, weights, from, out),
+    }
+}
+
+/// Writes a page of what changed between a set that the caller kept and the snapshot that the user's look shows, as `aug_try_changes`. The set's members
+/// are `keys`, and each weighs what stands in `weights` at its place. Answers `BAD_LENGTH` if there are not as many weights as keys, and `BAD_KEY` if the
+/// keys do not rise.
+#[unsafe(no_mangle)]
+pub extern "C" fn aug_try_changes_since(
+    user: &mut UserHandle,
+    keys: &[u32],
+    weights: &[u32],
+    from: u32,
+    out: &mut [Change],
+) -> i64
+    ensures lists { On (ListsAllSince keys.now weights.now from out.old out.new) (user_of user.old) (user_of user.new) result }
+    ensures closed { IsNone (user_of user.old) → out.new ≡ out.old }
+    ensures foreign { IsNone user.old.held.value → user.new ≡ user.old }
+{
+    if !user.is_open() {
+        return CLOSED;
+    }
+    changes_since_in(&mut user.held.as_slot().seat, keys, weights, from, out)
 }

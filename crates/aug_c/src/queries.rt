@@ -2,6 +2,7 @@
 ghost use Rattle.std.specs.Prelude.{◌≡◌, ℤ, ◌<◌, ◌≤◌, ◌++◌, pos, length, map, take, drop, min, Some, None, IsSome, IsNone};
 ghost use Rattle.aug_model.specs.Keys.{is_member, list_of};
 ghost use Rattle.aug_model.specs.Queries.{rank_of, select_of, before_of, after_of, first_of, last_of, weight_of, weighted_range_of};
+ghost use Rattle.aug_query.specs.RunningSums.{select_by_weight_of};
 ghost use Rattle.aug_monoid.specs.declared.sum.Sum.{Sum};
 ghost use Rattle.aug_monoid.specs.declared.extent.Extent.{Extent};
 ghost use Rattle.aug_live.specs.LiveHandles.{HandleFacts, LookFacts, set_of_look};
@@ -17,7 +18,9 @@ use crate::user_handle::UserHandle;
 use aug_model::Summary;
 use aug_monoid::{Extent, Sum};
 use aug_query::Query;
-use aug_query::descent::{After, Before, First, Has, Last, Range, Rank, Select, Size, Weight};
+use aug_query::descent::{
+    After, Before, First, Has, Last, Range, Rank, Select, SelectByWeight, Size, Weight,
+};
 
 // An answer that C has as one number.
 pub(crate) trait Number {
@@ -142,6 +145,15 @@ pub extern "C" fn aug_try_select(user: &mut UserHandle, index: u32) -> i64
     ensures foreign { IsNone user.old.held.value → user.new ≡ user.old }
 {
     ask(user, Select(index))
+}
+
+/// The member of the snapshot up to which the weights, added up from the least member on, first come to more than `sum`. No sum wraps.
+#[unsafe(no_mangle)]
+pub extern "C" fn aug_try_select_by_weight(user: &mut UserHandle, sum: u64) -> i64
+    ensures asks { On (Asks (λ set. found (select_by_weight_of set.pairs sum))) (user_of user.old) (user_of user.new) result }
+    ensures foreign { IsNone user.old.held.value → user.new ≡ user.old }
+{
+    ask(user, SelectByWeight(sum))
 }
 
 /// The greatest member of the snapshot below the key.

@@ -11,7 +11,8 @@ use Rattle.aug_core.proofs.PrefixLemmas.{prefix_trans}
 use Rattle.aug_trie.specs.Chains.{Chapter, BeginsWith, IsPart}
 use Rattle.aug_trie.specs.History.{IsHistory, last_cut}
 use Rattle.aug_trie.specs.Knowledge.{Knowledge}
-use Rattle.aug_trie.specs.Updates.{ComesTo}
+use Rattle.aug_trie.specs.Updates.{ComesTo, Updates}
+use Rattle.aug_trie.specs.declared.updates.told.Told.{Told}
 use Rattle.aug_trie.specs.declared.updates.request.Request.{Request}
 use Rattle.aug_trie.specs.declared.updates.request.Request.TheVariants as asked
 use Rattle.aug_trie.specs.declared.updates.outcome.Outcome.{Outcome}
@@ -149,8 +150,8 @@ none_follows updates does a b m none = let s : HandleFacts = m.start in let on =
     }
 
 -- as after one that was refused
-pub refused_follows : (request : Request) (key : ℕ) (a b : HandleFacts) → Makes 1 (λ x y. ComesTo request key outcome.Refused x.knows y.knows) a b → Follows a b
-refused_follows request key a b m = none_follows 1 _ a b m (refused_same request key m.start.half.knows b.half.knows m.done)
+pub refused_follows : (request : Request) (key : ℕ) (told : Told) (a b : HandleFacts) → told.outcome ≡ outcome.Refused → Makes 1 (λ x y. Updates request key told x.knows y.knows) a b → Follows a b
+refused_follows request key told a b refused m = none_follows 1 _ a b m (refused_same request key m.start.half.knows b.half.knows (subst (λ (z : Outcome). ComesTo request key z m.start.half.knows b.half.knows) refused m.done.0))
 
 -- a call of a handle leaves it at its trie
 pub makes_table : (updates : ℕ) (does : PassFacts → PassFacts → Type 0) (a b : HandleFacts) → Makes updates does a b → b.half.round.table ≡ a.half.round.table
@@ -341,43 +342,3 @@ begun_follows a b round past part led table rounds =
     (subst (λ (z : RoundFacts × List Chapter). Leads z.0.bits z.1 z.0.members) (sym rounds) led)
     (ap (λ (z : RoundFacts). z.table) now ∙ ap (λ (z : TableFacts). z.table) (sym table))
     (ap (λ (z : RoundFacts). z.bits) now ∙ ap (λ (z : TableFacts). z.bits) (sym table))
-
--- what an update accepted stands behind what was accepted before
-pub accepts_on : (request : Request) (key : ℕ) (done : Outcome) (a b : Knowledge) → ComesTo request key done a b → IsPrefix a.accepted b.accepted
-accepts_on asked.Insert key outcome.Accepted a b c = (_, c.adds)
-accepts_on asked.Insert key outcome.Refused a b c = ([], c.same_changes ∙ sym (append-nil a.accepted))
-accepts_on asked.Insert key outcome.Replaced a b c = absurd c
-accepts_on asked.Insert key outcome.Unchanged a b c = absurd c
-accepts_on asked.Insert key outcome.TooGreat a b c = absurd c
-accepts_on asked.Insert key outcome.TooLittle a b c = absurd c
-accepts_on asked.Remove key outcome.Accepted a b c = (_, c.adds)
-accepts_on asked.Remove key outcome.Refused a b c = ([], c.same_changes ∙ sym (append-nil a.accepted))
-accepts_on asked.Remove key outcome.Replaced a b c = absurd c
-accepts_on asked.Remove key outcome.Unchanged a b c = absurd c
-accepts_on asked.Remove key outcome.TooGreat a b c = absurd c
-accepts_on asked.Remove key outcome.TooLittle a b c = absurd c
-accepts_on (asked.Put weight) key outcome.Accepted a b c = (_, c.adds)
-accepts_on (asked.Put weight) key outcome.Refused a b c = ([], c.same_changes ∙ sym (append-nil a.accepted))
-accepts_on (asked.Put weight) key outcome.Replaced a b c = (_, c.adds)
-accepts_on (asked.Put weight) key outcome.Unchanged a b c = absurd c
-accepts_on (asked.Put weight) key outcome.TooGreat a b c = absurd c
-accepts_on (asked.Put weight) key outcome.TooLittle a b c = absurd c
-accepts_on (asked.Add amount) key outcome.Accepted a b c = (_, c.adds)
-accepts_on (asked.Add amount) key outcome.Replaced a b c = (_, c.2.replaced.adds)
-accepts_on (asked.Add amount) key outcome.Refused a b c = ([], c.same_changes ∙ sym (append-nil a.accepted))
-accepts_on (asked.Add amount) key outcome.Unchanged a b c = ([], c.same_changes ∙ sym (append-nil a.accepted))
-accepts_on (asked.Add amount) key outcome.TooGreat a b c = ([], c.same_changes ∙ sym (append-nil a.accepted))
-accepts_on (asked.Add amount) key outcome.TooLittle a b c = absurd c
-accepts_on (asked.Sub amount) key outcome.Accepted a b c = (_, c.removed.adds)
-accepts_on (asked.Sub amount) key outcome.Replaced a b c = (_, c.2.replaced.adds)
-accepts_on (asked.Sub amount) key outcome.Refused a b c = ([], c.same_changes ∙ sym (append-nil a.accepted))
-accepts_on (asked.Sub amount) key outcome.Unchanged a b c = ([], c.same_changes ∙ sym (append-nil a.accepted))
-accepts_on (asked.Sub amount) key outcome.TooGreat a b c = absurd c
-accepts_on (asked.Sub amount) key outcome.TooLittle a b c = ([], c.same_changes ∙ sym (append-nil a.accepted))
-accepts_on (asked.Take weight) key outcome.Accepted a b c = (_, c.removed.adds)
-accepts_on (asked.Take weight) key outcome.Refused a b (inl c) = ([], c.same_changes ∙ sym (append-nil a.accepted))
-accepts_on (asked.Take weight) key outcome.Refused a b (inr c) = ([], c.same_changes ∙ sym (append-nil a.accepted))
-accepts_on (asked.Take weight) key outcome.Replaced a b c = absurd c
-accepts_on (asked.Take weight) key outcome.Unchanged a b c = absurd c
-accepts_on (asked.Take weight) key outcome.TooGreat a b c = absurd c
-accepts_on (asked.Take weight) key outcome.TooLittle a b c = absurd c

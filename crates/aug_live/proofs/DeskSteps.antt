@@ -7,7 +7,7 @@ use mathlib.Core.Option.{some, some-injective, some-ne-none}
 use lib.ListN.{get_elem?}
 use Rattle.atomic_table.proofs.Lists.{at_set}
 use Rattle.atomic_table.specs.declared.shared.Seat.{Seat}
-use Rattle.ruled_lock.specs.Locks.{Forks, Holds, IsSamePass, Learns, client_of}
+use Rattle.ruled_lock.specs.Locks.{Forks, Holds, IsSameKey, Learns, client_of}
 use Rattle.ruled_lock.specs.declared.holding.Holding.{Holding}
 use Rattle.aug_live.specs.LiveTries.{TrieFacts, KnowsMore}
 use Rattle.aug_live.specs.declared.desk_end.Desk.{Desk}
@@ -171,14 +171,14 @@ closed_more v = record { closed = λ _. refl; table = refl; bits = refl; lanes =
 
 -- an end that took a round off the desk, and lays there what became of it
 module _ {A B : Type 0} (before pass : Seat (Option (Desk A B)) (Holding (Desk A B) TrieFacts)) where
-  pub owner_still : IsSamePass before pass → client_of pass ≡ client_of before → IsOwner before.id (client_of before) → IsOwner pass.id (client_of pass)
+  pub owner_still : IsSameKey before pass → client_of pass ≡ client_of before → IsOwner before.id (client_of before) → IsOwner pass.id (client_of pass)
   owner_still same view owner = subst (λ (z : ℕ × TrieFacts). IsOwner z.0 z.1) (λ i. (sym same.1 i, sym view i)) owner
 
   module _ (was now : TrieFacts) (view : client_of pass ≡ client_of before) (holds : Holds (record { working = Some was; opened = true }) None pass) (knows : KnowsMore (client_of before) was) (more : KnowsMore was now) where
     goes_on : (pass.id ≡ 0) ⊎ (now.given ≡ was.given) → GoesOnFrom pass now
     goes_on given = record { was = was; holds = holds; knows = subst (λ (z : TrieFacts). KnowsMore z was) (sym view) knows; more = more; given = given }
 
-    pub owner_lays : IsSamePass before pass → IsOwner before.id (client_of before) → GoesOnFrom pass now
+    pub owner_lays : IsSameKey before pass → IsOwner before.id (client_of before) → GoesOnFrom pass now
     owner_lays same owner = goes_on (inl (same.1 ∙ owner.first))
 
     pub handle_lays : now.given ≡ was.given → GoesOnFrom pass now

@@ -16,7 +16,7 @@ use Rattle.aug_trie.specs.declared.rounds.pop.Side.{Side}
 use Rattle.aug_trie.specs.declared.updates.outcome.Outcome.TheVariants as outcome
 use Rattle.aug_trie.specs.declared.updates.request.Request.TheVariants as asked
 use Rattle.aug_live.specs.LiveHandles.{HandleFacts, Follows, Makes}
-use Rattle.aug_live.proofs.Carries.{refused_same, accepts_on, none_follows}
+use Rattle.aug_live.proofs.Carries.{refused_same, none_follows}
 
 module _ {A B : Type 0} (summary_of : List (ℕ × ℕ) → Summary A B) (side : Side) where
   -- the snapshot and the questions accept nothing
@@ -46,8 +46,8 @@ module _ {A B : Type 0} (summary_of : List (ℕ × ℕ) → Summary A B) (side :
       by_found None (pop.Member key weight) is = absurd is
       by_found None pop.Refused is = absurd is
       by_found (Some k) pop.Empty is = absurd is
-      by_found (Some k) (pop.Member key weight) is = subst (λ (z : List Change). IsPrefix z new.knows.accepted) before (accepts_on (asked.Take weight) k outcome.Accepted p.asked.knows new.knows is.2.comes_to)
-      by_found (Some k) pop.Refused is = subst (λ (z : List Change). IsPrefix z new.knows.accepted) before (accepts_on (asked.Take is.0) k outcome.Refused p.asked.knows new.knows is.2.comes_to)
+      by_found (Some k) (pop.Member key weight) is = subst (λ (z : List Change). IsPrefix z new.knows.accepted) before (_, is.2.steps.stored)
+      by_found (Some k) pop.Refused is = subst (λ (z : List Change). IsPrefix z new.knows.accepted) before (_, is.2.steps.stored)
 
   -- after a pop that was refused a handle is where it may make another one
   pub refused_pop_follows : (a b : HandleFacts) → Makes 1 (Pops summary_of side pop.Refused) a b → Follows a b

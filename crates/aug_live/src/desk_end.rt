@@ -1,7 +1,7 @@
 //! The desk, and the ends of its lock.
 ghost use Rattle.std.specs.Prelude.{◌≡◌, [], ◌∷◌, All, ◌+◌, ◌<◌, ◌≤◌, IfOk, IfErr, IsErr, IsSome, None, Some, length, vec_len, vec_capacity, true};
 ghost use Rattle.std.specs.Arc.{arc_value};
-ghost use Rattle.ruled_lock.specs.Locks.{Holds, HoldsNothing, IsSamePass, client_of};
+ghost use Rattle.ruled_lock.specs.Locks.{Holds, HoldsNothing, IsSameKey, client_of};
 ghost use mathlib.Core.Option.{some};
 ghost use lib.ListN.{get_elem?};
 ghost use Rattle.atomic_table.specs.Seated.{TableId};
@@ -21,7 +21,7 @@ use crate::work::SharedRound;
 use atomic_table::Split;
 use aug_monoid::Monoid;
 use aug_trie::{Members, Note, PassHalf};
-use ruled_lock::{Lesson, LockRule, Outcome, Pass, Patience, RuledLock, Tries};
+use ruled_lock::{Key, Lesson, LockRule, Patience, RuledLock, Transition, Tries};
 use std::alloc::{AllocError, Global};
 use std::marker::Model;
 use std::sync::Arc;
@@ -86,7 +86,7 @@ impl<A: Monoid, B: Monoid> Lesson<Desk<A, B>, DeskView<A, B>> for ReadOwn {
 /// What an end knows that puts something there.
 pub(crate) struct Lay;
 
-impl<A: Monoid, B: Monoid> Outcome<Desk<A, B>, DeskView<A, B>> for Lay {
+impl<A: Monoid, B: Monoid> Transition<Desk<A, B>, DeskView<A, B>> for Lay {
     ghost use Rattle.aug_live.specs.inside.DeskKnowledge.{is_known};
 
     ghost then = { is_known };
@@ -108,7 +108,7 @@ pub(crate) type DeskLock<A, B> = RuledLock<Desk<A, B>, DeskView<A, B>, DeskRule>
 #[derive(Drop)]
 pub(crate) struct OwnerEnd<A: Monoid, B: Monoid> {
     lock: Arc<DeskLock<A, B>, Global>,
-    pass: Pass<Desk<A, B>, DeskView<A, B>>,
+    key: Key<Desk<A, B>, DeskView<A, B>>,
 }
 
 impl<A: Monoid, B: Monoid> Model for OwnerEnd<A, B> {
@@ -120,16 +120,16 @@ impl<A: Monoid, B: Monoid> Model for OwnerEnd<A, B> {
 
     ghost Value = { TrieFacts };
 
-    ghost view = { λ e. client_of e.pass };
+    ghost view = { λ e. client_of e.key };
 
-    ghost invariant = { λ e. (e.pass.table_id ≡ (arc_value e.lock).table.shared.table_id) × HoldsNothing e.pass × IsOwner e.pass.id (client_of e.pass) };
+    ghost invariant = { λ e. (e.key.table_id ≡ (arc_value e.lock).table.shared.table_id) × HoldsNothing e.key × IsOwner e.key.id (client_of e.key) };
 }
 
 /// A handle's end of the desk's lock.
 #[derive(Drop)]
 pub(crate) struct DeskEnd<A: Monoid, B: Monoid> {
     lock: Arc<DeskLock<A, B>, Global>,
-    pass: Pass<Desk<A, B>, DeskView<A, B>>,
+    key: Key<Desk<A, B>, DeskView<A, B>>,
 }
 
 impl<A: Monoid, B: Monoid> Model for DeskEnd<A, B> {
@@ -140,9 +140,9 @@ impl<A: Monoid, B: Monoid> Model for DeskEnd<A, B> {
 
     ghost Value = { TrieFacts };
 
-    ghost view = { λ e. client_of e.pass };
+    ghost view = { λ e. client_of e.key };
 
-    ghost invariant = { λ e. (e.pass.table_id ≡ (arc_value e.lock).table.shared.table_id) × HoldsNothing e.pass };
+    ghost invariant = { λ e. (e.key.table_id ≡ (arc_value e.lock).table.shared.table_id) × HoldsNothing e.key };
 }
 
 /// One more owner of the desk's lock.
@@ -164,14 +164,14 @@ impl<A: Monoid, B: Monoid> Model for DeskShare<A, B> {
 #[derive(Drop)]
 pub(crate) struct NewDesk<A: Monoid, B: Monoid> {
     lock: Arc<DeskLock<A, B>, Global>,
-    pass: Pass<Desk<A, B>, DeskView<A, B>>,
+    key: Key<Desk<A, B>, DeskView<A, B>>,
     theirs: Vec<DeskShare<A, B>>,
     pub(crate) ends: Vec<DeskEnd<A, B>>,
-    ghost of: { pass.table_id ≡ (arc_value lock).table.shared.table_id },
-    ghost first: { pass.id ≡ 0 },
-    ghost same_lock: { All (λ s. s ≡ pass.table_id) theirs.items },
-    ghost out: { IsSome pass.me.0.taken × (pass.me.1 ≡ (8, None) ∷ []) },
-    ghost no_trie: { (client_of pass).bits ≡ 0 },
+    ghost of: { key.table_id ≡ (arc_value lock).table.shared.table_id },
+    ghost first: { key.id ≡ 0 },
+    ghost same_lock: { All (λ s. s ≡ key.table_id) theirs.items },
+    ghost out: { IsSome key.me.0.taken × (key.me.1 ≡ (8, None) ∷ []) },
+    ghost no_trie: { (client_of key).bits ≡ 0 },
     ghost none: { ends.items ≡ [] },
     ghost room: { vec_len theirs ≤ vec_capacity ends },
 }
@@ -202,16 +202,16 @@ impl<A: Monoid, B: Monoid> NewDesk<A, B> {
             working: None,
             opened: false,
         };
-        let (lock, mut pass) = RuledLock::new(alloc, desk)?;
+        let (lock, mut key) = RuledLock::new(alloc, desk)?;
         let Ok(lock) = Arc::new(alloc, lock) else {
             return Err(AllocError);
         };
         let theirs = new_shares(alloc, &lock, handles)?;
         let ends = Vec::with_capacity(alloc, handles as usize)?;
-        match lock.take::<Read, Tries>(&Tries, &mut pass) {
+        match lock.take::<Read, Tries>(&Tries, &mut key) {
             Ok(_) => Ok(NewDesk {
                 lock,
-                pass,
+                key,
                 theirs,
                 ends,
             }),
@@ -228,7 +228,7 @@ impl<A: Monoid, B: Monoid> NewDesk<A, B> {
     {
         let NewDesk {
             lock,
-            mut pass,
+            mut key,
             theirs,
             mut ends,
         } = self;
@@ -237,12 +237,12 @@ impl<A: Monoid, B: Monoid> NewDesk<A, B> {
             working: Some(working),
             opened: true,
         };
-        lock.put::<Lay>(&mut pass, desk);
-        let mut mine = OwnerEnd { lock, pass };
+        lock.put::<Lay>(&mut key, desk);
+        let mut mine = OwnerEnd { lock, key };
         for share in theirs {
             let DeskShare { lock } = share;
-            let pass = mine.lock.another::<Same>(&mut mine.pass);
-            ends.push_reserved(DeskEnd { lock, pass });
+            let key = mine.lock.another::<Same>(&mut mine.key);
+            ends.push_reserved(DeskEnd { lock, key });
         }
         (mine, ends)
     }
@@ -255,8 +255,8 @@ impl<A: Monoid, B: Monoid> OwnerEnd<A, B> {
         ensures knows { IfOk result (λ e. e ≡ self.old) }
     {
         let lock = Arc::try_clone(&self.lock)?;
-        let pass = self.lock.another::<Same>(&mut self.pass);
-        Ok(DeskEnd { lock, pass })
+        let key = self.lock.another::<Same>(&mut self.key);
+        Ok(DeskEnd { lock, key })
     }
 
     /// Rolls the round over.
@@ -266,10 +266,10 @@ impl<A: Monoid, B: Monoid> OwnerEnd<A, B> {
         ensures rolls { IfOk result (λ _. length self.old.rounds.past < length self.new.rounds.past) }
         ensures refused { IfErr result (IfRefused (RefusesRoll self.new)) }
     {
-        match take_own(how, &self.lock, &mut self.pass) {
+        match take_own(how, &self.lock, &mut self.key) {
             Ok(working) => {
                 let (working, done) = working.roll(how);
-                lay_on(&self.lock, &mut self.pass, working);
+                lay_on(&self.lock, &mut self.key, working);
                 done
             }
             Err(missed) => Err(TryError::Again(missed)),
@@ -298,18 +298,18 @@ impl<A: Monoid, B: Monoid> OwnerEnd<A, B> {
         ensures same { IfErr result (λ e. e.0 ≡ end) }
         ensures refused { IfErr result (λ e. IfRefused (RefusesBack lane number self.new) e.1) }
     {
-        match take_own(how, &self.lock, &mut self.pass) {
+        match take_own(how, &self.lock, &mut self.key) {
             Ok(working) => {
                 let (working, settled) = working.settle(how);
                 match settled {
                     Ok(()) => {
                         let mut working = working.learn(note);
                         let done = working.back(how, lane, number, end);
-                        lay_on(&self.lock, &mut self.pass, working);
+                        lay_on(&self.lock, &mut self.key, working);
                         done
                     }
                     Err(cause) => {
-                        lay_on(&self.lock, &mut self.pass, working);
+                        lay_on(&self.lock, &mut self.key, working);
                         Err((end, cause))
                     }
                 }
@@ -331,17 +331,17 @@ impl<A: Monoid, B: Monoid> OwnerEnd<A, B> {
         ensures refused { IfErr result (IfRefused (RefusesHandle lane self.new)) }
         ensures past { length self.old.lanes ≤ lane → IsErr result }
     {
-        match take_own(how, &self.lock, &mut self.pass) {
+        match take_own(how, &self.lock, &mut self.key) {
             Ok(working) => {
                 let (mut working, settled) = working.settle(how);
                 match settled {
                     Ok(()) => {
                         let renewed = working.renew(how, lane);
-                        lay_on(&self.lock, &mut self.pass, working);
+                        lay_on(&self.lock, &mut self.key, working);
                         renewed
                     }
                     Err(cause) => {
-                        lay_on(&self.lock, &mut self.pass, working);
+                        lay_on(&self.lock, &mut self.key, working);
                         Err(cause)
                     }
                 }
@@ -360,23 +360,23 @@ impl<A: Monoid, B: Monoid> OwnerEnd<A, B> {
         ensures more { IfErr result (λ e. KnowsMore self e.0) }
         ensures given { IfErr result (λ e. e.0.given ≡ self.given) }
     {
-        let OwnerEnd { lock, mut pass } = self;
-        match take_own(how, &lock, &mut pass) {
+        let OwnerEnd { lock, mut key } = self;
+        match take_own(how, &lock, &mut key) {
             Ok(working) => match working.stop(how) {
                 Ok(closed) => {
                     let none = Desk {
                         working: None,
                         opened: true,
                     };
-                    lock.put::<Lay>(&mut pass, none);
+                    lock.put::<Lay>(&mut key, none);
                     Ok(closed)
                 }
                 Err((working, missed)) => {
-                    lay_on(&lock, &mut pass, working);
-                    Err((OwnerEnd { lock, pass }, missed))
+                    lay_on(&lock, &mut key, working);
+                    Err((OwnerEnd { lock, key }, missed))
                 }
             },
-            Err(missed) => Err((OwnerEnd { lock, pass }, missed)),
+            Err(missed) => Err((OwnerEnd { lock, key }, missed)),
         }
     }
 }
@@ -387,10 +387,10 @@ impl<A: Monoid, B: Monoid> DeskEnd<A, B> {
         ensures more { KnowsMore self.old self.new }
         ensures refused { IfErr result (IfRefused (RefusesRound self.new)) }
     {
-        match take_round(how, &self.lock, &mut self.pass) {
+        match take_round(how, &self.lock, &mut self.key) {
             Ok(working) => {
                 let (working, done) = working.settle(how);
-                lay_on(&self.lock, &mut self.pass, working);
+                lay_on(&self.lock, &mut self.key, working);
                 done
             }
             Err(cause) => Err(cause),
@@ -407,10 +407,10 @@ impl<A: Monoid, B: Monoid> DeskEnd<A, B> {
         ensures more { KnowsMore self.old self.new }
         ensures refused { IfErr result (IfRefused (RefusesRound self.new)) }
     {
-        match take_round(how, &self.lock, &mut self.pass) {
+        match take_round(how, &self.lock, &mut self.key) {
             Ok(working) => {
                 let (working, done) = working.past(how, era, lane);
-                lay_on(&self.lock, &mut self.pass, working);
+                lay_on(&self.lock, &mut self.key, working);
                 done
             }
             Err(cause) => Err(cause),
@@ -422,19 +422,19 @@ impl<A: Monoid, B: Monoid> DeskEnd<A, B> {
 fn take_own<W: Patience, A: Monoid, B: Monoid>(
     how: &W,
     lock: &DeskLock<A, B>,
-    pass: &mut Pass<Desk<A, B>, DeskView<A, B>>,
+    key: &mut Key<Desk<A, B>, DeskView<A, B>>,
 ) -> Result<Working<A, B>, W::GaveUp>
-    requires lock { pass.old.table_id ≡ lock.now.table.shared.table_id }
-    requires free { HoldsNothing pass.old }
-    requires owner { IsOwner pass.old.id (client_of pass.old) }
-    ensures same { IsSamePass pass.old pass.new }
-    ensures view { client_of pass.new ≡ client_of pass.old }
-    ensures holds { IfOk result (λ t. Holds (record { working = Some t; opened = true }) None pass.new) }
-    ensures knows { IfOk result (λ t. KnowsMore (client_of pass.old) t) }
-    ensures given { IfOk result (λ t. t.given ≡ (client_of pass.old).given) }
-    ensures free { IfErr result (λ _. HoldsNothing pass.new) }
+    requires lock { key.old.table_id ≡ lock.now.table.shared.table_id }
+    requires free { HoldsNothing key.old }
+    requires owner { IsOwner key.old.id (client_of key.old) }
+    ensures same { IsSameKey key.old key.new }
+    ensures view { client_of key.new ≡ client_of key.old }
+    ensures holds { IfOk result (λ t. Holds (record { working = Some t; opened = true }) None key.new) }
+    ensures knows { IfOk result (λ t. KnowsMore (client_of key.old) t) }
+    ensures given { IfOk result (λ t. t.given ≡ (client_of key.old).given) }
+    ensures free { IfErr result (λ _. HoldsNothing key.new) }
 {
-    match lock.take::<ReadOwn, W>(how, pass) {
+    match lock.take::<ReadOwn, W>(how, key) {
         Ok(Desk { working, .. }) => match working {
             Some(working) => Ok(working),
             None => unreachable!(),
@@ -447,19 +447,19 @@ fn take_own<W: Patience, A: Monoid, B: Monoid>(
 fn take_round<W: Patience, A: Monoid, B: Monoid>(
     how: &W,
     lock: &DeskLock<A, B>,
-    pass: &mut Pass<Desk<A, B>, DeskView<A, B>>,
+    key: &mut Key<Desk<A, B>, DeskView<A, B>>,
 ) -> Result<Working<A, B>, TryError<W::GaveUp>>
-    requires lock { pass.old.table_id ≡ lock.now.table.shared.table_id }
-    requires free { HoldsNothing pass.old }
-    ensures same { IsSamePass pass.old pass.new }
-    ensures view { IfOk result (λ _. client_of pass.new ≡ client_of pass.old) }
-    ensures more { KnowsMore (client_of pass.old) (client_of pass.new) }
-    ensures holds { IfOk result (λ t. Holds (record { working = Some t; opened = true }) None pass.new) }
-    ensures knows { IfOk result (λ t. KnowsMore (client_of pass.old) t) }
-    ensures free { IfErr result (λ _. HoldsNothing pass.new) }
-    ensures refused { IfErr result (IfRefused (λ cause. (cause ≡ LiveError.Closed) × ((client_of pass.new).closed ≡ true))) }
+    requires lock { key.old.table_id ≡ lock.now.table.shared.table_id }
+    requires free { HoldsNothing key.old }
+    ensures same { IsSameKey key.old key.new }
+    ensures view { IfOk result (λ _. client_of key.new ≡ client_of key.old) }
+    ensures more { KnowsMore (client_of key.old) (client_of key.new) }
+    ensures holds { IfOk result (λ t. Holds (record { working = Some t; opened = true }) None key.new) }
+    ensures knows { IfOk result (λ t. KnowsMore (client_of key.old) t) }
+    ensures free { IfErr result (λ _. HoldsNothing key.new) }
+    ensures refused { IfErr result (IfRefused (λ cause. (cause ≡ LiveError.Closed) × ((client_of key.new).closed ≡ true))) }
 {
-    match lock.take::<Read, W>(how, pass) {
+    match lock.take::<Read, W>(how, key) {
         Ok(Desk { working, opened }) => match working {
             Some(working) => Ok(working),
             None => {
@@ -467,7 +467,7 @@ fn take_round<W: Patience, A: Monoid, B: Monoid>(
                     working: None,
                     opened,
                 };
-                lock.put::<Lay>(pass, none);
+                lock.put::<Lay>(key, none);
                 Err(TryError::Refused(LiveError::Closed))
             }
         },
@@ -478,21 +478,21 @@ fn take_round<W: Patience, A: Monoid, B: Monoid>(
 // Lays the round there again, or the next one. Only the owner may have made a handle meanwhile.
 fn lay_on<A: Monoid, B: Monoid>(
     lock: &DeskLock<A, B>,
-    pass: &mut Pass<Desk<A, B>, DeskView<A, B>>,
+    key: &mut Key<Desk<A, B>, DeskView<A, B>>,
     working: Working<A, B>,
 )
-    requires lock { pass.old.table_id ≡ lock.now.table.shared.table_id }
-    requires goes_on { GoesOnFrom pass.old working }
-    ensures same { IsSamePass pass.old pass.new }
-    ensures free { HoldsNothing pass.new }
-    ensures view { client_of pass.new ≡ working }
-    ensures owner { IsOwner pass.old.id (client_of pass.old) → IsOwner pass.new.id (client_of pass.new) }
-    ensures more { KnowsMore (client_of pass.old) (client_of pass.new) }
+    requires lock { key.old.table_id ≡ lock.now.table.shared.table_id }
+    requires goes_on { GoesOnFrom key.old working }
+    ensures same { IsSameKey key.old key.new }
+    ensures free { HoldsNothing key.new }
+    ensures view { client_of key.new ≡ working }
+    ensures owner { IsOwner key.old.id (client_of key.old) → IsOwner key.new.id (client_of key.new) }
+    ensures more { KnowsMore (client_of key.old) (client_of key.new) }
 {
     let _bits = working.bits;
     let desk = Desk {
         working: Some(working),
         opened: true,
     };
-    lock.put::<Lay>(pass, desk);
+    lock.put::<Lay>(key, desk);
 }

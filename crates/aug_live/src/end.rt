@@ -10,7 +10,7 @@ use crate::known::Known;
 use crate::lane::{Lane, Obstacle};
 use crate::tie::{Deal, Keep, Learn, Leave, Meet, Parts, PassBy, Renumber, Settle, Tie, Work};
 use aug_monoid::Monoid;
-use ruled_lock::{Pass, Patience, RuledLock, Tries};
+use ruled_lock::{Key, Patience, RuledLock, Tries};
 use std::alloc::{AllocError, Global};
 use std::marker::Model;
 use std::sync::Arc;
@@ -19,13 +19,13 @@ use std::sync::Arc;
 pub(crate) type LaneLock<A, B> = RuledLock<Lane<A, B>, Known<A, B>, Tie>;
 
 /// A pass of the lock of a lane.
-pub(crate) type LanePass<A, B> = Pass<Lane<A, B>, Known<A, B>>;
+pub(crate) type LaneKey<A, B> = Key<Lane<A, B>, Known<A, B>>;
 
 /// An end of a lane: the roller's, or a handle's.
 #[derive(Drop)]
 pub(crate) struct End<A: Monoid, B: Monoid> {
     lock: Arc<LaneLock<A, B>, Global>,
-    pass: LanePass<A, B>,
+    key: LaneKey<A, B>,
 }
 
 impl<A: Monoid, B: Monoid> Model for End<A, B> {
@@ -36,16 +36,16 @@ impl<A: Monoid, B: Monoid> Model for End<A, B> {
 
     ghost Value = { EndFacts };
 
-    ghost view = { λ e. record { lock = (arc_value e.lock).table.shared.table_id; known = client_of e.pass } };
+    ghost view = { λ e. record { lock = (arc_value e.lock).table.shared.table_id; known = client_of e.key } };
 
-    ghost invariant = { λ e. (e.pass.table_id ≡ (arc_value e.lock).table.shared.table_id) × HoldsNothing e.pass };
+    ghost invariant = { λ e. (e.key.table_id ≡ (arc_value e.lock).table.shared.table_id) × HoldsNothing e.key };
 }
 
 /// The same while it has what lies in the lane.
 #[derive(Drop)]
 pub(crate) struct Out<A: Monoid, B: Monoid> {
     lock: Arc<LaneLock<A, B>, Global>,
-    pass: LanePass<A, B>,
+    key: LaneKey<A, B>,
 }
 
 impl<A: Monoid, B: Monoid> Model for Out<A, B> {
@@ -56,9 +56,9 @@ impl<A: Monoid, B: Monoid> Model for Out<A, B> {
 
     ghost Value = { OutFacts };
 
-    ghost view = { λ o. record { lock = (arc_value o.lock).table.shared.table_id; known = client_of o.pass; taken = taken_by o.pass.me.0.taken } };
+    ghost view = { λ o. record { lock = (arc_value o.lock).table.shared.table_id; known = client_of o.key; taken = taken_by o.key.me.0.taken } };
 
-    ghost invariant = { λ o. (o.pass.table_id ≡ (arc_value o.lock).table.shared.table_id) × IsSome o.pass.me.0.taken × (o.pass.me.1 ≡ (8, None) ∷ []) };
+    ghost invariant = { λ o. (o.key.table_id ≡ (arc_value o.lock).table.shared.table_id) × IsSome o.key.me.0.taken × (o.key.me.1 ≡ (8, None) ∷ []) };
 }
 
 /// A new lane, of which what lies there is taken out, and one more owner of its lock.
@@ -76,12 +76,12 @@ impl<A: Monoid, B: Monoid> Berth<A, B> {
         ensures known { IfOk result (λ b. b.out.known ≡ knows_nothing Alone) }
         ensures number { IfOk result (λ b. b.out.taken.number ≡ 0) }
     {
-        let (lock, pass) = RuledLock::new(alloc, Lane::new(alloc)?)?;
+        let (lock, key) = RuledLock::new(alloc, Lane::new(alloc)?)?;
         let Ok(lock) = Arc::new(alloc, lock) else {
             return Err(AllocError);
         };
         let theirs = Arc::try_clone(&lock)?;
-        match (End { lock, pass }).take(&Tries) {
+        match (End { lock, key }).take(&Tries) {
             Ok((out, lane)) => Ok(Berth { out, lane, theirs }),
             Err(_) => Err(AllocError),
         }
@@ -103,13 +103,13 @@ impl<A: Monoid, B: Monoid> End<A, B> {
         requires lock { (arc_value theirs).table.shared.table_id ≡ self.lock }
         ensures { (result.0 ≡ record self { known = given_out self.known }) × (result.1 ≡ record self { known = handed self.known }) }
     {
-        let End { lock, mut pass } = self;
-        let other = lock.another::<Parts>(&mut pass);
+        let End { lock, mut key } = self;
+        let other = lock.another::<Parts>(&mut key);
         (
-            End { lock, pass },
+            End { lock, key },
             End {
                 lock: theirs,
-                pass: other,
+                key: other,
             },
         )
     }
@@ -172,10 +172,10 @@ impl<A: Monoid, B: Monoid> End<A, B> {
         ensures knows { IfOk result (λ t. Learnt self.known t.1) }
         ensures same { IfErr result (λ e. e.0 ≡ self) }
     {
-        let End { lock, mut pass } = self;
-        match lock.take::<Learn, W>(how, &mut pass) {
-            Ok(lane) => Ok((Out { lock, pass }, lane)),
-            Err(missed) => Err((End { lock, pass }, missed)),
+        let End { lock, mut key } = self;
+        match lock.take::<Learn, W>(how, &mut key) {
+            Ok(lane) => Ok((Out { lock, key }, lane)),
+            Err(missed) => Err((End { lock, key }, missed)),
         }
     }
 }
@@ -190,10 +190,10 @@ impl<A: Monoid, B: Monoid> Out<A, B> {
         requires lock { other.lock ≡ self.lock }
         ensures { result ≡ record self { known = taken_in self.known other.known } }
     {
-        let Out { lock, mut pass } = self;
-        let End { pass: other, .. } = other;
-        lock.join::<Meet>(&mut pass, other);
-        Out { lock, pass }
+        let Out { lock, mut key } = self;
+        let End { key: other, .. } = other;
+        lock.join::<Meet>(&mut key, other);
+        Out { lock, key }
     }
 
     /// Puts the lane back, with what its handle made of it.
@@ -205,9 +205,9 @@ impl<A: Monoid, B: Monoid> Out<A, B> {
         requires worked { Worked self.taken lane }
         ensures { result ≡ record { lock = self.lock; known = worked self.known self.taken lane } }
     {
-        let Out { lock, mut pass } = self;
-        lock.put::<Work>(&mut pass, lane);
-        End { lock, pass }
+        let Out { lock, mut key } = self;
+        lock.put::<Work>(&mut key, lane);
+        End { lock, key }
     }
 
     /// Puts the lane back as it was.
@@ -216,9 +216,9 @@ impl<A: Monoid, B: Monoid> Out<A, B> {
         requires { lane ≡ self.taken }
         ensures { result ≡ record { lock = self.lock; known = self.known } }
     {
-        let Out { lock, mut pass } = self;
-        lock.put::<Keep>(&mut pass, lane);
-        End { lock, pass }
+        let Out { lock, mut key } = self;
+        lock.put::<Keep>(&mut key, lane);
+        End { lock, key }
     }
 
     /// Puts the lane back as it was, which has a newer handle than the one whose end this is.
@@ -228,9 +228,9 @@ impl<A: Monoid, B: Monoid> Out<A, B> {
         requires same { lane ≡ self.taken }
         ensures { result ≡ record { lock = self.lock; known = passed_by self.known } }
     {
-        let Out { lock, mut pass } = self;
-        lock.put::<PassBy>(&mut pass, lane);
-        End { lock, pass }
+        let Out { lock, mut key } = self;
+        lock.put::<PassBy>(&mut key, lane);
+        End { lock, key }
     }
 
     /// Puts the lane back with the pass that the roller took, or with none.
@@ -241,9 +241,9 @@ impl<A: Monoid, B: Monoid> Out<A, B> {
         requires number { (lane.number ≡ self.taken.number) × (lane.is_out ≡ self.taken.is_out) }
         ensures { result ≡ record { lock = self.lock; known = left self.known lane } }
     {
-        let Out { lock, mut pass } = self;
-        lock.put::<Leave>(&mut pass, lane);
-        End { lock, pass }
+        let Out { lock, mut key } = self;
+        lock.put::<Leave>(&mut key, lane);
+        End { lock, key }
     }
 
     /// Puts the lane of a handle that came back in as it was, but for the mark.
@@ -253,9 +253,9 @@ impl<A: Monoid, B: Monoid> Out<A, B> {
         requires same { lane ≡ record self.taken { is_out = false } }
         ensures { result ≡ record { lock = self.lock; known = settled self.known lane } }
     {
-        let Out { lock, mut pass } = self;
-        lock.put::<Settle>(&mut pass, lane);
-        End { lock, pass }
+        let Out { lock, mut key } = self;
+        lock.put::<Settle>(&mut key, lane);
+        End { lock, key }
     }
 
     /// Puts the lane back with a new pass.
@@ -268,9 +268,9 @@ impl<A: Monoid, B: Monoid> Out<A, B> {
         requires none_accepted { lane.at.half.knows.accepted ≡ [] }
         ensures { result ≡ record { lock = self.lock; known = dealt self.known self.taken lane } }
     {
-        let Out { lock, mut pass } = self;
-        lock.put::<Deal>(&mut pass, lane);
-        End { lock, pass }
+        let Out { lock, mut key } = self;
+        lock.put::<Deal>(&mut key, lane);
+        End { lock, key }
     }
 
     /// Puts the lane back with a number that no handle has.
@@ -282,8 +282,8 @@ impl<A: Monoid, B: Monoid> Out<A, B> {
         requires whole { IsWhole self.known lane.at }
         ensures { result ≡ record { lock = self.lock; known = renumbered self.known lane } }
     {
-        let Out { lock, mut pass } = self;
-        lock.put::<Renumber>(&mut pass, lane);
-        End { lock, pass }
+        let Out { lock, mut key } = self;
+        lock.put::<Renumber>(&mut key, lane);
+        End { lock, key }
     }
 }

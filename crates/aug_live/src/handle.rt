@@ -3,7 +3,7 @@ ghost use Rattle.std.specs.Prelude.{◌≡◌, ◌≢◌, ℕ, ◌^◌, ◌<◌,
 ghost use Rattle.std.specs.Bool.{OnTrue, OnFalse};
 ghost use Rattle.aug_trie.specs.Knowledge.{insertion, removal};
 ghost use Rattle.aug_trie.specs.declared.updates.request.Request.TheVariants as asked;
-ghost use Rattle.aug_trie.specs.Updates.{AcceptedUpdate, RefusedUpdate, ComesTo, TakesSnapshot};
+ghost use Rattle.aug_trie.specs.Updates.{AcceptedUpdate, RefusedUpdate, TakesSnapshot, Updates};
 ghost use Rattle.aug_trie.specs.Snapshot.{snapshot_cut};
 ghost use Rattle.aug_trie.specs.Chains.{IsPart};
 ghost use Rattle.aug_trie.specs.Note.{chain_of_note};
@@ -23,7 +23,7 @@ use crate::lane::{Lane, Obstacle};
 use crate::look::Look;
 use crate::work::SharedRound;
 use aug_monoid::{Extent, Monoid};
-use aug_trie::{Note, Outcome, Pop, Request, Side};
+use aug_trie::{Note, Outcome, Pop, Request, Side, Told};
 use ruled_lock::{Patience, Tries, Waits};
 use std::marker::Model;
 use std::sync::Wait;
@@ -70,7 +70,7 @@ impl<A: Monoid, B: Monoid> Handle<A, B> {
         ensures not_made { IfErr result (λ _. Follows self.old self.new) }
         ensures refused { IfErr result (RefusesCall self.new) }
     {
-        match self.update(rt, k, Request::Insert)? {
+        match self.update(rt, k, Request::Insert)?.outcome {
             Outcome::Accepted => Ok(true),
             _ => Ok(false),
         }
@@ -84,7 +84,7 @@ impl<A: Monoid, B: Monoid> Handle<A, B> {
         ensures not_made { IfErr result (λ _. Follows self.old self.new) }
         ensures refused { IfErr result (RefusesCall self.new) }
     {
-        match self.update(rt, k, Request::Remove)? {
+        match self.update(rt, k, Request::Remove)?.outcome {
             Outcome::Accepted => Ok(true),
             _ => Ok(false),
         }
@@ -92,9 +92,9 @@ impl<A: Monoid, B: Monoid> Handle<A, B> {
 
     /// Puts a key in with a weight, or gives a member this weight, as `Pass::put` does.
     #[inline(always)]
-    pub fn put<R: Wait>(&mut self, rt: &R, k: u32, weight: u32) -> Result<Outcome, LiveError>
+    pub fn put<R: Wait>(&mut self, rt: &R, k: u32, weight: u32) -> Result<Told, LiveError>
         requires key { k < 2 ^ self.old.half.round.bits }
-        ensures made { IfOk result (λ done. Makes 1 (λ a b. ComesTo (asked.Put weight) k done a.knows b.knows) self.old self.new) }
+        ensures made { IfOk result (λ told. Makes 1 (λ a b. Updates (asked.Put weight) k told a.knows b.knows) self.old self.new) }
         ensures not_made { IfErr result (λ _. Follows self.old self.new) }
         ensures refused { IfErr result (RefusesCall self.new) }
     {
@@ -103,10 +103,10 @@ impl<A: Monoid, B: Monoid> Handle<A, B> {
 
     /// Adds an amount to the weight of a key, as `Pass::add` does, and again if another change of the key came in between: so it is never
     /// `Refused`. That is lock-free, and no more: it goes around only after another call changed the key, and each time makes one more update.
-    pub fn add<R: Wait>(&mut self, rt: &R, k: u32, amount: u32) -> Result<Outcome, LiveError>
+    pub fn add<R: Wait>(&mut self, rt: &R, k: u32, amount: u32) -> Result<Told, LiveError>
         requires key { k < 2 ^ self.old.half.round.bits }
-        ensures made { IfOk result (λ done. Makes 1 (λ a b. ComesTo (asked.Add amount) k done a.knows b.knows) self.old self.new) }
-        ensures made_at_last { IfOk result (λ done. done ≢ Outcome.Refused) }
+        ensures made { IfOk result (λ told. Makes 1 (λ a b. Updates (asked.Add amount) k told a.knows b.knows) self.old self.new) }
+        ensures made_at_last { IfOk result (λ told. told.outcome ≢ Outcome.Refused) }
         ensures not_made { IfErr result (λ _. Follows self.old self.new) }
         ensures refused { IfErr result (RefusesCall self.new) }
     {
@@ -114,10 +114,10 @@ impl<A: Monoid, B: Monoid> Handle<A, B> {
     }
 
     /// Takes an amount from the weight of a member, as `Pass::sub` does, and again as `add`.
-    pub fn sub<R: Wait>(&mut self, rt: &R, k: u32, amount: u32) -> Result<Outcome, LiveError>
+    pub fn sub<R: Wait>(&mut self, rt: &R, k: u32, amount: u32) -> Result<Told, LiveError>
         requires key { k < 2 ^ self.old.half.round.bits }
-        ensures made { IfOk result (λ done. Makes 1 (λ a b. ComesTo (asked.Sub amount) k done a.knows b.knows) self.old self.new) }
-        ensures made_at_last { IfOk result (λ done. done ≢ Outcome.Refused) }
+        ensures made { IfOk result (λ told. Makes 1 (λ a b. Updates (asked.Sub amount) k told a.knows b.knows) self.old self.new) }
+        ensures made_at_last { IfOk result (λ told. told.outcome ≢ Outcome.Refused) }
         ensures not_made { IfErr result (λ _. Follows self.old self.new) }
         ensures refused { IfErr result (RefusesCall self.new) }
     {
@@ -125,23 +125,18 @@ impl<A: Monoid, B: Monoid> Handle<A, B> {
     }
 
     // Makes an update, and makes it again while another change of its key comes in between.
-    fn until_made<R: Wait>(
-        &mut self,
-        rt: &R,
-        k: u32,
-        request: Request,
-    ) -> Result<Outcome, LiveError>
+    fn until_made<R: Wait>(&mut self, rt: &R, k: u32, request: Request) -> Result<Told, LiveError>
         requires key { k < 2 ^ self.old.half.round.bits }
-        ensures made { IfOk result (λ done. Makes 1 (λ a b. ComesTo request k done a.knows b.knows) self.old self.new) }
-        ensures made_at_last { IfOk result (λ done. done ≢ Outcome.Refused) }
+        ensures made { IfOk result (λ told. Makes 1 (λ a b. Updates request k told a.knows b.knows) self.old self.new) }
+        ensures made_at_last { IfOk result (λ told. told.outcome ≢ Outcome.Refused) }
         ensures not_made { IfErr result (λ _. Follows self.old self.new) }
         ensures refused { IfErr result (RefusesCall self.new) }
     {
         for _ in rt.forever() {
-            let done = self.update(rt, k, request)?;
-            match done {
+            let told = self.update(rt, k, request)?;
+            match told.outcome {
                 Outcome::Refused => {}
-                _ => return Ok(done),
+                _ => return Ok(told),
             }
         }
         unreachable!()
@@ -149,20 +144,15 @@ impl<A: Monoid, B: Monoid> Handle<A, B> {
 
     /// Makes an update of a key, which comes to what `Pass::update` says, and rolls the round over if it must.
     #[inline(always)]
-    pub fn update<R: Wait>(
-        &mut self,
-        rt: &R,
-        k: u32,
-        request: Request,
-    ) -> Result<Outcome, LiveError>
+    pub fn update<R: Wait>(&mut self, rt: &R, k: u32, request: Request) -> Result<Told, LiveError>
         requires key { k < 2 ^ self.old.half.round.bits }
-        ensures made { IfOk result (λ done. Makes 1 (λ a b. ComesTo request k done a.knows b.knows) self.old self.new) }
+        ensures made { IfOk result (λ told. Makes 1 (λ a b. Updates request k told a.knows b.knows) self.old self.new) }
         ensures not_made { IfErr result (λ _. Follows self.old self.new) }
         ensures refused { IfErr result (RefusesCall self.new) }
     {
         for _ in rt.forever() {
             let obstacle = match self.attempt(k, request) {
-                Ok(done) => return Ok(done),
+                Ok(told) => return Ok(told),
                 Err(obstacle) => obstacle,
             };
             if let Err(cause) = self.wait_past(rt, obstacle) {
@@ -175,14 +165,14 @@ impl<A: Monoid, B: Monoid> Handle<A, B> {
     /// The same, and waits for nobody. `Again` if the lane is spent and somebody has the desk, or if a roll-over is due and another handle is in a
     /// call or holds a look. Then the lanes that the roll-over took wait for it, and whoever calls again goes on with it.
     #[inline(always)]
-    pub fn try_update(&mut self, k: u32, request: Request) -> Result<Outcome, TryError<Busy>>
+    pub fn try_update(&mut self, k: u32, request: Request) -> Result<Told, TryError<Busy>>
         requires key { k < 2 ^ self.old.half.round.bits }
-        ensures made { IfOk result (λ done. Makes 1 (λ a b. ComesTo request k done a.knows b.knows) self.old self.new) }
+        ensures made { IfOk result (λ told. Makes 1 (λ a b. Updates request k told a.knows b.knows) self.old self.new) }
         ensures not_made { IfErr result (λ _. Follows self.old self.new) }
         ensures refused { IfErr result (IfRefused (RefusesCall self.new)) }
     {
         match self.attempt(k, request) {
-            Ok(done) => Ok(done),
+            Ok(told) => Ok(told),
             Err(obstacle) => self.try_again(k, request, obstacle),
         }
     }
@@ -194,10 +184,10 @@ impl<A: Monoid, B: Monoid> Handle<A, B> {
         k: u32,
         request: Request,
         obstacle: Obstacle,
-    ) -> Result<Outcome, TryError<Busy>>
+    ) -> Result<Told, TryError<Busy>>
         requires key { k < 2 ^ self.old.half.round.bits }
         requires seen { Seen obstacle self.old.who.replaced }
-        ensures made { IfOk result (λ done. Makes 1 (λ a b. ComesTo request k done a.knows b.knows) self.old self.new) }
+        ensures made { IfOk result (λ told. Makes 1 (λ a b. Updates request k told a.knows b.knows) self.old self.new) }
         ensures not_made { IfErr result (λ _. Follows self.old self.new) }
         ensures refused { IfErr result (IfRefused (RefusesCall self.new)) }
     {
@@ -205,7 +195,7 @@ impl<A: Monoid, B: Monoid> Handle<A, B> {
             return Err(cause);
         }
         match self.attempt(k, request) {
-            Ok(done) => Ok(done),
+            Ok(told) => Ok(told),
             Err(obstacle) => Err(self.still(obstacle)),
         }
     }
@@ -274,6 +264,7 @@ impl<A: Monoid, B: Monoid> Handle<A, B> {
     /// long as the look exists it holds its lane: updates and looks of others continue, and a roll-over waits for it.
     pub fn look<R: Wait>(self, rt: &R) -> Result<Look<A, B>, (Handle<A, B>, LiveError)>
         ensures looks { IfOk result (λ look. Makes 0 (λ a b. TakesSnapshot a.knows b.knows (snapshot_cut b look.snapshot.number)) self (handle_of look)) }
+        ensures first { IfOk result (λ look. look.before ≡ look.snapshot) }
         ensures not_made { IfErr result (λ e. Follows self e.0) }
         ensures refused { IfErr result (λ e. RefusesCall e.0 e.1) }
     {
@@ -297,6 +288,7 @@ impl<A: Monoid, B: Monoid> Handle<A, B> {
     #[inline(always)]
     pub fn try_look(self) -> Result<Look<A, B>, (Handle<A, B>, TryError<Busy>)>
         ensures looks { IfOk result (λ look. Makes 0 (λ a b. TakesSnapshot a.knows b.knows (snapshot_cut b look.snapshot.number)) self (handle_of look)) }
+        ensures first { IfOk result (λ look. look.before ≡ look.snapshot) }
         ensures not_made { IfErr result (λ e. Follows self e.0) }
         ensures refused { IfErr result (λ e. IfRefused (RefusesCall e.0) e.1) }
     {
@@ -374,9 +366,9 @@ impl<A: Monoid, B: Monoid> Handle<A, B> {
 
     // Makes an update, unless the lane is held, the round has to roll over first, or a newer handle has the lane.
     #[inline(always)]
-    fn attempt(&mut self, k: u32, request: Request) -> Result<Outcome, Obstacle>
+    fn attempt(&mut self, k: u32, request: Request) -> Result<Told, Obstacle>
         requires key { k < 2 ^ self.old.half.round.bits }
-        ensures made { IfOk result (λ done. Makes 1 (λ a b. ComesTo request k done a.knows b.knows) self.old self.new) }
+        ensures made { IfOk result (λ told. Makes 1 (λ a b. Updates request k told a.knows b.knows) self.old self.new) }
         ensures not_made { IfErr result (λ _. Follows self.old self.new) }
         ensures seen { IfErr result (λ obstacle. Seen obstacle self.new.who.replaced) }
     {
@@ -390,9 +382,9 @@ impl<A: Monoid, B: Monoid> Handle<A, B> {
                 return Err(obstacle);
             }
         };
-        let (lane, done) = lane.update(&self.round, k, request);
+        let (lane, told) = lane.update(&self.round, k, request);
         self.end = Some(out.put(lane));
-        done
+        told
     }
 
     // Makes updates of the first keys, with the same exceptions.
@@ -430,6 +422,7 @@ impl<A: Monoid, B: Monoid> Handle<A, B> {
     #[inline(always)]
     fn attempt_look(self) -> Result<Look<A, B>, (Handle<A, B>, Obstacle)>
         ensures looks { IfOk result (λ look. Makes 0 (λ a b. TakesSnapshot a.knows b.knows (snapshot_cut b look.snapshot.number)) self (handle_of look)) }
+        ensures first { IfOk result (λ look. look.before ≡ look.snapshot) }
         ensures at_rest { IfErr result (λ e. Follows self e.0) }
         ensures seen { IfErr result (λ e. Seen e.1 e.0.who.replaced) }
     {

@@ -1,7 +1,7 @@
 //! What lies in a lane.
 ghost use Rattle.std.specs.Prelude.{◌≡◌, ℕ, ◌+◌, ◌^◌, ◌<◌, ◌≤◌, All, length, take, IfOk, IfErr, IsSome, Some, None, true, false};
 ghost use Rattle.std.specs.Option.{is_some};
-ghost use Rattle.aug_trie.specs.Updates.{ComesTo};
+ghost use Rattle.aug_trie.specs.Updates.{Updates};
 ghost use Rattle.aug_trie.specs.UpdateBatches.{DoesBatch};
 ghost use Rattle.aug_trie.specs.Chains.{IsPart};
 ghost use Rattle.aug_trie.specs.Node.{Keeps};
@@ -17,7 +17,7 @@ ghost use Rattle.aug_live.specs.inside.Looks.{LooksIn};
 
 use crate::ghost_value::GhostValue;
 use aug_monoid::{Extent, Monoid};
-use aug_trie::{Note, Outcome, PassHalf, Pop, Request, Round, Side, Snapshot};
+use aug_trie::{Note, Outcome, PassHalf, Pop, Request, Round, Side, Snapshot, Told};
 use ruled_lock::WasOut;
 use std::alloc::{AllocError, Global};
 use std::marker::Model;
@@ -191,10 +191,10 @@ impl<A: Monoid, B: Monoid> Lane<A, B> {
         round: &Round<A, B>,
         k: u32,
         request: Request,
-    ) -> (Lane<A, B>, Result<Outcome, Obstacle>)
+    ) -> (Lane<A, B>, Result<Told, Obstacle>)
         requires together { table_of self.at.half.round ≡ round.now }
         requires key { k < 2 ^ self.at.half.round.bits }
-        ensures made { IfOk result.1 (λ done. WorksHere 1 (λ a b. ComesTo request k done a.knows b.knows) self.at result.0.at) }
+        ensures made { IfOk result.1 (λ told. WorksHere 1 (λ a b. Updates request k told a.knows b.knows) self.at result.0.at) }
         ensures same { IfErr result.1 (λ _. result.0.at ≡ self.at) }
         ensures spent { IfErr result.1 (λ _. IsSpent self) }
         ensures seen { IfErr result.1 (λ obstacle. Seen obstacle false) }
@@ -210,8 +210,8 @@ impl<A: Monoid, B: Monoid> Lane<A, B> {
             return (rest.with(work), Err(Obstacle::Round(era)));
         }
         let mut pass = round.pass(work);
-        let done = pass.update(k, request);
-        (rest.with(pass.into_half()), Ok(done))
+        let told = pass.update(k, request);
+        (rest.with(pass.into_half()), Ok(told))
     }
 
     /// Makes an update of each of the first keys, of as many as are left, unless none is left or no pass lies in the lane.

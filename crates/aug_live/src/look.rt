@@ -2,6 +2,7 @@
 ghost use Rattle.std.specs.Prelude.{◌≡◌, take};
 ghost use Rattle.aug_model.specs.Differences.{changes_from};
 ghost use Rattle.aug_model.specs.Folds.{summary_of};
+ghost use Rattle.aug_query.specs.BothMembers.{since_loads};
 ghost use Rattle.aug_trie.specs.Comparing.{compare_steps};
 ghost use Rattle.aug_trie.specs.Node.{steps_for};
 ghost use Rattle.aug_live.specs.LiveHandles.{handle_of, set_before, set_of_look, IsAsked, LooksAgain};
@@ -12,8 +13,8 @@ use crate::handle::Handle;
 use crate::lane::{Lane, Parts};
 use crate::work::SharedRound;
 use aug_monoid::Monoid;
-use aug_query::Query;
-use aug_query::descent::Changes;
+use aug_query::descent::{Changes, ChangesSince};
+use aug_query::{MemberList, Query};
 use aug_trie::Snapshot;
 use std::alloc::Global;
 use std::marker::Model;
@@ -78,6 +79,17 @@ impl<A: Monoid, B: Monoid> Look<A, B> {
         let page = pass.changes(self.before, self.held, from);
         self.parts.put(pass.into_half());
         page
+    }
+
+    /// What changed between a set that the caller listed and the snapshot that the look shows, among the keys from `from` on: a page of at most 32
+    /// changes, as `changes` gives. The list is what an earlier look gave, by the query `AllMembers` of `aug_trie`, also one of an earlier round or with
+    /// fewer bits. The two are compared member by member: a page takes at most `3 * bits * (n + 1) + 2` steps, where `n` members from `from` on are in
+    /// the list and in the snapshot together, however few of them changed.
+    pub fn changes_since<L: MemberList>(&mut self, before: &L, from: u32) -> Changes
+        ensures answer { result.items ≡ take 32 (changes_from (L.set_of before.now) (set_of_look self.old) from) }
+        ensures asked { IsAsked (summary_of A.parts B.parts) (steps_for (since_loads (L.set_of before.now) (set_of_look self.old) from)) self.old self.new }
+    {
+        self.ask(ChangesSince { before, from })
     }
 
     /// Takes a newer snapshot, in the same round, without letting the lane go. `changes` compares it with the one before.

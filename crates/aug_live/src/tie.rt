@@ -7,7 +7,7 @@ use crate::known::Known;
 use crate::lane::Lane;
 use atomic_table::{Join, Split};
 use aug_monoid::Monoid;
-use ruled_lock::{Lesson, LockRule, Outcome};
+use ruled_lock::{Lesson, LockRule, Transition};
 
 /// The rule of a lane's lock: the roller's pass knows the round that the lane is of, and the handle's what it left there.
 pub(crate) struct Tie;
@@ -31,49 +31,49 @@ impl<A: Monoid, B: Monoid> Lesson<Lane<A, B>, Known<A, B>> for Learn {
 /// What a handle's pass knows that puts a lane back.
 pub(crate) struct Work;
 
-impl<A: Monoid, B: Monoid> Outcome<Lane<A, B>, Known<A, B>> for Work {
+impl<A: Monoid, B: Monoid> Transition<Lane<A, B>, Known<A, B>> for Work {
     ghost then = { λ v old new w. w ≡ worked v old new };
 }
 
 /// What a pass knows that puts a lane back as it was: what it knew.
 pub(crate) struct Keep;
 
-impl<A: Monoid, B: Monoid> Outcome<Lane<A, B>, Known<A, B>> for Keep {
+impl<A: Monoid, B: Monoid> Transition<Lane<A, B>, Known<A, B>> for Keep {
     ghost then = { λ v old new w. w ≡ v };
 }
 
 /// What a handle's pass knows that puts a lane back in which it found a newer handle.
 pub(crate) struct PassBy;
 
-impl<A: Monoid, B: Monoid> Outcome<Lane<A, B>, Known<A, B>> for PassBy {
+impl<A: Monoid, B: Monoid> Transition<Lane<A, B>, Known<A, B>> for PassBy {
     ghost then = { λ v old new w. w ≡ passed_by v };
 }
 
 /// What the roller's knows that puts a lane back with the pass that it had, or with none.
 pub(crate) struct Leave;
 
-impl<A: Monoid, B: Monoid> Outcome<Lane<A, B>, Known<A, B>> for Leave {
+impl<A: Monoid, B: Monoid> Transition<Lane<A, B>, Known<A, B>> for Leave {
     ghost then = { λ v old new w. w ≡ left v new };
 }
 
 /// What the roller's knows that marks a lane whose handle came back.
 pub(crate) struct Settle;
 
-impl<A: Monoid, B: Monoid> Outcome<Lane<A, B>, Known<A, B>> for Settle {
+impl<A: Monoid, B: Monoid> Transition<Lane<A, B>, Known<A, B>> for Settle {
     ghost then = { λ v old new w. w ≡ settled v new };
 }
 
 /// What the roller's knows that puts a new pass into a lane.
 pub(crate) struct Deal;
 
-impl<A: Monoid, B: Monoid> Outcome<Lane<A, B>, Known<A, B>> for Deal {
+impl<A: Monoid, B: Monoid> Transition<Lane<A, B>, Known<A, B>> for Deal {
     ghost then = { λ v old new w. w ≡ dealt v old new };
 }
 
 /// What the roller's knows that gives a lane a number which no handle has.
 pub(crate) struct Renumber;
 
-impl<A: Monoid, B: Monoid> Outcome<Lane<A, B>, Known<A, B>> for Renumber {
+impl<A: Monoid, B: Monoid> Transition<Lane<A, B>, Known<A, B>> for Renumber {
     ghost then = { λ v old new w. w ≡ renumbered v new };
 }
 

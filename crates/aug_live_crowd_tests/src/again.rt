@@ -1,40 +1,36 @@
-//! Calls that wait for nobody, made again until they are done. They come to what the calls that wait do.
+//! Calls that are made again until they are done, if they wait for nobody. They come to what the calls that wait do.
 
-use aug_live::{LiveCounts, LiveError, TryError};
+use aug_live::LiveCounts;
 use aug_live_testing::opening::{
-    HandleOf, LiveOf, LookOf, try_closed, try_look, try_renewed, try_rolled, try_update,
+    HandleOf, LiveOf, LookOf, changed, closed, looked, renewed, rolled,
 };
-use aug_trie::{Members, Outcome, Request};
+use aug_trie::Members;
+use aug_trie_testing::rows::{Change, Reply};
 use std::sync::Wait;
 use std::thread::yield_now;
 
-/// An update: whether this call made it.
-pub(super) fn update<R: Wait>(
-    rt: &R,
-    hand: &mut HandleOf,
-    k: u32,
-    request: Request,
-) -> Result<bool, LiveError> {
+/// An update.
+pub(super) fn update<R: Wait>(rt: &R, hand: &mut HandleOf, waits: bool, change: Change) -> Reply {
     for _ in rt.forever() {
-        match try_update(hand, k, request) {
-            Ok(done) => return Ok(done == Outcome::Accepted),
-            Err(TryError::Refused(cause)) => return Err(cause),
-            Err(TryError::Again(_)) => yield_now(),
+        match changed(rt, hand, waits, change) {
+            Reply::Later | Reply::Anew => yield_now(),
+            reply => return reply,
         }
     }
     unreachable!()
 }
 
 /// A look, or the handle with why there is none.
-pub(super) fn look<R: Wait>(rt: &R, hand: HandleOf) -> Result<LookOf, (HandleOf, LiveError)> {
+pub(super) fn look<R: Wait>(
+    rt: &R,
+    hand: HandleOf,
+    waits: bool,
+) -> Result<LookOf, (HandleOf, Reply)> {
     let mut hand = hand;
     for _ in rt.forever() {
-        match try_look(hand) {
-            Ok(look) => return Ok(look),
-            Err((same, missed)) => match missed {
-                TryError::Refused(cause) => return Err((same, cause)),
-                TryError::Again(_) => hand = same,
-            },
+        match looked(rt, hand, waits) {
+            Err((same, Reply::Later | Reply::Anew)) => hand = same,
+            look => return look,
         }
         yield_now();
     }
@@ -42,36 +38,39 @@ pub(super) fn look<R: Wait>(rt: &R, hand: HandleOf) -> Result<LookOf, (HandleOf,
 }
 
 /// A new handle for a lane.
-pub(super) fn renew<R: Wait>(rt: &R, live: &mut LiveOf, lane: u32) -> Result<HandleOf, LiveError> {
+pub(super) fn renew<R: Wait>(
+    rt: &R,
+    live: &mut LiveOf,
+    waits: bool,
+    lane: u32,
+) -> Result<HandleOf, Reply> {
     for _ in rt.forever() {
-        match try_renewed(live, lane) {
-            Ok(hand) => return Ok(hand),
-            Err(TryError::Refused(cause)) => return Err(cause),
-            Err(TryError::Again(_)) => yield_now(),
+        match renewed(rt, live, waits, lane) {
+            Err(Reply::Later) => yield_now(),
+            hand => return hand,
         }
     }
     unreachable!()
 }
 
 /// Rolls the round over.
-pub(super) fn roll<R: Wait>(rt: &R, live: &mut LiveOf) -> Result<(), LiveError> {
+pub(super) fn roll<R: Wait>(rt: &R, live: &mut LiveOf, waits: bool) -> Reply {
     for _ in rt.forever() {
-        match try_rolled(live) {
-            Ok(()) => return Ok(()),
-            Err(TryError::Refused(cause)) => return Err(cause),
-            Err(TryError::Again(_)) => yield_now(),
+        match rolled(rt, live, waits) {
+            Reply::Later => yield_now(),
+            reply => return reply,
         }
     }
     unreachable!()
 }
 
 /// The end of a trie.
-pub(super) fn close<R: Wait>(rt: &R, live: LiveOf) -> (Members, LiveCounts) {
+pub(super) fn close<R: Wait>(rt: &R, live: LiveOf, waits: bool) -> (Members, LiveCounts) {
     let mut live = live;
     for _ in rt.forever() {
-        match try_closed(live) {
+        match closed(rt, live, waits) {
             Ok(end) => return end,
-            Err((same, _)) => live = same,
+            Err(same) => live = same,
         }
         yield_now();
     }

@@ -1,6 +1,4 @@
-//! Assertions as calls. A test is proved like any function, and a call takes a sixth of the time that `assert_eq!` takes, which branches in the
-//! test itself. Each crate of tests has the functions of this file that it calls, since a library may not end the process; tests/sources
-//! compares them.
+//! Assertions as calls: functions of the file that aug_monoid_tests has, which says why.
 ghost use Rattle.std.specs.Prelude.{IsTrue};
 
 use std::fmt::Debug;

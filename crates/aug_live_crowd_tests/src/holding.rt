@@ -1,11 +1,14 @@
 //! A look that is held while another thread's roll-over waits for it.
 
-use super::taking::{last, looked};
+use super::taking::{last, look};
 use crate::assertions::{equal, holds};
 use aug_live::OpenError;
 use aug_live_testing::opening::{
-    HandleOf, closed, fill, insert, opened, over, size, take_newer_snapshot,
+    HandleOf, changed, ended, fill, opened, over, size, take_newer_snapshot,
 };
+use aug_trie::Outcome::{Accepted, Refused};
+use aug_trie_testing::rows::Change::Insert;
+use aug_trie_testing::rows::Reply::Came;
 use crossbeam_channel::{Receiver, Sender, unbounded};
 use std::alloc::Global;
 use std::process::Abort;
@@ -23,9 +26,9 @@ fn signal(rt: &impl Abort, alloc: Global) -> (Sender<()>, Receiver<()>) {
 fn rolls<R: Wait>(rt: &R, hand: HandleOf, held: Receiver<()>, made: Sender<()>) -> bool {
     let mut hand = hand;
     let began = held.recv(rt).is_ok();
-    let done = insert(rt, &mut hand, 63);
+    let reply = changed(rt, &mut hand, true, Insert(63));
     let _ = made.send(rt, ());
-    began && done.is_ok()
+    began && reply == Came(Accepted)
 }
 
 // Takes a look, says so, and holds it for a second, or for so many questions. Whether it showed four members each time, as did a newer snapshot, and
@@ -37,7 +40,7 @@ fn stays<R: Wait + Abort + Clock>(
     held: Sender<()>,
     made: Receiver<()>,
 ) -> (HandleOf, bool) {
-    let mut look = looked(rt, hand);
+    let mut look = look(rt, hand, true);
     let mut right = held.send(rt, ()).is_ok();
     if asks == 0 {
         thread::sleep(rt, Duration::from_secs(1));
@@ -75,12 +78,15 @@ pub(super) fn assert_waits<R: Threads + Wait + Abort + Sync + Clock>(
 ) -> Result<(), OpenError> {
     let (live, mut hands) = opened(alloc, 6, 2, 0, 4)?;
     let mut hand = last(rt, &mut hands);
-    equal(rt, fill(rt, &mut hand, 0, 4), 4);
+    equal(rt, fill(rt, &mut hand, true, 0, 4), 4);
     let other = last(rt, &mut hands);
     let (mut other, right) = held(rt, alloc, (hand, other), asks);
     holds(rt, right);
-    equal(rt, insert(rt, &mut other, 63), Ok(false));
-    equal(rt, closed(rt, live), (5, 2, 5));
+    let reply = changed(rt, &mut other, true, Insert(63));
+    equal(rt, reply, Came(Refused));
+    let (set, counts) = ended(rt, live);
+    let found = (set.size(), counts.rounds, counts.inserts);
+    equal(rt, found, (5, 2, 5));
     Ok(())
 }
 

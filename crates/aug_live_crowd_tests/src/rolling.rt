@@ -2,26 +2,25 @@
 
 use super::again;
 use crate::assertions::{equal, holds};
-use aug_live::{LiveCounts, LiveError, OpenError};
-use aug_live_testing::opening::{
-    HandleOf, LiveOf, LookOf, ended, has, insert, may_look, opened, over, remove, renewed,
-};
+use aug_live::{LiveCounts, OpenError};
+use aug_live_testing::opening::{HandleOf, LiveOf, LookOf, changed, ended, has, opened, over};
 use aug_model::KeySet;
-use aug_trie::{Members, Request};
+use aug_trie::Members;
+use aug_trie::Outcome::Accepted;
+use aug_trie_testing::rows::Change::{Insert, Remove};
+use aug_trie_testing::rows::Reply::{Came, Done, IsClosed};
+use aug_trie_testing::rows::made;
 use std::alloc::Global;
 use std::process::Abort;
 use std::sync::Wait;
 use std::thread;
 use std::thread::Threads;
 
-// A thread's handle, its own keys, which leave this remainder divided by 4, and the seed of what it does. Its calls wait, or they wait for nobody
-// and are made again until they are done.
+// A thread's own keys, which leave this remainder divided by 4. Its calls wait, or they wait for nobody and are made again until they are done.
 #[derive(Drop)]
-struct Job {
-    hand: HandleOf,
+struct Own {
     model: KeySet,
     lane: u32,
-    steps: u32,
     waits: bool,
 }
 
@@ -41,138 +40,86 @@ fn next(seed: u64) -> u64 {
 }
 
 // Whether a look shows each own key as the model has it, for some keys.
-fn shows(look: &mut LookOf, model: &KeySet, lane: u32) -> bool {
+fn shows(look: &mut LookOf, own: &Own) -> bool {
     let mut right = true;
     for i in 0..16 {
-        let k = 4 * i + lane % 4;
-        right &= has(look, k) == model.has(k);
+        let k = 4 * i + own.lane % 4;
+        right &= has(look, k) == own.model.has(k);
     }
     right
 }
 
 // Whether a new look shows what the model has.
-fn looks_right<R: Wait>(rt: &R, job: Job) -> (Job, bool) {
-    let Job {
-        hand,
-        model,
-        lane,
-        steps,
-        waits,
-    } = job;
-    let seen = if waits {
-        may_look(rt, hand)
-    } else {
-        again::look(rt, hand)
-    };
-    let (hand, right) = match seen {
+fn looks_right<R: Wait>(rt: &R, hand: HandleOf, own: &Own) -> (HandleOf, bool) {
+    match again::look(rt, hand, own.waits) {
         Ok(mut look) => {
-            let right = shows(&mut look, &model, lane);
+            let right = shows(&mut look, own);
             (over(look), right)
         }
-        Err((hand, cause)) => (hand, cause == LiveError::Closed),
-    };
-    let job = Job {
-        hand,
-        model,
-        lane,
-        steps,
-        waits,
-    };
-    (job, right)
-}
-
-// Puts a key in, or takes it out.
-fn made<R: Wait>(
-    rt: &R,
-    hand: &mut HandleOf,
-    waits: bool,
-    k: u32,
-    request: Request,
-) -> Result<bool, LiveError> {
-    match (waits, request) {
-        (false, _) => again::update(rt, hand, k, request),
-        (true, Request::Remove) => remove(rt, hand, k),
-        (true, _) => insert(rt, hand, k),
+        Err((hand, cause)) => (hand, cause == IsClosed),
     }
 }
 
-// Makes one update of an own key, and says whether its answer is the model's.
-fn step<R: Wait>(rt: &R, job: &mut Job, did: &mut Did, seed: u64) -> bool {
-    let k = 4 * ((seed >> 33) as u32 % 16) + job.lane % 4;
-    if k >= 1 << job.model.bits() {
+// Makes one update of an own key, and says whether its answer is the model's. That the trie was closed is the one refusal that may come.
+fn step<R: Wait>(rt: &R, hand: &mut HandleOf, own: &mut Own, did: &mut Did, seed: u64) -> bool {
+    let k = 4 * ((seed >> 33) as u32 % 16) + own.lane % 4;
+    if k >= 1 << own.model.bits() {
         return false;
     }
     let inserts = (seed >> 40) % 2 == 0;
-    let (request, expected) = if inserts {
-        (Request::Insert, job.model.insert(k))
+    let (change, expected) = if inserts {
+        (Insert(k), own.model.insert(k))
     } else {
-        (Request::Remove, job.model.remove(k))
+        (Remove(k), own.model.remove(k))
     };
-    match made(rt, &mut job.hand, job.waits, k, request) {
-        Ok(done) => {
-            did.counts(inserts, done);
-            done == expected
-        }
-        Err(cause) => did.is_over(cause),
+    let reply = again::update(rt, hand, own.waits, change);
+    did.closed = reply == IsClosed;
+    let done = u64::from(reply == Came(Accepted));
+    if inserts {
+        did.inserts = did.inserts.saturating_add(done);
+    } else {
+        did.removals = did.removals.saturating_add(done);
     }
+    did.closed || reply == Came(made(expected))
 }
 
-impl Did {
-    // Counts a key that was put in or taken out, if it was.
-    fn counts(&mut self, inserts: bool, done: bool) {
-        if inserts {
-            self.inserts = self.inserts.saturating_add(u64::from(done));
-        } else {
-            self.removals = self.removals.saturating_add(u64::from(done));
-        }
-    }
+// A thread's handle and its own keys.
+type Job = (HandleOf, Own);
 
-    // Notes that the trie was closed, which is the one refusal that may come.
-    fn is_over(&mut self, cause: LiveError) -> bool {
-        self.closed = true;
-        cause == LiveError::Closed
-    }
-}
-
-// Makes a job's updates, with a look after each few.
-fn work<R: Wait>(rt: &R, job: Job) -> Did {
-    let mut job = job;
+// Makes so many updates, with a look after each few.
+fn work<R: Wait>(rt: &R, job: Job, steps: u32) -> Did {
+    let (mut hand, mut own) = job;
     let mut did = Did {
         inserts: 0,
         removals: 0,
         right: true,
         closed: false,
     };
-    let mut seed = next(u64::from(job.lane));
-    for i in 0..job.steps {
+    let mut seed = next(u64::from(own.lane));
+    for i in 0..steps {
         seed = next(seed);
-        did.right &= step(rt, &mut job, &mut did, seed);
+        did.right &= step(rt, &mut hand, &mut own, &mut did, seed);
         if did.closed {
             return did;
         }
         if i % 64 == 0 {
-            let (next, right) = looks_right(rt, job);
+            let (same, right) = looks_right(rt, hand, &own);
             did.right &= right;
-            job = next;
+            hand = same;
         }
     }
     did
 }
 
 // A job for each handle. The calls of the first `trying` ones wait for nobody.
-fn jobs(rt: &impl Abort, alloc: Global, hands: Vec<HandleOf>, steps: u32, trying: u32) -> Vec<Job> {
+fn jobs(rt: &impl Abort, alloc: Global, hands: Vec<HandleOf>, trying: u32) -> Vec<Job> {
     let mut jobs = Vec::new(alloc);
     let mut lane = 0;
     for hand in hands {
         let model = KeySet::try_new(alloc, 6).expect(rt, "memory");
-        let job = Job {
-            hand,
-            model,
-            lane,
-            steps,
-            waits: lane >= trying,
-        };
-        jobs.push(job).expect(rt, "memory");
+        let waits = lane >= trying;
+        let own = Own { model, lane, waits };
+        jobs.push((hand, own)).expect(rt, "memory");
         lane = if lane < 3 { lane + 1 } else { 0 };
     }
     jobs
@@ -192,49 +139,42 @@ fn summed(rt: &impl Abort, done: Vec<Did>, closed: bool) -> (u64, u64) {
     (left, inserts)
 }
 
-// What is done with a trie while threads work with its handles.
+// What is done with a trie while threads work with its handles, by calls that wait or by those that wait for nobody.
 #[derive(Clone, Copy)]
 enum Beside {
     Nothing,
-    // The round rolls over so often, by calls that wait for nobody.
-    Roll(u32),
-    // A new handle for the lane 3 comes so often, by calls that wait or by those that wait for nobody. They put key 3 in and take it out in turn.
+    // The round rolls over so often.
+    Roll(u32, bool),
+    // A new handle for the lane 3 comes so often. They put key 3 in and take it out in turn.
     Renew(u32, bool),
-    // It is closed, by a call that waits or by those that wait for nobody.
+    // It is closed.
     Close(bool),
 }
 
-// Rolls the round over, `times` times, by calls that wait for nobody. Whether each was done in the end.
-fn roll_often<R: Wait>(rt: &R, live: &mut LiveOf, times: u32) -> bool {
+use Beside::{Close, Nothing, Renew, Roll};
+
+// Rolls the round over, `times` times. Whether each was done in the end.
+fn roll_often<R: Wait>(rt: &R, live: &mut LiveOf, times: u32, waits: bool) -> bool {
     let mut right = true;
     for _ in 0..times {
-        right &= again::roll(rt, live) == Ok(());
+        right &= again::roll(rt, live, waits) == Done;
     }
     right
-}
-
-// A new handle for the lane 3.
-fn given<R: Wait>(rt: &R, live: &mut LiveOf, waits: bool) -> Result<HandleOf, LiveError> {
-    if waits {
-        renewed(rt, live, 3)
-    } else {
-        again::renew(rt, live, 3)
-    }
 }
 
 // Puts key 3 in and takes it out in turn, `times` times, each time with a new handle for the lane 3. Whether all was right.
 fn renew_often<R: Wait>(rt: &R, live: &mut LiveOf, times: u32, waits: bool) -> bool {
     let mut right = true;
     for number in 0..times {
-        let Ok(mut hand) = given(rt, live, waits) else {
+        let Ok(mut hand) = again::renew(rt, live, waits, 3) else {
             return false;
         };
-        let request = if number % 2 == 0 {
-            Request::Insert
+        let change = if number % 2 == 0 {
+            Insert(3)
         } else {
-            Request::Remove
+            Remove(3)
         };
-        right &= made(rt, &mut hand, true, 3, request) == Ok(true);
+        right &= changed(rt, &mut hand, true, change) == Came(Accepted);
     }
     right
 }
@@ -246,47 +186,35 @@ type End = Result<(Members, LiveCounts), LiveOf>;
 fn is_done<R: Wait>(rt: &R, live: LiveOf, beside: Beside) -> (End, bool) {
     let mut live = live;
     let right = match beside {
-        Beside::Nothing => true,
-        Beside::Roll(times) => roll_often(rt, &mut live, times),
-        Beside::Renew(times, waits) => renew_often(rt, &mut live, times, waits),
-        Beside::Close(true) => return (Ok(ended(rt, live)), true),
-        Beside::Close(false) => return (Ok(again::close(rt, live)), true),
+        Nothing => true,
+        Roll(times, waits) => roll_often(rt, &mut live, times, waits),
+        Renew(times, waits) => renew_often(rt, &mut live, times, waits),
+        Close(waits) => return (Ok(again::close(rt, live, waits)), true),
     };
     (Err(live), right)
 }
 
-// What threads do with handles, and what is done with their trie beside them.
+// What threads do with handles in so many steps, and what is done with their trie beside them.
 fn worked<R: Threads + Wait + Abort + Sync>(
     rt: &R,
     jobs: Vec<Job>,
+    steps: u32,
     live: LiveOf,
     beside: Beside,
 ) -> (Vec<Did>, End) {
     let (done, (end, right)) = thread::join(
         rt,
-        || thread::map_vec(rt, jobs, &|job| work(rt, job)),
+        || thread::map_vec(rt, jobs, &|job| work(rt, job, steps)),
         move || is_done(rt, live, beside),
     );
     holds(rt, right);
     (done.expect(rt, "memory"), end)
 }
 
-// How a trie with four handles is used: by threads that make so many calls each, in rounds with spare lanes and with updates for each lane. If one of
-// its handles is not used, it is dropped, and if another one is not, it is idle. The calls of the first `trying` threads wait for nobody.
-#[derive(Clone, Copy)]
-struct Use {
-    used: u32,
-    trying: u32,
-    steps: u32,
-    spare: u32,
-    updates: u32,
-    beside: Beside,
-    // How many members and insertions come of what is done beside the threads.
-    more: (u64, u64),
-    // How many rounds come of it.
-    least: u64,
-    most: u64,
-}
+// How a trie with four handles is used: by how many threads, whose first ones so many make calls that wait for nobody, and by so many calls of each; in
+// rounds with spare lanes and with updates for each lane; what is done beside the threads, and the members and insertions that come of that; and the
+// least and the most rounds that come of all. If one of its handles is not used, it is dropped, and if another one is not, it is idle.
+type Use = ((u32, u32, u32), (u32, u32), Beside, (u64, u64), (u64, u64));
 
 // Drops the last handle if it is not used. The one before it, if it is not.
 fn idle_of(hands: &mut Vec<HandleOf>, used: u32) -> Option<HandleOf> {
@@ -303,16 +231,13 @@ fn set_of<R: Wait + Abort>(rt: &R, end: End, did: (u64, u64), with: &Use) -> Mem
         Err(live) => ended(rt, live),
     };
     let (left, inserts) = did;
-    let (members, made) = with.more;
+    let (_, _, _, (members, made), (least, most)) = *with;
     equal(
         rt,
         (u64::from(set.size()), counts.inserts),
         (left.saturating_add(members), inserts.saturating_add(made)),
     );
-    holds(
-        rt,
-        counts.rounds >= with.least && counts.rounds <= with.most,
-    );
+    holds(rt, counts.rounds >= least && counts.rounds <= most);
     set
 }
 
@@ -322,12 +247,13 @@ fn use_it<R: Threads + Wait + Abort + Sync>(
     alloc: Global,
     with: &Use,
 ) -> Result<Members, OpenError> {
-    let (live, mut hands) = opened(alloc, 6, 4, with.spare, with.updates)?;
-    let idle = idle_of(&mut hands, with.used);
-    let jobs = jobs(rt, alloc, hands, with.steps, with.trying);
-    let (done, end) = worked(rt, jobs, live, with.beside);
+    let ((used, trying, steps), (spare, updates), beside, _, _) = *with;
+    let (live, mut hands) = opened(alloc, 6, 4, spare, updates)?;
+    let idle = idle_of(&mut hands, used);
+    let jobs = jobs(rt, alloc, hands, trying);
+    let (done, end) = worked(rt, jobs, steps, live, beside);
     drop(idle);
-    let did = summed(rt, done, matches!(with.beside, Beside::Close(_)));
+    let did = summed(rt, done, matches!(beside, Close(_)));
     Ok(set_of(rt, end, did, with))
 }
 
@@ -344,40 +270,10 @@ fn use_each<R: Threads + Wait + Abort + Sync>(
 }
 
 const WAITING: &[Use] = &[
-    Use {
-        used: 4,
-        trying: 0,
-        steps: 200_000,
-        spare: 0,
-        updates: 1000,
-        beside: Beside::Nothing,
-        more: (0, 0),
-        least: 200,
-        most: 801,
-    },
-    Use {
-        used: 2,
-        trying: 0,
-        steps: 200,
-        spare: 0,
-        updates: 1,
-        beside: Beside::Nothing,
-        more: (0, 0),
-        least: 200,
-        most: 401,
-    },
+    ((4, 0, 200_000), (0, 1000), Nothing, (0, 0), (200, 801)),
+    ((2, 0, 200), (0, 1), Nothing, (0, 0), (200, 401)),
     // 80,000 calls. A round has room for 4,000, and uses all of them except those of lanes that were not spent at its end.
-    Use {
-        used: 4,
-        trying: 0,
-        steps: 20_000,
-        spare: 12,
-        updates: 250,
-        beside: Beside::Nothing,
-        more: (0, 0),
-        least: 20,
-        most: 26,
-    },
+    ((4, 0, 20_000), (12, 250), Nothing, (0, 0), (20, 26)),
 ];
 
 #[test]
@@ -386,41 +282,11 @@ fn threads_see_their_own_updates_in_every_round(rt: HostRuntime) -> Result<(), O
 }
 
 const TRYING: &[Use] = &[
-    Use {
-        used: 2,
-        trying: 2,
-        steps: 200,
-        spare: 0,
-        updates: 1,
-        beside: Beside::Nothing,
-        more: (0, 0),
-        least: 200,
-        most: 401,
-    },
+    ((2, 2, 200), (0, 1), Nothing, (0, 0), (200, 401)),
     // 16,000 calls. A round has room for 800.
-    Use {
-        used: 4,
-        trying: 4,
-        steps: 4_000,
-        spare: 12,
-        updates: 50,
-        beside: Beside::Nothing,
-        more: (0, 0),
-        least: 20,
-        most: 26,
-    },
+    ((4, 4, 4_000), (12, 50), Nothing, (0, 0), (20, 26)),
     // Two threads wait, and two wait for nobody.
-    Use {
-        used: 4,
-        trying: 2,
-        steps: 10_000,
-        spare: 0,
-        updates: 100,
-        beside: Beside::Nothing,
-        more: (0, 0),
-        least: 100,
-        most: 401,
-    },
+    ((4, 2, 10_000), (0, 100), Nothing, (0, 0), (100, 401)),
 ];
 
 #[test]
@@ -428,33 +294,20 @@ fn threads_that_wait_for_nobody_see_their_own_updates(rt: HostRuntime) -> Result
     use_each(&rt, rt.alloc(), TRYING)
 }
 
-// The set that four threads come to, of which the calls of the first `trying` ones wait for nobody.
-fn comes_to<R: Threads + Wait + Abort + Sync>(
-    rt: &R,
-    alloc: Global,
-    trying: u32,
-) -> Result<Members, OpenError> {
-    let with = Use {
-        used: 4,
-        trying,
-        steps: 3_001,
-        spare: 2,
-        updates: 50,
-        beside: Beside::Nothing,
-        more: (0, 0),
-        least: 1,
-        most: u64::MAX,
-    };
-    use_it(rt, alloc, &with)
-}
+const ANY: (u64, u64) = (1, u64::MAX);
 
 #[test]
 fn calls_that_are_made_again_reach_the_set_of_calls_that_wait(
     rt: HostRuntime,
 ) -> Result<(), OpenError> {
-    let waited = comes_to(&rt, rt.alloc(), 0)?;
+    let waited = use_it(
+        &rt,
+        rt.alloc(),
+        &((4, 0, 3_001), (2, 50), Nothing, (0, 0), ANY),
+    )?;
     for trying in [2, 4] {
-        let tried = comes_to(&rt, rt.alloc(), trying)?;
+        let with = ((4, trying, 3_001), (2, 50), Nothing, (0, 0), ANY);
+        let tried = use_it(&rt, rt.alloc(), &with)?;
         equal(&rt, tried.as_slice(), waited.as_slice());
     }
     holds(&rt, waited.size() > 0);
@@ -463,39 +316,9 @@ fn calls_that_are_made_again_reach_the_set_of_calls_that_wait(
 
 const CLOSED: &[Use] = &[
     // It is closed by a call that waits if those of all threads do.
-    Use {
-        used: 4,
-        trying: 0,
-        steps: 5_000_000,
-        spare: 0,
-        updates: 500,
-        beside: Beside::Close(true),
-        more: (0, 0),
-        least: 1,
-        most: u64::MAX,
-    },
-    Use {
-        used: 4,
-        trying: 2,
-        steps: 5_000_000,
-        spare: 0,
-        updates: 500,
-        beside: Beside::Close(false),
-        more: (0, 0),
-        least: 1,
-        most: u64::MAX,
-    },
-    Use {
-        used: 4,
-        trying: 4,
-        steps: 5_000_000,
-        spare: 0,
-        updates: 500,
-        beside: Beside::Close(false),
-        more: (0, 0),
-        least: 1,
-        most: u64::MAX,
-    },
+    ((4, 0, 5_000_000), (0, 500), Close(true), (0, 0), ANY),
+    ((4, 2, 5_000_000), (0, 500), Close(false), (0, 0), ANY),
+    ((4, 4, 5_000_000), (0, 500), Close(false), (0, 0), ANY),
 ];
 
 #[test]
@@ -503,47 +326,29 @@ fn a_trie_is_closed_while_others_work(rt: HostRuntime) -> Result<(), OpenError> 
     use_each(&rt, rt.alloc(), CLOSED)
 }
 
-const ROLLED: &[Use] = &[Use {
-    used: 4,
-    trying: 2,
-    steps: 5_000,
-    spare: 0,
-    updates: 1000,
-    beside: Beside::Roll(200),
-    more: (0, 0),
-    least: 201,
-    most: u64::MAX,
-}];
+const TWO_HUNDRED: Beside = Roll(200, false);
+
+const ROLLED: &[Use] = &[(
+    (4, 2, 5_000),
+    (0, 1000),
+    TWO_HUNDRED,
+    (0, 0),
+    (201, u64::MAX),
+)];
 
 #[test]
 fn a_round_rolls_over_by_calls_that_are_made_again(rt: HostRuntime) -> Result<(), OpenError> {
     use_each(&rt, rt.alloc(), ROLLED)
 }
 
+const OFTEN: Beside = Renew(1001, true);
+
+const TRIED: Beside = Renew(101, false);
+
 const RENEWED: &[Use] = &[
     // 151,001 updates, of which each lane has 1,000 in a round, and 15,101.
-    Use {
-        used: 3,
-        trying: 0,
-        steps: 50_000,
-        spare: 0,
-        updates: 1000,
-        beside: Beside::Renew(1001, true),
-        more: (1, 501),
-        least: 50,
-        most: 152,
-    },
-    Use {
-        used: 3,
-        trying: 2,
-        steps: 5_000,
-        spare: 0,
-        updates: 1000,
-        beside: Beside::Renew(101, false),
-        more: (1, 51),
-        least: 5,
-        most: 16,
-    },
+    ((3, 0, 50_000), (0, 1000), OFTEN, (1, 501), (50, 152)),
+    ((3, 2, 5_000), (0, 1000), TRIED, (1, 51), (5, 16)),
 ];
 
 #[test]

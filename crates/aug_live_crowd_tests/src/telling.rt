@@ -2,12 +2,13 @@
 ghost use Rattle.std.specs.Prelude.{◌≡◌, IfOk};
 ghost use Rattle.aug_live.specs.LiveTries.{ids_of};
 
-use super::taking::looked;
+use super::taking::look;
 use crate::assertions::{equal, holds};
 use aug_live::{Live, LiveError, OpenError, Plan};
 use aug_live_testing::opening::{
     HandleOf, LiveOf, ended, has, no_keys, opened, over, renewed, rolled,
 };
+use aug_trie_testing::rows::Reply::Done;
 use std::alloc::Global;
 use std::process::Abort;
 use std::sync::Wait;
@@ -47,7 +48,7 @@ fn insert<R: Wait + Abort>(rt: &R, hand: &mut HandleOf, key: u32)
 
 // Whether a look of the handle shows a key.
 fn sees<R: Wait + Abort>(rt: &R, hand: HandleOf, key: u32) -> bool {
-    let mut look = looked(rt, hand);
+    let mut look = look(rt, hand, true);
     let seen = has(&mut look, key);
     drop(over(look));
     seen
@@ -67,9 +68,9 @@ fn learnt<R: Wait + Abort>(
         panic!(rt; "no note");
     };
     if rolls {
-        equal(rt, rolled(rt, live), Ok(()));
+        equal(rt, rolled(rt, live, true), Done);
     } else {
-        drop(renewed(rt, live, 0));
+        drop(renewed(rt, live, true, 0));
     }
     match to.learn(rt, note) {
         Ok(()) => Ok(()),
@@ -83,7 +84,7 @@ fn assert_told<R: Wait + Abort>(rt: &R, live: &mut LiveOf, from: HandleOf, to: H
 {
     let (mut from, mut to) = (from, to);
     insert(rt, &mut from, 1);
-    equal(rt, rolled(rt, live), Ok(()));
+    equal(rt, rolled(rt, live, true), Done);
     equal(rt, learnt(rt, live, &mut from, &mut to, true), Ok(()));
     holds(rt, sees(rt, to, 1));
 }
@@ -161,71 +162,44 @@ fn assert_back_later<R: Wait + Abort>(rt: &R, live: LiveOf, hand: HandleOf, othe
     requires lanes { ids_of hand.who.trie ≡ ids_of live }
 {
     let mut live = live;
-    let look = looked(rt, other);
+    let look = look(rt, other, true);
     holds(rt, waits(&mut live));
     drop(over(look));
     equal(rt, back(rt, &mut live, hand), Ok(()));
     equal(rt, end(rt, live), (0, 2, 2, 1));
 }
 
-// What two handles of a trie and the trie tell one another.
-#[derive(Clone, Copy)]
-enum Telling {
-    // One learns a note of the other.
-    Told,
-    // One that was replaced learns none.
-    NotLearnt,
-    // One was replaced and does not come back, and the other one does.
-    Back,
-    // One comes back whose lane a roll-over took.
-    BackLater,
-}
-
-// What it comes to over a new trie of so many bits and lanes.
-fn assert_telling<R: Wait + Abort>(
-    rt: &R,
-    alloc: Global,
-    it: Telling,
-    bits: u32,
-    lanes: u32,
-) -> Result<(), OpenError> {
-    let (mut live, a, b) = two(rt, alloc, bits, lanes)?;
-    match it {
-        Telling::Told => assert_told(rt, &mut live, a, b),
-        Telling::NotLearnt => assert_not_learnt(rt, &mut live, b, a),
-        Telling::Back => {
-            assert_not_back(rt, &mut live, b, lanes.saturating_sub(1));
-            assert_back(rt, live, a, lanes);
-        }
-        Telling::BackLater => assert_back_later(rt, live, b, a),
-    }
-    Ok(())
-}
-
 #[test]
 fn a_note_tells_what_its_maker_did_over_roll_overs(rt: HostRuntime) -> Result<(), OpenError> {
     for bits in 1..=16 {
-        assert_telling(&rt, rt.alloc(), Telling::Told, bits, 2)?;
+        let (mut live, a, b) = two(&rt, rt.alloc(), bits, 2)?;
+        assert_told(&rt, &mut live, a, b);
     }
     Ok(())
 }
 
 #[test]
 fn a_handle_that_was_replaced_learns_nothing(rt: HostRuntime) -> Result<(), OpenError> {
-    assert_telling(&rt, rt.alloc(), Telling::NotLearnt, 6, 2)
+    let (mut live, a, b) = two(&rt, rt.alloc(), 6, 2)?;
+    assert_not_learnt(&rt, &mut live, b, a);
+    Ok(())
 }
 
 #[test]
 fn a_trie_knows_what_a_handle_did_that_came_back(rt: HostRuntime) -> Result<(), OpenError> {
-    for lanes in [2, 3, 4, 5, 64] {
-        assert_telling(&rt, rt.alloc(), Telling::Back, 6, lanes)?;
+    for lanes in [2u32, 3, 4, 5, 64] {
+        let (mut live, a, b) = two(&rt, rt.alloc(), 6, lanes)?;
+        assert_not_back(&rt, &mut live, b, lanes.saturating_sub(1));
+        assert_back(&rt, live, a, lanes);
     }
     Ok(())
 }
 
 #[test]
 fn a_handle_comes_back_whose_lane_a_roll_over_took(rt: HostRuntime) -> Result<(), OpenError> {
-    assert_telling(&rt, rt.alloc(), Telling::BackLater, 6, 2)
+    let (live, a, b) = two(&rt, rt.alloc(), 6, 2)?;
+    assert_back_later(&rt, live, b, a);
+    Ok(())
 }
 
 // A new handle for a lane puts a key in and comes back.

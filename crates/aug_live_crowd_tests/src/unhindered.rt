@@ -1,26 +1,25 @@
 //! Calls with nobody in their way: none of them is refused or has to be made again, whatever the numbers of a trie are.
 
-use super::granting::EACH;
-use super::taking::looked;
+use super::taking::look;
 use crate::assertions::{equal, holds};
 use aug_live::OpenError;
 use aug_live_testing::opening::{
-    HandleOf, LiveOf, insert, opened, over, pop, put, remove, renewed, rolled, size, try_closed,
-    try_look, try_pop, try_renewed, try_rolled, try_update,
+    HandleOf, LiveOf, changed, closed, opened, over, renewed, rolled, size,
 };
-use aug_trie::Side::{First, Last};
-use aug_trie::{Outcome, Pop, Request, Side};
+use aug_trie::Outcome::{Accepted, Replaced};
+use aug_trie::{Outcome, Pop};
+use aug_trie_testing::rows::Change;
+use aug_trie_testing::rows::Change::{Insert, PopFirst, PopLast, Put, Remove};
+use aug_trie_testing::rows::Reply::{Came, Done, Popped};
+use aug_trie_testing::sweeps::EACH;
 use std::alloc::Global;
 use std::process::Abort;
 use std::sync::Wait;
 
 // Gives a key a weight, by a call that waits or by one that waits for nobody. Whether it came to this.
 fn puts<R: Wait>(rt: &R, hand: &mut HandleOf, k: u32, weight: u32, outcome: Outcome) -> bool {
-    if (k / 8 ^ k ^ weight) % 2 == 0 {
-        put(rt, hand, k, weight) == Ok(outcome)
-    } else {
-        try_update(hand, k, Request::Put(weight)) == Ok(outcome)
-    }
+    let waits = (k / 8 ^ k ^ weight) % 2 == 0;
+    changed(rt, hand, waits, Put(k, weight)) == Came(outcome)
 }
 
 // The keys of a test: how many, and how far each is from the one before.
@@ -55,49 +54,34 @@ fn puts_all<R: Wait>(
 }
 
 // Takes the member out that is left at one end, in one of four ways.
-fn takes_out<R: Wait>(rt: &R, hand: &mut HandleOf, side: Side, it: (u32, u32), way: u32) -> bool {
-    match way % 4 {
-        0 => remove(rt, hand, it.0) == Ok(true),
-        1 => try_update(hand, it.0, Request::Remove) == Ok(Outcome::Accepted),
-        2 => pop(rt, hand, side) == Ok(Some(it)),
-        _ => try_pop(hand, side) == Ok(Pop::Member(it.0, it.1)),
+fn takes_out<R: Wait>(rt: &R, hand: &mut HandleOf, pops: Change, it: (u32, u32), way: u32) -> bool {
+    let waits = way % 2 == 0;
+    if way % 4 < 2 {
+        changed(rt, hand, waits, Remove(it.0)) == Came(Accepted)
+    } else {
+        changed(rt, hand, waits, pops) == Popped(Pop::Member(it.0, it.1))
     }
 }
 
 // The handle, and how many members a look of it shows, which waits or waits for nobody.
 fn sees<R: Wait + Abort>(rt: &R, hand: HandleOf, waits: bool) -> (HandleOf, u32) {
-    let mut look = if waits {
-        looked(rt, hand)
-    } else {
-        let Ok(look) = try_look(hand) else {
-            panic!(rt; "no look");
-        };
-        look
-    };
+    let mut look = look(rt, hand, waits);
     let members = size(&mut look);
     (over(look), members)
 }
 
 // Each handle gives each key a weight of its own, and sees them all.
 fn each_puts<R: Wait + Abort>(rt: &R, hands: Vec<HandleOf>, keys: Keys) {
-    let mut outcome = Outcome::Accepted;
+    let mut outcome = Accepted;
     let mut weight = 0u32;
     for hand in hands {
         let mut hand = hand;
         holds(rt, puts_all(rt, &mut hand, keys, weight, outcome));
         let (_, members) = sees(rt, hand, weight % 2 == 0);
         equal(rt, members, keys.count);
-        outcome = Outcome::Replaced;
+        outcome = Replaced;
         weight = weight.saturating_add(1);
     }
-}
-
-// A new handle for a lane, by a call that waits or by one that waits for nobody.
-fn given<R: Wait + Abort>(rt: &R, live: &mut LiveOf, lane: u32, waits: bool) -> HandleOf {
-    if waits {
-        return renewed(rt, live, lane).expect(rt, "a handle");
-    }
-    try_renewed(live, lane).expect(rt, "a handle")
 }
 
 // A handle takes so many of these members out, of which each has this weight, in turn from both ends, and leaves one at least. Whether each call came
@@ -115,15 +99,15 @@ fn takes_some<R: Wait>(
         if below.saturating_sub(from) < 2 {
             return (right, (from, below));
         }
-        let (side, k) = if number % 2 == 0 {
+        let (pops, k) = if number % 2 == 0 {
             from = from.saturating_add(1);
-            (First, from.saturating_sub(1))
+            (PopFirst, from.saturating_sub(1))
         } else {
             below = below.saturating_sub(1);
-            (Last, below)
+            (PopLast, below)
         };
         let member = (k.saturating_mul(keys.step), weight);
-        right &= takes_out(rt, &mut hand, side, member, number / 2);
+        right &= takes_out(rt, &mut hand, pops, member, number / 2);
     }
     (right, (from, below))
 }
@@ -137,7 +121,7 @@ fn each_lane_takes_out<R: Wait + Abort>(rt: &R, live: &mut LiveOf, handles: u32,
         step: keys.step,
     };
     for lane in 0..handles {
-        let hand = given(rt, live, lane, lane % 2 == 0);
+        let hand = renewed(rt, live, lane % 2 == 0, lane).expect(rt, "a handle");
         let (right, next) = takes_some(rt, hand, each, weight, left);
         holds(rt, right);
         left = next;
@@ -156,10 +140,10 @@ fn assert_made<R: Wait + Abort>(
     let spare = (bits % 3).min(64u32.saturating_sub(handles));
     let (mut live, hands) = opened(alloc, bits, handles, spare, updates)?;
     each_puts(rt, hands, keys);
-    equal(rt, try_rolled(&mut live), Ok(()));
-    equal(rt, rolled(rt, &mut live), Ok(()));
+    equal(rt, rolled(rt, &mut live, false), Done);
+    equal(rt, rolled(rt, &mut live, true), Done);
     each_lane_takes_out(rt, &mut live, handles, keys);
-    let Ok((set, counts)) = try_closed(live) else {
+    let Ok((set, counts)) = closed(rt, live, false) else {
         panic!(rt; "not closed");
     };
     let all = u64::from(handles).saturating_mul(2);
@@ -225,10 +209,10 @@ fn goes_on<R: Wait + Abort>(rt: &R, hand: HandleOf) -> bool {
     for number in 0..ROUNDS {
         right &= notes(rt, &mut hand);
         right &= match number % 4 {
-            0 => insert(rt, &mut hand, 5) == Ok(true),
-            1 => try_pop(&mut hand, Last) == Ok(Pop::Member(5, 5)),
-            2 => try_update(&mut hand, 5, Request::Insert) == Ok(Outcome::Accepted),
-            _ => pop(rt, &mut hand, First) == Ok(Some((5, 5))),
+            0 => changed(rt, &mut hand, true, Insert(5)) == Came(Accepted),
+            1 => changed(rt, &mut hand, false, PopLast) == Popped(Pop::Member(5, 5)),
+            2 => changed(rt, &mut hand, false, Insert(5)) == Came(Accepted),
+            _ => changed(rt, &mut hand, true, PopFirst) == Popped(Pop::Member(5, 5)),
         };
         let (same, members) = sees(rt, hand, number % 3 == 0);
         right &= members == 1 - number % 2;
@@ -244,12 +228,13 @@ fn each_handle_goes_on_over_thousands_of_rounds(rt: HostRuntime) -> Result<(), O
     for hand in hands {
         holds(&rt, goes_on(&rt, hand));
     }
-    equal(&rt, rolled(&rt, &mut live), Ok(()));
-    equal(&rt, try_rolled(&mut live), Ok(()));
+    equal(&rt, rolled(&rt, &mut live, true), Done);
+    equal(&rt, rolled(&rt, &mut live, false), Done);
     for waits in [true, false] {
-        holds(&rt, goes_on(&rt, given(&rt, &mut live, 1, waits)));
+        let hand = renewed(&rt, &mut live, waits, 1).expect(&rt, "a handle");
+        holds(&rt, goes_on(&rt, hand));
     }
-    let Ok((set, counts)) = try_closed(live) else {
+    let Ok((set, counts)) = closed(&rt, live, false) else {
         panic!(rt; "not closed");
     };
     equal(&rt, (set.size(), counts.rounds), (0, 14_999));

@@ -1,9 +1,11 @@
-//! How tries are opened, and the calls of a trie and its handles that tests make, in functions that promise nothing.
+//! How tries are opened, and the calls of a trie and its handles that tests make, in functions that promise nothing. Those with `waits` make a call that
+//! waits, or one that waits for nobody and answers where it would have to.
 
 use aug_live::{Busy, Handle, Live, LiveCounts, LiveError, Look, OpenError, Plan, TryError};
 use aug_monoid::{Extent, Sum};
 use aug_query::descent::{Has, Size};
-use aug_trie::{Members, Outcome, Pop, Request, Side};
+use aug_trie::{Members, Outcome, Pop, Request, Told};
+use aug_trie_testing::rows::{Change, Reply, made, request_of, tells};
 use ruled_lock::WasOut;
 use std::alloc::Global;
 use std::sync::Wait;
@@ -37,123 +39,172 @@ pub fn opened(
     }
 }
 
-/// Puts a key in. A key of more bits is never put in.
-pub fn insert<R: Wait>(rt: &R, hand: &mut HandleOf, k: u32) -> Result<bool, LiveError> {
-    if k < hand.universe() {
-        hand.insert(rt, k)
-    } else {
-        Ok(false)
+/// Why a call was refused.
+pub fn refused(cause: LiveError) -> Reply {
+    match cause {
+        LiveError::Closed => Reply::IsClosed,
+        LiveError::Replaced => Reply::IsReplaced,
+        LiveError::NoLane => Reply::NoLane,
+        _ => Reply::Fails,
     }
 }
 
-/// Takes a key out.
-pub fn remove<R: Wait>(rt: &R, hand: &mut HandleOf, k: u32) -> Result<bool, LiveError> {
-    if k < hand.universe() {
-        hand.remove(rt, k)
-    } else {
-        Ok(false)
+/// Why a call of a trie was not made.
+fn held_up(cause: TryError<WasOut>) -> Reply {
+    match cause {
+        TryError::Again(_) => Reply::Later,
+        TryError::Refused(cause) => refused(cause),
     }
 }
 
-/// Gives a key a weight.
-pub fn put<R: Wait>(
+/// Why a call of a handle was not made.
+fn missed(cause: TryError<Busy>) -> Reply {
+    match cause {
+        TryError::Again(Busy::Lock(_)) => Reply::Later,
+        TryError::Again(Busy::Round) => Reply::Anew,
+        TryError::Refused(cause) => refused(cause),
+    }
+}
+
+/// What an update comes to.
+fn came(done: Result<Told, LiveError>) -> Reply {
+    done.map_or_else(refused, outcome_of)
+}
+
+fn outcome_of(told: Told) -> Reply {
+    Reply::Came(told.outcome)
+}
+
+fn came_by(done: bool) -> Reply {
+    Reply::Came(made(done))
+}
+
+/// What a pop comes to.
+fn popped(done: Result<Option<(u32, u32)>, LiveError>) -> Reply {
+    match done {
+        Ok(Some((key, weight))) => Reply::Popped(Pop::Member(key, weight)),
+        Ok(None) => Reply::Popped(Pop::Empty),
+        Err(cause) => refused(cause),
+    }
+}
+
+/// An update of a key by a call that waits.
+fn updated<R: Wait>(rt: &R, hand: &mut HandleOf, change: Change) -> Reply {
+    let universe = hand.universe();
+    match change {
+        Change::Insert(k) if k < universe => hand.insert(rt, k).map_or_else(refused, came_by),
+        Change::Remove(k) if k < universe => hand.remove(rt, k).map_or_else(refused, came_by),
+        Change::Put(k, weight) if k < universe => came(hand.put(rt, k, weight)),
+        Change::Add(k, amount) if k < universe => came(hand.add(rt, k, amount)),
+        Change::Sub(k, amount) if k < universe => came(hand.sub(rt, k, amount)),
+        Change::Take(k, weight) if k < universe => came(hand.update(rt, k, Request::Take(weight))),
+        Change::PopFirst => popped(hand.pop_first(rt)),
+        Change::PopLast => popped(hand.pop_last(rt)),
+        _ => Reply::Not,
+    }
+}
+
+/// The same by a call that waits for nobody.
+fn tried(hand: &mut HandleOf, change: Change) -> Reply {
+    match (change, request_of(change)) {
+        (Change::PopFirst, _) => hand.try_pop_first().map_or_else(missed, Reply::Popped),
+        (Change::PopLast, _) => hand.try_pop_last().map_or_else(missed, Reply::Popped),
+        (_, Some((k, request))) if k < hand.universe() => {
+            hand.try_update(k, request).map_or_else(missed, outcome_of)
+        }
+        _ => Reply::Not,
+    }
+}
+
+/// Makes an update of a key, and says what it tells.
+pub fn told<R: Wait>(rt: &R, hand: &mut HandleOf, waits: bool, change: Change) -> Reply {
+    match request_of(change) {
+        Some((k, request)) if k < hand.universe() && waits => {
+            hand.update(rt, k, request).map_or_else(refused, tells)
+        }
+        Some((k, request)) if k < hand.universe() => {
+            hand.try_update(k, request).map_or_else(missed, tells)
+        }
+        _ => Reply::Not,
+    }
+}
+
+/// Makes an update. None is made of a key of more bits.
+pub fn changed<R: Wait>(rt: &R, hand: &mut HandleOf, waits: bool, change: Change) -> Reply {
+    if waits {
+        updated(rt, hand, change)
+    } else {
+        tried(hand, change)
+    }
+}
+
+/// Puts `count` keys in, from the key `from` on. How many of them went in.
+pub fn fill<R: Wait>(rt: &R, hand: &mut HandleOf, waits: bool, from: u32, count: u32) -> u32 {
+    let mut made = 0u32;
+    for k in from..from.saturating_add(count) {
+        let reply = changed(rt, hand, waits, Change::Insert(k));
+        made = made.saturating_add(u32::from(reply == Reply::Came(Outcome::Accepted)));
+    }
+    made
+}
+
+/// Makes three updates in one batch: how many were made, and what these came to. None is made of keys of more bits, or if the call was refused.
+pub fn changed_all<R: Wait>(
     rt: &R,
     hand: &mut HandleOf,
-    k: u32,
-    weight: u32,
-) -> Result<Outcome, LiveError> {
-    if k < hand.universe() {
-        hand.put(rt, k, weight)
-    } else {
-        Ok(Outcome::Refused)
+    waits: bool,
+    keys: [u32; 3],
+    requests: &[Request; 3],
+) -> (usize, [Outcome; 3]) {
+    let mut outcomes = [Outcome::TooGreat; 3];
+    let universe = hand.universe();
+    if keys[0] >= universe || keys[1] >= universe || keys[2] >= universe {
+        return (0, outcomes);
     }
+    let count = if waits {
+        hand.update_all(rt, &keys, requests, &mut outcomes).ok()
+    } else {
+        hand.try_update_all(&keys, requests, &mut outcomes).ok()
+    };
+    (count.unwrap_or(0), outcomes)
 }
 
-/// Adds to a key's weight.
-pub fn add<R: Wait>(
+/// A new handle for a lane, or why there is none.
+pub fn renewed<R: Wait>(
     rt: &R,
-    hand: &mut HandleOf,
-    k: u32,
-    amount: u32,
-) -> Result<Outcome, LiveError> {
-    if k < hand.universe() {
-        hand.add(rt, k, amount)
+    live: &mut LiveOf,
+    waits: bool,
+    lane: u32,
+) -> Result<HandleOf, Reply> {
+    if waits {
+        live.handle(rt, lane).map_err(refused)
     } else {
-        Ok(Outcome::Refused)
+        live.try_handle(lane).map_err(held_up)
     }
-}
-
-/// Takes from a key's weight.
-pub fn sub<R: Wait>(
-    rt: &R,
-    hand: &mut HandleOf,
-    k: u32,
-    amount: u32,
-) -> Result<Outcome, LiveError> {
-    if k < hand.universe() {
-        hand.sub(rt, k, amount)
-    } else {
-        Ok(Outcome::Refused)
-    }
-}
-
-/// Takes out the member at one end.
-pub fn pop<R: Wait>(
-    rt: &R,
-    hand: &mut HandleOf,
-    side: Side,
-) -> Result<Option<(u32, u32)>, LiveError> {
-    match side {
-        Side::First => hand.pop_first(rt),
-        Side::Last => hand.pop_last(rt),
-    }
-}
-
-/// The same, unless it would have to wait.
-pub fn try_pop(hand: &mut HandleOf, side: Side) -> Result<Pop, TryError<Busy>> {
-    match side {
-        Side::First => hand.try_pop_first(),
-        Side::Last => hand.try_pop_last(),
-    }
-}
-
-/// Makes an update, unless it would have to wait. A key of more bits is refused.
-pub fn try_update(
-    hand: &mut HandleOf,
-    k: u32,
-    request: Request,
-) -> Result<Outcome, TryError<Busy>> {
-    if k < hand.universe() {
-        hand.try_update(k, request)
-    } else {
-        Ok(Outcome::Refused)
-    }
-}
-
-/// A new handle for a lane.
-pub fn renewed<R: Wait>(rt: &R, live: &mut LiveOf, lane: u32) -> Result<HandleOf, LiveError> {
-    live.handle(rt, lane)
-}
-
-/// The same, unless it would have to wait.
-pub fn try_renewed(live: &mut LiveOf, lane: u32) -> Result<HandleOf, TryError<WasOut>> {
-    live.try_handle(lane)
 }
 
 /// Rolls the round over.
-pub fn rolled<R: Wait>(rt: &R, live: &mut LiveOf) -> Result<(), LiveError> {
-    live.roll(rt)
+pub fn rolled<R: Wait>(rt: &R, live: &mut LiveOf, waits: bool) -> Reply {
+    let done = if waits {
+        live.roll(rt).map_err(refused)
+    } else {
+        live.try_roll().map_err(held_up)
+    };
+    match done {
+        Ok(()) => Reply::Done,
+        Err(reply) => reply,
+    }
 }
 
-/// The same, unless it would have to wait.
-pub fn try_rolled(live: &mut LiveOf) -> Result<(), TryError<WasOut>> {
-    live.try_roll()
-}
-
-/// How many members a trie has at its end, its rounds, and how many keys were put in.
-pub fn closed<R: Wait>(rt: &R, live: LiveOf) -> (u32, u64, u64) {
-    let (set, counts) = live.close(rt);
-    (set.size(), counts.rounds, counts.inserts)
+/// The end of a trie, or the same trie if that would have to wait.
+pub fn closed<R: Wait>(rt: &R, live: LiveOf, waits: bool) -> Result<(Members, LiveCounts), LiveOf> {
+    if waits {
+        return Ok(live.close(rt));
+    }
+    match live.try_close() {
+        Ok(end) => Ok(end),
+        Err((live, _)) => Err(live),
+    }
 }
 
 /// The end of a trie.
@@ -161,19 +212,18 @@ pub fn ended<R: Wait>(rt: &R, live: LiveOf) -> (Members, LiveCounts) {
     live.close(rt)
 }
 
-/// The end of a trie, or the same trie if that would have to wait.
-pub fn try_closed(live: LiveOf) -> Result<(Members, LiveCounts), (LiveOf, WasOut)> {
-    live.try_close()
-}
-
 /// A look, or the handle with why there is none.
-pub fn may_look<R: Wait>(rt: &R, hand: HandleOf) -> Result<LookOf, (HandleOf, LiveError)> {
-    hand.look(rt)
-}
-
-/// The same, unless it would have to wait.
-pub fn try_look(hand: HandleOf) -> Result<LookOf, (HandleOf, TryError<Busy>)> {
-    hand.try_look()
+pub fn looked<R: Wait>(rt: &R, hand: HandleOf, waits: bool) -> Result<LookOf, (HandleOf, Reply)> {
+    if waits {
+        return match hand.look(rt) {
+            Ok(look) => Ok(look),
+            Err((hand, cause)) => Err((hand, refused(cause))),
+        };
+    }
+    match hand.try_look() {
+        Ok(look) => Ok(look),
+        Err((hand, cause)) => Err((hand, missed(cause))),
+    }
 }
 
 /// Ends a look.
@@ -202,54 +252,4 @@ pub fn has(look: &mut LookOf, k: u32) -> bool {
 /// How many members a look shows.
 pub fn size(look: &mut LookOf) -> u32 {
     look.ask(Size)
-}
-
-/// Puts `count` keys in, from the key `from` on. How many of them went in.
-pub fn fill<R: Wait>(rt: &R, hand: &mut HandleOf, from: u32, count: u32) -> u32 {
-    let mut made = 0u32;
-    for k in from..from.saturating_add(count) {
-        made = made.saturating_add(u32::from(insert(rt, hand, k) == Ok(true)));
-    }
-    made
-}
-
-/// The same, by calls that wait for nobody.
-pub fn try_fill(hand: &mut HandleOf, from: u32, count: u32) -> u32 {
-    let mut made = 0u32;
-    for k in from..from.saturating_add(count) {
-        let done = try_update(hand, k, Request::Insert) == Ok(Outcome::Accepted);
-        made = made.saturating_add(u32::from(done));
-    }
-    made
-}
-
-/// Makes three updates in one batch: how many were made, and what these came to. None is made of keys of more bits.
-pub fn update_all<R: Wait>(
-    rt: &R,
-    hand: &mut HandleOf,
-    keys: (u32, u32, u32),
-    requests: &[Request; 3],
-) -> Result<(usize, [Outcome; 3]), LiveError> {
-    let mut outcomes = [Outcome::TooGreat; 3];
-    let universe = hand.universe();
-    if keys.0 >= universe || keys.1 >= universe || keys.2 >= universe {
-        return Ok((0, outcomes));
-    }
-    let count = hand.update_all(rt, &[keys.0, keys.1, keys.2], requests, &mut outcomes)?;
-    Ok((count, outcomes))
-}
-
-/// The same, which waits for nobody.
-pub fn try_update_all(
-    hand: &mut HandleOf,
-    keys: (u32, u32, u32),
-    requests: &[Request; 3],
-) -> Result<(usize, [Outcome; 3]), TryError<Busy>> {
-    let mut outcomes = [Outcome::TooGreat; 3];
-    let universe = hand.universe();
-    if keys.0 >= universe || keys.1 >= universe || keys.2 >= universe {
-        return Ok((0, outcomes));
-    }
-    let count = hand.try_update_all(&[keys.0, keys.1, keys.2], requests, &mut outcomes)?;
-    Ok((count, outcomes))
 }

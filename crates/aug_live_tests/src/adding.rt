@@ -1,53 +1,16 @@
-//! Additions and subtractions through handles: over rounds, and by four threads at the same ten keys.
+//! Additions and subtractions by four threads at the same ten keys.
 
-use super::steps::Act::{Add, Close, Insert, Look, Over, Renew, Roll, Size, Sub, Weight};
-use super::steps::Reply::{Came, Done, Ended, Finds, Is, Number};
-use super::steps::{Row, rows};
 use crate::assertions::equal;
 use aug_live::OpenError;
-use aug_live_testing::opening::{HandleOf, add, ended, opened, sub};
-use aug_trie::Outcome::{Accepted, Replaced, TooGreat, TooLittle, Unchanged};
+use aug_live_testing::opening::{HandleOf, changed, ended, opened};
+use aug_trie::Outcome::{Accepted, Replaced, Unchanged};
+use aug_trie_testing::rows::Change::{Add, Sub};
+use aug_trie_testing::rows::Reply::Came;
 use std::alloc::Global;
 use std::process::Abort;
 use std::sync::Wait;
 use std::thread;
 use std::thread::Threads;
-
-const AMOUNTS: &[Row] = &[
-    // A lane has two updates in a round. Each addition of a member counts as a removal and an insertion.
-    Row {
-        shows: "additions and subtractions go on over rounds",
-        numbers: (4, 1, 0, 2),
-        steps: &[
-            (Insert(7), Is(true)),
-            (Add(7, 5), Came(Replaced)),
-            (Add(7, 1), Came(Replaced)),
-            (Add(3, 4), Came(Accepted)),
-            (Sub(7, 14), Came(TooLittle)),
-            (Add(7, u32::MAX), Came(TooGreat)),
-            (Add(2, 0), Came(Unchanged)),
-            (Sub(7, 3), Came(Replaced)),
-            (Roll, Done),
-            (Sub(3, 4), Came(Accepted)),
-            (Look, Done),
-            (Size, Number(1)),
-            (Weight(7), Finds(Some(10))),
-            (Weight(3), Finds(None)),
-            (Over, Done),
-            (Renew(0), Done),
-            (Add(7, 1), Came(Replaced)),
-            (Look, Done),
-            (Weight(7), Finds(Some(11))),
-            (Over, Done),
-            (Close, Ended(1, 5, 6, 5)),
-        ],
-    },
-];
-
-#[test]
-fn amounts_go_on_over_rounds(rt: HostRuntime) -> Result<(), OpenError> {
-    rows(&rt, rt.alloc(), AMOUNTS)
-}
 
 // How many times each thread goes through the keys.
 const TIMES: u32 = 300;
@@ -59,11 +22,10 @@ fn works<R: Wait>(rt: &R, hand: HandleOf, amounts: (u32, u32)) -> u32 {
     let mut made = 0u32;
     for number in 0..10 * TIMES {
         let key = number % 10;
-        let added = matches!(add(rt, &mut hand, key, more), Ok(Accepted | Replaced));
-        let taken = matches!(
-            sub(rt, &mut hand, key, less),
-            Ok(Accepted | Replaced | Unchanged)
-        );
+        let added = changed(rt, &mut hand, true, Add(key, more));
+        let added = matches!(added, Came(Accepted | Replaced));
+        let taken = changed(rt, &mut hand, true, Sub(key, less));
+        let taken = matches!(taken, Came(Accepted | Replaced | Unchanged));
         made = made.saturating_add(u32::from(added) + u32::from(taken));
     }
     made

@@ -2,7 +2,7 @@
 
 use crate::assertions::equal;
 use aug_live::OpenError;
-use aug_live_testing::opening::{HandleOf, ended, opened, try_update_all, update_all};
+use aug_live_testing::opening::{HandleOf, changed_all, ended, opened};
 use aug_trie::Outcome;
 use aug_trie::Outcome::{Accepted, Refused, Replaced, TooGreat};
 use aug_trie::Request::{Add, Insert, Put};
@@ -14,17 +14,11 @@ use std::sync::Wait;
 fn assert_batch<R: Wait + Abort>(
     rt: &R,
     hand: &mut HandleOf,
-    keys: (u32, u32, u32),
+    keys: [u32; 3],
     waits: bool,
     outcomes: (Outcome, Outcome),
 ) {
-    let requests = [Insert, Put(7), Add(1)];
-    let none = (0, [TooGreat; 3]);
-    let made = if waits {
-        update_all(rt, hand, keys, &requests).unwrap_or(none)
-    } else {
-        try_update_all(hand, keys, &requests).unwrap_or(none)
-    };
+    let made = changed_all(rt, hand, waits, keys, &[Insert, Put(7), Add(1)]);
     equal(rt, made, (2, [outcomes.0, outcomes.1, TooGreat]));
 }
 
@@ -33,9 +27,9 @@ fn a_batch_ends_where_the_updates_of_its_lane_do(rt: HostRuntime) -> Result<(), 
     // A lane has two updates in a round.
     let (live, mut hands) = opened(rt.alloc(), 4, 1, 0, 2)?;
     for hand in hands.as_mut_slice() {
-        assert_batch(&rt, hand, (3, 1, 3), true, (Accepted, Accepted));
-        assert_batch(&rt, hand, (3, 1, 3), true, (Refused, Replaced));
-        assert_batch(&rt, hand, (2, 1, 3), false, (Accepted, Replaced));
+        assert_batch(&rt, hand, [3, 1, 3], true, (Accepted, Accepted));
+        assert_batch(&rt, hand, [3, 1, 3], true, (Refused, Replaced));
+        assert_batch(&rt, hand, [2, 1, 3], false, (Accepted, Replaced));
     }
     let (set, _) = ended(&rt, live);
     equal(&rt, set.as_slice(), &[(1, 7), (2, 2), (3, 3)]);
@@ -55,26 +49,12 @@ const BATCHES: &[Batches] = &[
     (7, [3, 3, 1, 3, 3, 1], 2),
 ];
 
-// How many updates a batch of three makes, by a call that waits or does not.
-fn made<R: Wait>(rt: &R, hand: &mut HandleOf, waits: bool) -> usize {
-    let requests = [Put(7); 3];
-    let made = if waits {
-        update_all(rt, hand, (1, 2, 3), &requests).ok()
-    } else {
-        try_update_all(hand, (1, 2, 3), &requests).ok()
-    };
-    match made {
-        Some((count, _)) => count,
-        None => 0,
-    }
-}
-
 // The batches of a row make as many updates as there are keys and room for.
 fn assert_made<R: Wait + Abort>(rt: &R, hand: &mut HandleOf, it: &Batches, waits: bool) -> u64 {
     let (updates, counts, _) = *it;
     let mut all = 0u64;
     for (number, count) in counts.iter().enumerate() {
-        let found = made(rt, hand, waits);
+        let (found, _) = changed_all(rt, hand, waits, [1, 2, 3], &[Put(7); 3]);
         equal(rt, (updates, number, found), (updates, number, *count));
         all = all.saturating_add(found as u64);
     }

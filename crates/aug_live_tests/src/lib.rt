@@ -18,6 +18,6 @@ mod refused;
 #[cfg(test)]
 mod rows;
 #[cfg(test)]
-mod steps;
+mod since;
 #[cfg(test)]
-mod trying;
+mod steps;

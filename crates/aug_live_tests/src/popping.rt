@@ -1,64 +1,18 @@
-//! Pops through handles: over rounds, by calls that wait for nobody, and by four threads, each of which takes the first timer that is left, or the last.
+//! Pops by four threads, each of which takes the first timer that is left, or the last.
 
-use super::steps::Act::{
-    Close, Insert, Look, Over, Pop as PopAt, Put, Roll, Size, TryPop, TryTake,
-};
-use super::steps::Reply::{Came, Done, Ended, Is, Number, Popped, Tried};
-use super::steps::{Row, rows};
-use crate::assertions::equal;
+use crate::assertions::{equal, holds};
 use aug_live::OpenError;
-use aug_live_testing::opening::{HandleOf, ended, opened, pop, put};
-use aug_trie::Outcome::{Accepted, Refused};
-use aug_trie::Side::{First, Last};
-use aug_trie::{Pop, Side};
+use aug_live_testing::opening::{HandleOf, changed, ended, opened};
+use aug_trie::Outcome::{Accepted, Replaced};
+use aug_trie::Pop;
+use aug_trie_testing::rows::Change;
+use aug_trie_testing::rows::Change::{PopFirst, PopLast, Put};
+use aug_trie_testing::rows::Reply::{Came, Popped};
 use std::alloc::Global;
 use std::process::Abort;
 use std::sync::Wait;
 use std::thread;
 use std::thread::Threads;
-
-const POPS: &[Row] = &[
-    // A lane has two updates in a round.
-    Row {
-        shows: "pops go on over rounds, from both ends",
-        numbers: (4, 1, 0, 2),
-        steps: &[
-            (PopAt(First), Popped(None)),
-            (PopAt(Last), Popped(None)),
-            (Put(9, 0), Came(Accepted)),
-            (Insert(4), Is(true)),
-            (Insert(12), Is(true)),
-            (PopAt(First), Popped(Some((4, 4)))),
-            (PopAt(Last), Popped(Some((12, 12)))),
-            (Roll, Done),
-            (PopAt(First), Popped(Some((9, 0)))),
-            (PopAt(First), Popped(None)),
-            (Look, Done),
-            (Size, Number(0)),
-            (Over, Done),
-            (Close, Ended(0, 4, 3, 3)),
-        ],
-    },
-    Row {
-        shows: "pops and takes that wait for nobody",
-        numbers: (4, 1, 0, 8),
-        steps: &[
-            (TryPop(Last), Tried(Pop::Empty)),
-            (Insert(3), Is(true)),
-            (Put(5, 7), Came(Accepted)),
-            (TryTake(5, 5), Came(Refused)),
-            (TryPop(Last), Tried(Pop::Member(5, 7))),
-            (TryTake(3, 3), Came(Accepted)),
-            (TryPop(First), Tried(Pop::Empty)),
-            (Close, Ended(0, 1, 2, 2)),
-        ],
-    },
-];
-
-#[test]
-fn pops_go_on_over_rounds(rt: HostRuntime) -> Result<(), OpenError> {
-    rows(&rt, rt.alloc(), POPS)
-}
 
 // How many timers there are: one for each key of so many bits.
 const BITS: u32 = 13;
@@ -82,22 +36,22 @@ struct Run {
 }
 
 // One more timer was popped.
-fn longer(run: Run, side: Side, key: u32, weight: u32) -> Run {
+fn longer(run: Run, side: Change, key: u32, weight: u32) -> Run {
     let (from, below) = run.left;
     Run {
         count: run.count.saturating_add(1),
         sum: run.sum.saturating_add(u64::from(key)),
         in_order: run.in_order && from <= key && key < below && weight == weight_of(key),
         left: match side {
-            First => (key.saturating_add(1), below),
-            Last => (from, key),
+            PopFirst => (key.saturating_add(1), below),
+            _ => (from, key),
         },
         to_the_end: false,
     }
 }
 
 // Pops at one end until nothing is left. Nobody puts a key in meanwhile, so the keys rise, or fall.
-fn pops<R: Wait>(rt: &R, hand: HandleOf, side: Side) -> Run {
+fn pops<R: Wait>(rt: &R, hand: HandleOf, side: Change) -> Run {
     let mut hand = hand;
     let mut run = Run {
         count: 0,
@@ -107,13 +61,12 @@ fn pops<R: Wait>(rt: &R, hand: HandleOf, side: Side) -> Run {
         to_the_end: false,
     };
     for _ in 0..=TIMERS {
-        match pop(rt, &mut hand, side) {
-            Ok(Some((key, weight))) => run = longer(run, side, key, weight),
-            Ok(None) => {
-                run.to_the_end = true;
+        match changed(rt, &mut hand, true, side) {
+            Popped(Pop::Member(key, weight)) => run = longer(run, side, key, weight),
+            reply => {
+                run.to_the_end = reply == Popped(Pop::Empty);
                 return run;
             }
-            Err(_) => return run,
         }
     }
     run
@@ -123,13 +76,14 @@ fn pops<R: Wait>(rt: &R, hand: HandleOf, side: Side) -> Run {
 fn popped_by_four<R: Threads + Wait + Abort + Sync>(
     rt: &R,
     alloc: Global,
-    side: Side,
+    side: Change,
 ) -> Result<(), OpenError> {
     let (live, hands) = opened(alloc, BITS, 4, 2, TIMERS)?;
     let mut hands = hands;
     for hand in hands.as_mut_slice() {
         for key in 0..TIMERS {
-            equal(rt, put(rt, hand, key, weight_of(key)).is_ok(), true);
+            let reply = changed(rt, hand, true, Put(key, weight_of(key)));
+            holds(rt, matches!(reply, Came(Accepted | Replaced)));
         }
     }
     let runs = thread::map_vec(rt, hands, &|hand| pops(rt, hand, side)).expect(rt, "memory");
@@ -148,7 +102,7 @@ fn popped_by_four<R: Threads + Wait + Abort + Sync>(
 
 #[test]
 fn four_threads_pop_each_timer_once(rt: HostRuntime) -> Result<(), OpenError> {
-    for side in [First, Last] {
+    for side in [PopFirst, PopLast] {
         popped_by_four(&rt, rt.alloc(), side)?;
     }
     Ok(())

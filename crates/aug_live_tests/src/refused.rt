@@ -1,13 +1,17 @@
 //! Memory refused: nothing is lost, and a later call succeeds.
 
-use super::steps::Act::{Close, Fill, Insert, Look, Over, Remove, Renew, Roll, Size};
-use super::steps::Reply::{Done, Ended, Is, Number};
 use super::steps::{state_of, steps};
 use crate::assertions::equal;
 use aug_live::{Live, OpenError, Plan};
-use aug_live_testing::opening::{HandleOf, LiveOf, ended, insert, no_keys, opened, put};
+use aug_live_testing::opening::{HandleOf, LiveOf, changed, ended, no_keys, opened};
 use aug_monoid::{Extent, Sum};
-use aug_trie::{Members, Outcome};
+use aug_trie::Members;
+use aug_trie::Outcome::{Accepted, Refused};
+use aug_trie_testing::rows::Act::*;
+use aug_trie_testing::rows::Change::*;
+use aug_trie_testing::rows::Line;
+use aug_trie_testing::rows::Line::*;
+use aug_trie_testing::rows::Reply::*;
 use std::alloc::Global;
 use std::process::Abort;
 use std::sync::Wait;
@@ -47,23 +51,22 @@ fn opened_again(rt: &impl Abort, alloc: Global) -> Result<(LiveOf, Vec<HandleOf>
     }
 }
 
+const LINES: &[Line] = &[
+    A(Fill(0, 5), Number(5)),
+    A(Now(Remove(2)), Came(Accepted)),
+    A(Size, Number(4)),
+    A(Renew(0), Done),
+    A(Now(Insert(4)), Came(Refused)),
+    A(Roll, Done),
+    A(Close, Closed(4, 5, 5, 1)),
+];
+
 // Passes whichever request for memory is refused. Updates, looks, roll-overs and new handles ask for none, so that none of them is refused.
 #[test]
 fn refused_memory_loses_nothing_of_a_live_trie(rt: HostRuntime) -> Result<(), OpenError> {
-    let script = [
-        (Fill(0, 5), Number(5)),
-        (Remove(2), Is(true)),
-        (Look, Done),
-        (Size, Number(4)),
-        (Over, Done),
-        (Renew(0), Done),
-        (Insert(4), Is(false)),
-        (Roll, Done),
-        (Close, Ended(4, 5, 5, 1)),
-    ];
     let (live, hands) = opened_again(&rt, rt.alloc())?;
     let state = state_of(live, hands);
-    steps(&rt, rt.alloc(), state, "a trie of two updates", &script);
+    steps(&rt, rt.alloc(), state, true, "a trie of two updates", LINES);
     Ok(())
 }
 
@@ -71,8 +74,9 @@ fn refused_memory_loses_nothing_of_a_live_trie(rt: HostRuntime) -> Result<(), Op
 fn two_keys<R: Wait + Abort>(rt: &R, alloc: Global) -> Result<Members, OpenError> {
     let (live, mut hands) = opened(alloc, 4, 1, 0, 2)?;
     let mut hand = hands.pop().expect(rt, "a handle");
-    equal(rt, put(rt, &mut hand, 3, 30), Ok(Outcome::Accepted));
-    equal(rt, insert(rt, &mut hand, 9), Ok(true));
+    for change in [Put(3, 30), Insert(9)] {
+        equal(rt, changed(rt, &mut hand, true, change), Came(Accepted));
+    }
     let (set, _) = ended(rt, live);
     Ok(set)
 }

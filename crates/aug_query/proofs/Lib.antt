@@ -9,6 +9,8 @@ pub mod Ends
 pub mod Passing
 pub mod Beside
 pub mod Changing
+pub mod Boundaries
+pub mod Merging
 pub mod Inside
 pub mod Together
 pub mod Batches

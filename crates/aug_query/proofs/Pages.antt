@@ -201,13 +201,13 @@ pub page_counts : (bits level x : ℕ) → level ≡ bits → x ≤ 33 → 0 + 1
 page_counts bits level x e few = let each = mul-le-mul_left level few in omega (arith, each, e)
 
 -- so many loads of two children and below them
-part_nodes : (level l x y z : ℕ) → l + 1 ≡ level → x + y ≤ z → 1 ≤ z → 1 + 0 + 2 * l * x + 1 + 2 * l * y ≤ 2 * level * z
+pub part_nodes : (level l x y z : ℕ) → l + 1 ≡ level → x + y ≤ z → 1 ≤ z → 1 + 0 + 2 * l * x + 1 + 2 * l * y ≤ 2 * level * z
 part_nodes level l x y z e few some =
     let each = mul-le-mul_left (2 * l) few in
     let more : 2 * (l + 1) * z ≡ 2 * l * z + 2 * z = omega arith in
     omega (arith, each, more, some, ap (λ j. 2 * j * z) e)
 
-part_counts : (level l x y z : ℕ) → l + 1 ≡ level → x + y ≤ z → 1 ≤ z → 0 + 1 + l * x + 0 + l * y ≤ level * z
+pub part_counts : (level l x y z : ℕ) → l + 1 ≡ level → x + y ≤ z → 1 ≤ z → 0 + 1 + l * x + 0 + l * y ≤ level * z
 part_counts level l x y z e few some =
     let each = mul-le-mul_left l few in
     let more : (l + 1) * z ≡ l * z + z = omega arith in

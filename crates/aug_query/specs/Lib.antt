@@ -1,6 +1,7 @@
 pub mod FakeTree
 pub mod Descend
 pub mod DescendBoth
+pub mod BothMembers
 pub mod NodeWalk
 pub mod RunningSums
 pub mod Tree

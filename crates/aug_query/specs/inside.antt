@@ -6,4 +6,5 @@ pub mod NodePlaces
 pub mod NodeWalkLaws
 pub mod Paths
 pub mod Rows
+pub mod Since
 pub mod Pages

@@ -80,14 +80,6 @@ const WITHOUT_PAIRS: &[Step<'static>] = &[
     Step::Asks(Query::Weight(6), Answer::Found(None)),
 ];
 
-// The tree of 5 and 9, also if the first request for it is refused.
-fn small_at_last(alloc: Global) -> Result<Small, AllocError> {
-    match five_and_nine(alloc) {
-        Ok(tree) => Ok(tree),
-        Err(_) => five_and_nine(alloc),
-    }
-}
-
 // Makes a call again if it is refused, after those that go on to answer.
 fn take_at_last(
     rt: &impl Abort,
@@ -103,24 +95,15 @@ fn take_at_last(
     Ok(())
 }
 
+const BOTH_LISTS: &[Step<'static>] = &[Step::Keys(&[5, 9]), Step::Pairs(&[(5, 70), (9, 30)])];
+
 // A request that is refused is made again, and what was asked for before it is still so. `tests/faults` refuses each in turn.
 #[test]
 fn refused_memory_changes_no_answer(rt: HostRuntime) -> Result<(), AllocError> {
-    let mut tree = small_at_last(rt.alloc())?;
-    take_at_last(
-        &rt,
-        rt.alloc(),
-        &mut tree,
-        &Step::Keys(&[5, 9]),
-        WITHOUT_A_LIST,
-    )?;
-    take_at_last(
-        &rt,
-        rt.alloc(),
-        &mut tree,
-        &Step::Pairs(&[(5, 70), (9, 30)]),
-        WITHOUT_PAIRS,
-    )
+    let (r, alloc) = (&rt, rt.alloc());
+    let mut tree = five_and_nine(alloc).or_else(|_| five_and_nine(alloc))?;
+    take_at_last(r, alloc, &mut tree, &BOTH_LISTS[0], WITHOUT_A_LIST)?;
+    take_at_last(r, alloc, &mut tree, &BOTH_LISTS[1], WITHOUT_PAIRS)
 }
 
 const OF_EACH_QUERY: &[Step<'static>] = &[
@@ -141,8 +124,6 @@ fn the_queries_of_a_tree_of_4_bits_ask_7_times_for_memory(
 ) -> Result<(), AllocError> {
     play(&rt, rt.alloc(), OF_EACH_QUERY)
 }
-
-const BOTH_LISTS: &[Step<'static>] = &[Step::Keys(&[5, 9]), Step::Pairs(&[(5, 70), (9, 30)])];
 
 // Each list asks once more.
 #[test]

@@ -32,11 +32,8 @@ fn agrees(rt: &impl Abort, page: &[(u32, u32)], list: &[(u32, u32)], key: u32, f
     for place in 0..33usize {
         let found = page.get(place).copied();
         let wanted = expected(list, below, place, falling);
-        equal(
-            rt,
-            (key, falling, place, found),
-            (key, falling, place, wanted),
-        );
+        let at = (key, falling, place);
+        equal(rt, (at, found), (at, wanted));
     }
 }
 
@@ -64,13 +61,10 @@ fn agree_over(rt: &impl Abort, alloc: Global, set: &KeySet, end: u32) -> Result<
 #[test]
 fn pages_have_the_members_of_each_set_of_three_bits(rt: HostRuntime) -> Result<(), Fail> {
     for mask in 0..256 {
-        agree_over(&rt, rt.alloc(), &set_of_mask(rt.alloc(), 3, mask)?, 10)?;
-        agree_over(
-            &rt,
-            rt.alloc(),
-            &set_of_mask(rt.alloc(), 1 + mask % 2, mask % 16)?,
-            5,
-        )?;
+        let set = set_of_mask(rt.alloc(), 3, mask)?;
+        agree_over(&rt, rt.alloc(), &set, 10)?;
+        let set = set_of_mask(rt.alloc(), 1 + mask % 2, mask % 16)?;
+        agree_over(&rt, rt.alloc(), &set, 5)?;
     }
     Ok(())
 }
@@ -78,12 +72,8 @@ fn pages_have_the_members_of_each_set_of_three_bits(rt: HostRuntime) -> Result<(
 #[test]
 fn pages_have_sparse_members_of_many_bits(rt: HostRuntime) -> Result<(), Fail> {
     for bits in 5..=16 {
-        agree_over(
-            &rt,
-            rt.alloc(),
-            &set_of_mask(rt.alloc(), bits, 0x8000_0101)?,
-            34,
-        )?;
+        let set = set_of_mask(rt.alloc(), bits, 0x8000_0101)?;
+        agree_over(&rt, rt.alloc(), &set, 34)?;
     }
     Ok(())
 }

@@ -49,30 +49,22 @@ fn left_by<R: Threads + Wait>(
     }
 }
 
-// A line of words and the calls of both sinks that fail, with the status, how often a file is asked for, and what goes out to both.
-struct Line {
-    words: &'static str,
-    faults: (Option<u64>, Option<u64>),
-    status: u8,
-    opened: u64,
-    output: &'static str,
-    errors: &'static str,
-}
+// What the program leaves of a line of words: its status, how often a file is asked for, and what goes out to both sinks.
+type Leaves<'a> = (u8, u64, &'a str, &'a str);
 
 fn assert_leaves<R: Threads + Wait + Abort>(
     rt: &R,
     alloc: Global,
-    line: &Line,
+    line: &str,
+    faults: (Option<u64>, Option<u64>),
+    leaves: Leaves<'_>,
 ) -> Result<(), AllocError> {
-    let words = words_of(alloc, line.words)?;
-    let left = left_by(rt, alloc, words.as_slice(), line.faults.0, line.faults.1);
-    equal(
-        rt,
-        (line.words, left.status, left.opened),
-        (line.words, line.status, line.opened),
-    );
-    equal(rt, left.output.out.as_slice(), line.output.as_bytes());
-    equal(rt, left.errors.out.as_slice(), line.errors.as_bytes());
+    let words = words_of(alloc, line)?;
+    let left = left_by(rt, alloc, words.as_slice(), faults.0, faults.1);
+    let (status, opened, output, errors) = leaves;
+    equal(rt, (line, left.status, left.opened), (line, status, opened));
+    equal(rt, left.output.out.as_slice(), output.as_bytes());
+    equal(rt, left.errors.out.as_slice(), errors.as_bytes());
     Ok(())
 }
 
@@ -91,193 +83,92 @@ Options:
   -h, --help         Print help
 ";
 
-const LINES: &[Line] = &[
-    Line {
-        words: "",
-        faults: (None, None),
-        status: 0,
-        opened: 0,
-        output: "1 0 look = ok\n1 end size=0 in=0 out=0\n",
-        errors: "",
-    },
-    Line {
-        words: "a.csv",
-        faults: (None, None),
-        status: 0,
-        opened: 1,
-        output: "1 0 size = 0\n1 end size=0 in=0 out=0\n",
-        errors: "",
-    },
-    Line {
-        words: "--help a.csv",
-        faults: (None, None),
-        status: 0,
-        opened: 0,
-        output: HELP,
-        errors: "",
-    },
-    Line {
-        words: "--bits 3 --help",
-        faults: (None, None),
-        status: 0,
-        opened: 0,
-        output: HELP,
-        errors: "",
-    },
-    Line {
-        words: "b.csv",
-        faults: (None, None),
-        status: 3,
-        opened: 1,
-        output: "",
-        errors: "augtrie: input\n",
-    },
+const NONE: (Option<u64>, Option<u64>) = (None, None);
 
+const LINES: &[(&str, (Option<u64>, Option<u64>), Leaves<'static>)] = &[
+    (
+        "",
+        NONE,
+        (0, 0, "1 0 look = ok\n1 end size=0 in=0 out=0\n", ""),
+    ),
+    (
+        "a.csv",
+        NONE,
+        (0, 1, "1 0 size = 0\n1 end size=0 in=0 out=0\n", ""),
+    ),
+    ("--help a.csv", NONE, (0, 0, HELP, "")),
+    ("--bits 3 --help", NONE, (0, 0, HELP, "")),
+    ("b.csv", NONE, (3, 1, "", "augtrie: input\n")),
     // What cannot be written changes no status.
-    Line {
-        words: "",
-        faults: (Some(1), None),
-        status: 3,
-        opened: 0,
-        output: "1 0 loo",
-        errors: "augtrie: output\n",
-    },
-    Line {
-        words: "",
-        faults: (Some(2), Some(0)),
-        status: 3,
-        opened: 0,
-        output: "1 0 look = ok\n",
-        errors: "",
-    },
-    Line {
-        words: "--help",
-        faults: (Some(0), Some(0)),
-        status: 0,
-        opened: 0,
-        output: "",
-        errors: "",
-    },
-    Line {
-        words: "--bits 17",
-        faults: (Some(0), Some(0)),
-        status: 2,
-        opened: 0,
-        output: "",
-        errors: "",
-    },
-    Line {
-        words: "b.csv",
-        faults: (Some(0), Some(1)),
-        status: 3,
-        opened: 1,
-        output: "",
-        errors: "augtrie",
-    },
-
+    ("", (Some(1), None), (3, 0, "1 0 loo", "augtrie: output\n")),
+    ("", (Some(2), Some(0)), (3, 0, "1 0 look = ok\n", "")),
+    ("--help", (Some(0), Some(0)), (0, 0, "", "")),
+    ("--bits 17", (Some(0), Some(0)), (2, 0, "", "")),
+    ("b.csv", (Some(0), Some(1)), (3, 1, "", "augtrie")),
     // Wrong words are told before the file is opened.
-    Line {
-        words: "--bits 16 --workers 64 --updates 13108 a.csv",
-        faults: (None, None),
-        status: 2,
-        opened: 0,
-        output: "",
-        errors: "augtrie: TooLarge\n",
-    },
-    Line {
-        words: "--bits 0",
-        faults: (None, None),
-        status: 2,
-        opened: 0,
-        output: "",
-        errors: "error: invalid value '0' for '--bits <H>': 0 is not in 1..=16\n\nFor more information, try '--help'.\n",
-    },
-    Line {
-        words: "--bits 17 a.csv",
-        faults: (None, None),
-        status: 2,
-        opened: 0,
-        output: "",
-        errors: "error: invalid value '17' for '--bits <H>': 17 is not in 1..=16\n\nFor more information, try '--help'.\n",
-    },
-    Line {
-        words: "--bits x",
-        faults: (None, None),
-        status: 2,
-        opened: 0,
-        output: "",
-        errors: "error: invalid value 'x' for '--bits <H>': invalid digit found in string\n\nFor more information, try '--help'.\n",
-    },
-    Line {
-        words: "--workers 0",
-        faults: (None, None),
-        status: 2,
-        opened: 0,
-        output: "",
-        errors: "error: invalid value '0' for '--workers <W>': 0 is not in 1..=64\n\nFor more information, try '--help'.\n",
-    },
-    Line {
-        words: "--workers 65",
-        faults: (None, None),
-        status: 2,
-        opened: 0,
-        output: "",
-        errors: "error: invalid value '65' for '--workers <W>': 65 is not in 1..=64\n\nFor more information, try '--help'.\n",
-    },
-    Line {
-        words: "--updates 0",
-        faults: (None, None),
-        status: 2,
-        opened: 0,
-        output: "",
-        errors: "error: invalid value '0' for '--updates <U>': 0 is not in 1..=65536\n\nFor more information, try '--help'.\n",
-    },
-    Line {
-        words: "--updates 65537",
-        faults: (None, None),
-        status: 2,
-        opened: 0,
-        output: "",
-        errors: "error: invalid value '65537' for '--updates <U>': 65537 is not in 1..=65536\n\nFor more information, try '--help'.\n",
-    },
-    Line {
-        words: "--bits",
-        faults: (None, None),
-        status: 2,
-        opened: 0,
-        output: "",
-        errors: "error: a value is required for '--bits <H>' but none was supplied\n\nFor more information, try '--help'.\n",
-    },
-    Line {
-        words: "--bits 3 --bits 3",
-        faults: (None, None),
-        status: 2,
-        opened: 0,
-        output: "",
-        errors: "error: the argument '--bits <H>' cannot be used multiple times\n\nUsage: augtrie [OPTIONS] [FILE]\n\nFor more information, try '--help'.\n",
-    },
-    Line {
-        words: "--lanes 3",
-        faults: (None, None),
-        status: 2,
-        opened: 0,
-        output: "",
-        errors: "error: unexpected argument '--lanes' found\n\n  tip: to pass '--lanes' as a value, use '-- --lanes'\n\nUsage: augtrie [OPTIONS] [FILE]\n\nFor more information, try '--help'.\n",
-    },
-    Line {
-        words: "a.csv b.csv",
-        faults: (None, None),
-        status: 2,
-        opened: 0,
-        output: "",
-        errors: "error: unexpected argument 'b.csv' found\n\nUsage: augtrie [OPTIONS] [FILE]\n\nFor more information, try '--help'.\n",
-    },
+    (
+        "--bits 16 --workers 64 --updates 13108 a.csv",
+        NONE,
+        (2, 0, "", "augtrie: TooLarge\n"),
+    ),
+];
+
+// Words that are wrong, and what is told of them. All other lines of that are the same.
+const WRONG: &[(&str, &str)] = &[
+    (
+        "--bits 0",
+        "error: invalid value '0' for '--bits <H>': 0 is not in 1..=16",
+    ),
+    (
+        "--bits 17 a.csv",
+        "error: invalid value '17' for '--bits <H>': 17 is not in 1..=16",
+    ),
+    (
+        "--bits x",
+        "error: invalid value 'x' for '--bits <H>': invalid digit found in string",
+    ),
+    (
+        "--workers 0",
+        "error: invalid value '0' for '--workers <W>': 0 is not in 1..=64",
+    ),
+    (
+        "--workers 65",
+        "error: invalid value '65' for '--workers <W>': 65 is not in 1..=64",
+    ),
+    (
+        "--updates 0",
+        "error: invalid value '0' for '--updates <U>': 0 is not in 1..=65536",
+    ),
+    (
+        "--updates 65537",
+        "error: invalid value '65537' for '--updates <U>': 65537 is not in 1..=65536",
+    ),
+    (
+        "--bits",
+        "error: a value is required for '--bits <H>' but none was supplied",
+    ),
+    (
+        "--bits 3 --bits 3",
+        "error: the argument '--bits <H>' cannot be used multiple times\n\nUsage: augtrie [OPTIONS] [FILE]",
+    ),
+    (
+        "--lanes 3",
+        "error: unexpected argument '--lanes' found\n\n  tip: to pass '--lanes' as a value, use '-- --lanes'\n\nUsage: augtrie [OPTIONS] [FILE]",
+    ),
+    (
+        "a.csv b.csv",
+        "error: unexpected argument 'b.csv' found\n\nUsage: augtrie [OPTIONS] [FILE]",
+    ),
 ];
 
 #[test]
 fn each_line_of_words_has_its_status_and_its_texts(rt: HostRuntime) -> Result<(), Fail> {
-    for line in LINES {
-        assert_leaves(&rt, rt.alloc(), line)?;
+    for (line, faults, leaves) in LINES {
+        assert_leaves(&rt, rt.alloc(), line, *faults, *leaves)?;
+    }
+    for (line, error) in WRONG {
+        let errors = format!(in rt.alloc(); "{error}\n\nFor more information, try '--help'.\n")?;
+        assert_leaves(&rt, rt.alloc(), line, NONE, (2, 0, "", errors.as_str()))?;
     }
     Ok(())
 }

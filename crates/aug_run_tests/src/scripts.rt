@@ -1,6 +1,7 @@
 //! Whole scripts, with what they print.
 use crate::assertions::{equal, holds};
 use aug_run::{RunError, run};
+use aug_script::ScriptError::*;
 use aug_script::{Limits, MemorySink, MemorySource, ScriptError};
 use std::alloc::Global;
 use std::process::Abort;
@@ -65,219 +66,130 @@ fn assert_runs(
     equal(rt, sink.out.as_slice(), text.as_bytes());
 }
 
-const SCRIPTS: &[(Bounds, &str, Result<(), RunError>, &str, u64)] = &[
-    (FEW, FIRST_SCRIPT, Ok(()), FIRST_REPORT, 1),
+// Scripts under limits, and their reports. How many these are, their last lines say.
+const REPORTS: &[(Bounds, &str, &str)] = &[
+    (FEW, FIRST_SCRIPT, FIRST_REPORT),
     (
         FEW,
         "0,insert,5\n0,insert,9\n0,insert,5\n0,look\n0,size\n0,rank,9\n0,select,1\n0,range,0,16\n*,end\n",
-        Ok(()),
         FIRST_REPORT,
-        1,
     ),
-    (FEW, "", Ok(()), "", 0),
+    (FEW, "", ""),
     (
         FEW,
         "0,size\n0,has,3\n0,rank,16\n0,select,0\n0,before,16\n0,after,0\n0,range,0,16\n",
-        Ok(()),
         "1 0 size = 0\n1 0 has 3 = no\n1 0 rank 16 = 0\n1 0 select 0 = -\n1 0 before 16 = -\n1 0 after 0 = -\n1 0 range 0 16 = 0 0 - -\n1 end size=0 in=0 out=0\n",
-        1,
     ),
     (
         FEW,
         "0,insert,7\n0,has,7\n0,after,0\n0,look\n0,has,7\n0,after,0\n0,before,16\n0,before,7\n",
-        Ok(()),
         "1 0 insert 7 = new\n1 0 has 7 = no\n1 0 after 0 = -\n1 0 look = ok\n1 0 has 7 = yes\n1 0 after 0 = 7\n1 0 before 16 = 7\n1 0 before 7 = -\n1 end size=1 in=1 out=0\n",
-        1,
     ),
-    (FEW, "*,end", Ok(()), "1 end size=0 in=0 out=0\n", 1),
+    (FEW, "*,end", "1 end size=0 in=0 out=0\n"),
     (
         FEW,
         "0,put,5,100\n0,put,5,7\n0,look\n0,weight,5\n0,range,0,16\n0,insert,9\n0,look\n0,range,0,16\n",
-        Ok(()),
         "1 0 put 5 100 = new\n1 0 put 5 7 = set\n1 0 look = ok\n1 0 weight 5 = 7\n1 0 range 0 16 = 1 7 5 5\n1 0 insert 9 = new\n1 0 look = ok\n1 0 range 0 16 = 2 16 5 9\n1 end size=2 in=3 out=1\n",
-        1,
     ),
     (
         FEW,
         "0,put,3,999999999\n0,put,4,999999999\n0,put,5,0\n0,look\n0,weight,3\n0,weight,5\n0,weight,6\n0,range,0,16\n",
-        Ok(()),
         "1 0 put 3 999999999 = new\n1 0 put 4 999999999 = new\n1 0 put 5 0 = new\n1 0 look = ok\n1 0 weight 3 = 999999999\n1 0 weight 5 = 0\n1 0 weight 6 = -\n1 0 range 0 16 = 3 1999999998 3 5\n1 end size=3 in=3 out=0\n",
-        1,
     ),
     (
         FEW,
         "0,remove,3\n0,insert,3\n0,remove,3\n0,remove,3\n",
-        Ok(()),
         "1 0 remove 3 = none\n1 0 insert 3 = new\n1 0 remove 3 = gone\n1 0 remove 3 = none\n1 end size=0 in=1 out=1\n",
-        1,
     ),
     (
         FEW,
         "0,rank,16",
-        Ok(()),
         "1 0 rank 16 = 0\n1 end size=0 in=0 out=0\n",
-        1,
     ),
     (
         FEW,
         "\"0\",\"insert\",\"005\"\r\n\r\n0,look",
-        Ok(()),
         "1 0 insert 5 = new\n1 0 look = ok\n1 end size=1 in=1 out=0\n",
-        1,
     ),
     (
         FEW,
         "0,insert,6\n0,insert,7\n0,look\n0,range,6,7\n0,range,0,16\n",
-        Ok(()),
         "1 0 insert 6 = new\n1 0 insert 7 = new\n1 0 look = ok\n1 0 range 6 7 = 1 6 6 6\n1 0 range 0 16 = 2 13 6 7\n1 end size=2 in=2 out=0\n",
-        1,
     ),
     (
         FEW,
         "0,insert,6\n0,insert,7\n0,look\n0,range,9,5\n",
-        Ok(()),
         "1 0 insert 6 = new\n1 0 insert 7 = new\n1 0 look = ok\n1 0 range 9 5 = 0 0 - -\n1 end size=2 in=2 out=0\n",
-        1,
     ),
     (
         FEW,
         "0,insert,1\n0,insert,2\n0,insert,3\n*,end\n0,remove,2\n0,look\n0,select,1\n*,end\n0,size\n",
-        Ok(()),
         "1 0 insert 1 = new\n1 0 insert 2 = new\n1 0 insert 3 = new\n1 end size=3 in=3 out=0\n2 0 remove 2 = gone\n2 0 look = ok\n2 0 select 1 = 3\n2 end size=2 in=0 out=1\n3 0 size = 2\n3 end size=2 in=0 out=0\n",
-        3,
     ),
     (
         FEW,
         "0,put,1,50\n0,put,2,60\n*,end\n0,weight,1\n0,insert,2\n0,put,1,70\n0,look\n0,weight,1\n0,weight,2\n*,end\n0,range,0,16\n",
-        Ok(()),
         "1 0 put 1 50 = new\n1 0 put 2 60 = new\n1 end size=2 in=2 out=0\n2 0 weight 1 = 50\n2 0 insert 2 = old\n2 0 put 1 70 = set\n2 0 look = ok\n2 0 weight 1 = 70\n2 0 weight 2 = 60\n2 end size=2 in=1 out=1\n3 0 range 0 16 = 2 130 1 2\n3 end size=2 in=0 out=0\n",
-        3,
     ),
     (
         FEW,
         "0,put,5,100\n0,put,15,7\n*,end\n*,grow,9\n0,weight,5\n0,put,511,40\n0,look\n0,weight,15\n0,range,0,512\n*,end\n*,grow,12\n*,grow,16\n0,weight,511\n0,range,15,65536\n",
-        Ok(()),
         "1 0 put 5 100 = new\n1 0 put 15 7 = new\n1 end size=2 in=2 out=0\n2 0 weight 5 = 100\n2 0 put 511 40 = new\n2 0 look = ok\n2 0 weight 15 = 7\n2 0 range 0 512 = 3 147 5 511\n2 end size=3 in=1 out=0\n3 0 weight 511 = 40\n3 0 range 15 65536 = 2 47 15 511\n3 end size=3 in=0 out=0\n",
-        3,
     ),
     (
         (2, 1, 64),
         "0,insert,3\n*,end\n*,grow,5\n0,insert,31\n0,look\n0,rank,32\n0,before,31\n0,has,3\n",
-        Ok(()),
         "1 0 insert 3 = new\n1 end size=1 in=1 out=0\n2 0 insert 31 = new\n2 0 look = ok\n2 0 rank 32 = 2\n2 0 before 31 = 3\n2 0 has 3 = yes\n2 end size=2 in=1 out=0\n",
-        2,
     ),
-
     // Rows that give keys more bits make no round.
-    (FEW, "*,grow,5", Ok(()), "", 0),
-    (
-        FEW,
-        "*,grow,5\n*,end\n",
-        Ok(()),
-        "1 end size=0 in=0 out=0\n",
-        1,
-    ),
-    (
-        FEW,
-        "*,end\n*,grow,5\n",
-        Ok(()),
-        "1 end size=0 in=0 out=0\n",
-        1,
-    ),
-
+    (FEW, "*,grow,5", ""),
+    (FEW, "*,grow,5\n*,end\n", "1 end size=0 in=0 out=0\n"),
+    (FEW, "*,end\n*,grow,5\n", "1 end size=0 in=0 out=0\n"),
     // Updates are limited in each round.
     (
         (4, 1, 2),
-        "0,insert,1\n0,remove,1\n0,insert,1\n",
-        Err(RunError::Script(ScriptError::TooManyUpdates(3))),
-        "",
-        0,
-    ),
-    (
-        (4, 1, 2),
         "0,insert,1\n0,remove,1\n",
-        Ok(()),
         "1 0 insert 1 = new\n1 0 remove 1 = gone\n1 end size=0 in=1 out=1\n",
-        1,
     ),
     (
         (4, 1, 2),
         "0,insert,1\n0,remove,1\n*,end\n0,insert,1\n",
-        Ok(()),
         "1 0 insert 1 = new\n1 0 remove 1 = gone\n1 end size=0 in=1 out=1\n2 0 insert 1 = new\n2 end size=1 in=1 out=0\n",
-        2,
     ),
+];
 
-    // A script with a fault prints nothing. `aug_script_tests` has a row of each fault.
+// Scripts with a fault, which print nothing. `aug_script_tests` has a row of each fault.
+const FAULTS: &[(Bounds, &str, ScriptError)] = &[
     (
-        (4, 64, 13_108),
-        "*,grow,16",
-        Err(RunError::Script(ScriptError::TooWide(1))),
-        "",
-        0,
+        (4, 1, 2),
+        "0,insert,1\n0,remove,1\n0,insert,1\n",
+        TooManyUpdates(3),
     ),
-    (
-        FEW,
-        "0,insert,\u{e9}",
-        Err(RunError::Script(ScriptError::BadCsv(1))),
-        "",
-        0,
-    ),
-    (
-        FEW,
-        "x,fly",
-        Err(RunError::Script(ScriptError::BadLane(1))),
-        "",
-        0,
-    ),
-    (
-        FEW,
-        "0,look\n\n\n0,size\n0,fly\n",
-        Err(RunError::Script(ScriptError::BadVerb(3))),
-        "",
-        0,
-    ),
-    (
-        FEW,
-        "0,fly\n0,insert,16\n",
-        Err(RunError::Script(ScriptError::BadVerb(1))),
-        "",
-        0,
-    ),
-    (
-        FEW,
-        "*,end,1",
-        Err(RunError::Script(ScriptError::BadArity(1))),
-        "",
-        0,
-    ),
-    (
-        FEW,
-        "0,insert,x",
-        Err(RunError::Script(ScriptError::BadNumber(1))),
-        "",
-        0,
-    ),
-    (
-        FEW,
-        "0,insert,1\n*,grow,5\n",
-        Err(RunError::Script(ScriptError::BadPlace(2))),
-        "",
-        0,
-    ),
-    (
-        FEW,
-        "*,grow,5\n0,insert,32\n",
-        Err(RunError::Script(ScriptError::OutOfRange(2))),
-        "",
-        0,
-    ),
+    ((4, 64, 13_108), "*,grow,16", TooWide(1)),
+    (FEW, "0,insert,\u{e9}", BadCsv(1)),
+    (FEW, "x,fly", BadLane(1)),
+    (FEW, "0,look\n\n\n0,size\n0,fly\n", BadVerb(3)),
+    (FEW, "0,fly\n0,insert,16\n", BadVerb(1)),
+    (FEW, "*,end,1", BadArity(1)),
+    (FEW, "0,insert,x", BadNumber(1)),
+    (FEW, "0,insert,1\n*,grow,5\n", BadPlace(2)),
+    (FEW, "*,grow,5\n0,insert,32\n", OutOfRange(2)),
 ];
 
 #[test]
 fn scripts_come_to_their_reports(rt: HostRuntime) {
-    for (bounds, script, result, text, reports) in SCRIPTS {
-        let expected = (*result, *text, *reports);
+    for (bounds, script, report) in REPORTS {
+        let ends = report.lines().filter(|line| line.contains(" end ")).count();
+        assert_runs(
+            &rt,
+            rt.alloc(),
+            script,
+            *bounds,
+            (Ok(()), report, ends as u64),
+        );
+    }
+    for (bounds, script, fault) in FAULTS {
+        let expected = (Err(RunError::Script(*fault)), "", 0);
         assert_runs(&rt, rt.alloc(), script, *bounds, expected);
     }
 }

@@ -206,12 +206,8 @@ fn assert_prints(rt: &impl Abort, alloc: Global, value: impl Display + Drop, tex
 
 #[test]
 fn errors_say_what_is_wrong(rt: HostRuntime) {
-    assert_prints(
-        &rt,
-        rt.alloc(),
-        ScriptError::BadArity(12),
-        "row 12: BadArity",
-    );
-    assert_prints(&rt, rt.alloc(), PrintError::Output, "output");
-    assert_prints(&rt, rt.alloc(), Fault, "a device failed");
+    let (r, alloc) = (&rt, rt.alloc());
+    assert_prints(r, alloc, ScriptError::BadArity(12), "row 12: BadArity");
+    assert_prints(r, alloc, PrintError::Output, "output");
+    assert_prints(r, alloc, Fault, "a device failed");
 }

@@ -1,6 +1,9 @@
 //! Scripts as they are read.
 use crate::assertions::equal;
 use aug_core::LayoutError;
+use aug_core::LayoutError::{BadBits, BadUpdates, BadWorkers, TooLarge};
+use aug_script::ScriptError::*;
+use aug_script::Verb::*;
 use aug_script::{Limits, Row, Script, ScriptError, Verb};
 use std::alloc::Global;
 use std::process::Abort;
@@ -53,19 +56,6 @@ fn assert_reads(rt: &impl Abort, alloc: Global, script: &str, bounds: Bounds, ro
     assert_script(rt, &script, rounds);
 }
 
-// Compares the fault of each script, if it has one.
-fn assert_faults(
-    rt: &impl Abort,
-    alloc: Global,
-    bounds: Bounds,
-    scripts: &[(&str, Option<ScriptError>)],
-) {
-    for (script, fault) in scripts {
-        let found = read(rt, alloc, script, bounds).err();
-        equal(rt, (*script, found), (*script, *fault));
-    }
-}
-
 // The numbers of limits, or what refuses them.
 fn limits_of(bounds: Bounds) -> Result<Bounds, LayoutError> {
     let (bits, workers, updates) = bounds;
@@ -74,15 +64,15 @@ fn limits_of(bounds: Bounds) -> Result<Bounds, LayoutError> {
 }
 
 const LIMITS: &[(Bounds, Result<Bounds, LayoutError>)] = &[
-    ((0, 1, 1), Err(LayoutError::BadBits)),
-    ((17, 0, 0), Err(LayoutError::BadBits)),
-    ((u32::MAX, 1, 1), Err(LayoutError::BadBits)),
-    ((4, 0, 1), Err(LayoutError::BadWorkers)),
-    ((4, 65, 0), Err(LayoutError::BadWorkers)),
-    ((4, 1, 0), Err(LayoutError::BadUpdates)),
-    ((4, 1, 65_537), Err(LayoutError::BadUpdates)),
-    ((16, 64, 13_108), Err(LayoutError::TooLarge)),
-    ((16, 64, 13_018), Err(LayoutError::TooLarge)),
+    ((0, 1, 1), Err(BadBits)),
+    ((17, 0, 0), Err(BadBits)),
+    ((u32::MAX, 1, 1), Err(BadBits)),
+    ((4, 0, 1), Err(BadWorkers)),
+    ((4, 65, 0), Err(BadWorkers)),
+    ((4, 1, 0), Err(BadUpdates)),
+    ((4, 1, 65_537), Err(BadUpdates)),
+    ((16, 64, 13_108), Err(TooLarge)),
+    ((16, 64, 13_018), Err(TooLarge)),
     ((16, 64, 13_017), Ok((16, 64, 13_017))),
     ((1, 64, 65_536), Ok((1, 64, 65_536))),
     ((16, 1, 65_536), Ok((16, 1, 65_536))),
@@ -100,135 +90,37 @@ const EACH_VERB: &str =
     "0,insert,1\n1,remove,2\n0,look\n1,has,3\n0,size\n1,rank,4\n0,select,5\n1,before,6\n0,after,7\n1,range,8,9\n0,put,10,11\n1,weight,12\n";
 
 const EACH_VERB_READ: &[Line] = &[
-    (1, 0, Verb::Insert(1)),
-    (2, 1, Verb::Remove(2)),
-    (3, 0, Verb::Look),
-    (4, 1, Verb::Has(3)),
-    (5, 0, Verb::Size),
-    (6, 1, Verb::Rank(4)),
-    (7, 0, Verb::Select(5)),
-    (8, 1, Verb::Before(6)),
-    (9, 0, Verb::After(7)),
-    (10, 1, Verb::Range(8, 9)),
-    (11, 0, Verb::Put(10, 11)),
-    (12, 1, Verb::Weight(12)),
+    (1, 0, Insert(1)),
+    (2, 1, Remove(2)),
+    (3, 0, Look),
+    (4, 1, Has(3)),
+    (5, 0, Size),
+    (6, 1, Rank(4)),
+    (7, 0, Select(5)),
+    (8, 1, Before(6)),
+    (9, 0, After(7)),
+    (10, 1, Range(8, 9)),
+    (11, 0, Put(10, 11)),
+    (12, 1, Weight(12)),
 ];
 
 const QUOTED: &str = "\"0\",\"insert\",\"005\"\r\n\r\n0,look";
 
-const QUOTED_READ: &[Rounds] = &[(4, &[(1, 0, Verb::Insert(5)), (2, 0, Verb::Look)])];
+const QUOTED_READ: &[Rounds] = &[(4, &[(1, 0, Insert(5)), (2, 0, Look)])];
 
-const FAULTY: &[(&str, Option<ScriptError>)] = &[
-    ("0,insert,16", Some(ScriptError::OutOfRange(1))),
-    ("1,look", Some(ScriptError::OutOfRange(1))),
-    ("0,insert", Some(ScriptError::BadArity(1))),
-    ("0,look,1", Some(ScriptError::BadArity(1))),
-    ("0,insert,x", Some(ScriptError::BadNumber(1))),
-    ("0,insert,1000000000", Some(ScriptError::BadNumber(1))),
-    ("x,fly", Some(ScriptError::BadLane(1))),
-    ("1,fly", Some(ScriptError::BadVerb(1))),
-    ("0", Some(ScriptError::BadVerb(1))),
-    ("*,look", Some(ScriptError::BadVerb(1))),
-    ("0,end", Some(ScriptError::BadVerb(1))),
-    ("0,insert,\u{e9}", Some(ScriptError::BadCsv(1))),
+const WEIGHTS_READ: &[Rounds] = &[(4, &[(1, 0, Put(1, 999_999_999)), (2, 0, Put(1, 0))])];
 
-    // The first fault of a row that has several.
-    ("*,end,\u{e9}", Some(ScriptError::BadCsv(1))),
-    ("**,end", Some(ScriptError::BadLane(1))),
-    ("*", Some(ScriptError::BadVerb(1))),
-    ("*,", Some(ScriptError::BadVerb(1))),
-    ("*,look,1", Some(ScriptError::BadVerb(1))),
-    ("0,end,1", Some(ScriptError::BadVerb(1))),
-    ("*,end,1", Some(ScriptError::BadArity(1))),
-    ("*,end,x", Some(ScriptError::BadArity(1))),
-    ("1,insert,x", Some(ScriptError::BadNumber(1))),
-
-    // The bounds of the arguments, and how many there are.
-    ("0,has,16", Some(ScriptError::OutOfRange(1))),
-    ("0,remove,16", Some(ScriptError::OutOfRange(1))),
-    ("0,rank,17", Some(ScriptError::OutOfRange(1))),
-    ("0,select,17", Some(ScriptError::OutOfRange(1))),
-    ("0,before,17", Some(ScriptError::OutOfRange(1))),
-    ("0,after,17", Some(ScriptError::OutOfRange(1))),
-    ("0,range,0,17", Some(ScriptError::OutOfRange(1))),
-    ("0,has", Some(ScriptError::BadArity(1))),
-    ("0,select", Some(ScriptError::BadArity(1))),
-    ("0,before,1,2", Some(ScriptError::BadArity(1))),
-    ("0,after", Some(ScriptError::BadArity(1))),
-    ("0,range,1", Some(ScriptError::BadArity(1))),
-
-    // The same of keys with weights.
-    ("0,put,16,1", Some(ScriptError::OutOfRange(1))),
-    ("1,put,1,1", Some(ScriptError::OutOfRange(1))),
-    ("0,weight,16", Some(ScriptError::OutOfRange(1))),
-    ("0,put", Some(ScriptError::BadArity(1))),
-    ("0,put,1", Some(ScriptError::BadArity(1))),
-    ("0,put,1,2,3", Some(ScriptError::BadArity(1))),
-    ("0,weight", Some(ScriptError::BadArity(1))),
-    ("0,weight,1,2", Some(ScriptError::BadArity(1))),
-    ("0,put,1,x", Some(ScriptError::BadNumber(1))),
-    ("0,put,16,x", Some(ScriptError::BadNumber(1))),
-    ("0,put,1,1000000000", Some(ScriptError::BadNumber(1))),
-    ("*,put,1,1", Some(ScriptError::BadVerb(1))),
-
-    // The same of rows that give keys more bits.
-    ("*,grow,3", Some(ScriptError::OutOfRange(1))),
-    ("*,grow,17", Some(ScriptError::OutOfRange(1))),
-    ("*,grow", Some(ScriptError::BadArity(1))),
-    ("0,grow,5", Some(ScriptError::BadVerb(1))),
-    ("*,grow,5,6", Some(ScriptError::BadArity(1))),
-    ("*,grow,x", Some(ScriptError::BadNumber(1))),
-    ("*,grow,", Some(ScriptError::BadNumber(1))),
-    ("*,grow,1000000000", Some(ScriptError::BadNumber(1))),
-    ("*,grow,x,6", Some(ScriptError::BadArity(1))),
-    ("*,grow,0", Some(ScriptError::OutOfRange(1))),
-    ("*,grow,999999999", Some(ScriptError::OutOfRange(1))),
-    ("x,grow,5", Some(ScriptError::BadLane(1))),
-    ("0,grow", Some(ScriptError::BadVerb(1))),
-    ("*,GROW,5", Some(ScriptError::BadVerb(1))),
-    ("grow,5", Some(ScriptError::BadLane(1))),
-];
-
-const AT_THEIR_BOUNDS: &str =
-    "0,insert,15\n0,remove,15\n0,has,15\n0,rank,16\n0,select,16\n0,before,16\n0,after,16\n0,range,16,16\n0,put,15,1\n0,weight,15\n";
-
-const WEIGHTS_READ: &[Rounds] = &[(
-    4,
-    &[(1, 0, Verb::Put(1, 999_999_999)), (2, 0, Verb::Put(1, 0))],
-)];
-
-const LAST_LANE_READ: &[Rounds] = &[(4, &[(1, 63, Verb::Look), (2, 0, Verb::Look)])];
+const LAST_LANE_READ: &[Rounds] = &[(4, &[(1, 63, Look), (2, 0, Look)])];
 
 const THREE_PUTS: &str = "0,put,1,5\n0,put,1,5\n0,put,2,5\n";
 
 const TWO_UPDATES_ASKED: &str = "0,put,1,5\n0,weight,1\n0,weight,2\n0,insert,1\n";
 
-const UNDER_ONE_UPDATE: &[(&str, Option<ScriptError>)] = &[(
-    TWO_UPDATES_ASKED,
-    Some(ScriptError::TooManyUpdates(4)),
-)];
-
-const UNDER_TWO_UPDATES: &[(&str, Option<ScriptError>)] = &[
-    (THREE_PUTS, Some(ScriptError::TooManyUpdates(3))),
-    (TWO_UPDATES_ASKED, None),
-];
-
-const OF_THREE_LANES: &[(&str, Option<ScriptError>)] = &[
-    (
-        "2,insert,1\n0,insert,1\n1,remove,1\n*,end\n1,remove,1\n2,insert,1\n",
-        None,
-    ),
-    (
-        "2,insert,1\n0,insert,1\n*,end\n1,remove,1\n2,insert,1\n1,insert,1\n",
-        Some(ScriptError::TooManyUpdates(6)),
-    ),
-];
-
-const TWO_UPDATES_READ: &[Rounds] = &[(4, &[(1, 0, Verb::Insert(1)), (2, 0, Verb::Remove(1))])];
+const TWO_UPDATES_READ: &[Rounds] = &[(4, &[(1, 0, Insert(1)), (2, 0, Remove(1))])];
 
 const ENDED_READ: &[Rounds] = &[
-    (4, &[(1, 0, Verb::Insert(1)), (2, 0, Verb::Remove(1))]),
-    (4, &[(4, 0, Verb::Insert(1))]),
+    (4, &[(1, 0, Insert(1)), (2, 0, Remove(1))]),
+    (4, &[(4, 0, Insert(1))]),
 ];
 
 const NUMBERED: &str =
@@ -237,97 +129,27 @@ const NUMBERED: &str =
 const NUMBERED_READ: &[Rounds] = &[
     (
         4,
-        &[
-            (1, 0, Verb::Insert(1)),
-            (2, 0, Verb::Insert(2)),
-            (3, 0, Verb::Insert(3)),
-        ],
+        &[(1, 0, Insert(1)), (2, 0, Insert(2)), (3, 0, Insert(3))],
     ),
-    (
-        4,
-        &[
-            (5, 0, Verb::Remove(2)),
-            (6, 0, Verb::Look),
-            (7, 0, Verb::Select(1)),
-        ],
-    ),
+    (4, &[(5, 0, Remove(2)), (6, 0, Look), (7, 0, Select(1))]),
 ];
-
-const LATE_FAULT: &[(&str, Option<ScriptError>)] = &[(
-    "0,look\n*,end\n\n0,look\n0,fly\n",
-    Some(ScriptError::BadVerb(4)),
-)];
 
 const WIDER: &str =
     "0,insert,3\n*,end\n*,grow,5\n0,insert,31\n0,look\n0,rank,32\n0,before,31\n0,has,3\n";
 
 const WIDER_READ: &[Rounds] = &[
-    (2, &[(1, 0, Verb::Insert(3))]),
+    (2, &[(1, 0, Insert(3))]),
     (
         5,
         &[
-            (4, 0, Verb::Insert(31)),
-            (5, 0, Verb::Look),
-            (6, 0, Verb::Rank(32)),
-            (7, 0, Verb::Before(31)),
-            (8, 0, Verb::Has(3)),
+            (4, 0, Insert(31)),
+            (5, 0, Look),
+            (6, 0, Rank(32)),
+            (7, 0, Before(31)),
+            (8, 0, Has(3)),
         ],
     ),
 ];
-
-const GROWN: &[(&str, Option<ScriptError>)] = &[
-    ("*,grow,5\n0,insert,31", None),
-    ("0,insert,31", Some(ScriptError::OutOfRange(1))),
-    ("*,grow,5\n0,insert,32", Some(ScriptError::OutOfRange(2))),
-    ("*,grow,5\n0,rank,32", None),
-    ("*,grow,5\n0,rank,33", Some(ScriptError::OutOfRange(2))),
-    ("*,grow,5\n*,end\n0,remove,31", None),
-    (
-        "0,insert,16\n*,end\n*,grow,5",
-        Some(ScriptError::OutOfRange(1)),
-    ),
-
-    // The bits never fall, also from round to round.
-    ("*,grow,6\n*,grow,5", Some(ScriptError::OutOfRange(2))),
-    (
-        "*,grow,6\n*,end\n*,grow,5",
-        Some(ScriptError::OutOfRange(3)),
-    ),
-
-    // A row that gives them takes a number, and ends no round.
-    ("*,grow,4\n\n*,grow,4\n0,fly", Some(ScriptError::BadVerb(3))),
-    (
-        "*,grow,5\n0,insert,1\n*,end\n*,grow,5\n0,insert,1\n0,remove,1",
-        Some(ScriptError::TooManyUpdates(6)),
-    ),
-    ("*,grow,5\n0,insert,1\n*,end\n*,grow,5\n0,insert,1", None),
-];
-
-const GROWN_LATE: &[(&str, Option<ScriptError>)] = &[
-    ("0,insert,1\n*,grow,5", Some(ScriptError::BadPlace(2))),
-    ("0,look\n*,grow,4", Some(ScriptError::BadPlace(2))),
-    (
-        "0,look\n*,end\n*,grow,5\n0,look\n*,grow,6\n",
-        Some(ScriptError::BadPlace(5)),
-    ),
-
-    // The bits are looked at first.
-    ("0,look\n*,grow,3", Some(ScriptError::OutOfRange(2))),
-    ("0,look\n*,grow,17", Some(ScriptError::OutOfRange(2))),
-];
-
-const UNDER_13_108: &[(&str, Option<ScriptError>)] = &[
-    ("*,grow,16", Some(ScriptError::TooWide(1))),
-    ("*,end\n*,grow,5\n*,grow,16", Some(ScriptError::TooWide(3))),
-    ("*,grow,15", None),
-    ("0,look\n*,grow,16", Some(ScriptError::BadPlace(2))),
-    ("*,grow,17", Some(ScriptError::OutOfRange(1))),
-];
-
-const UNDER_13_018: &[(&str, Option<ScriptError>)] = &[(
-    "*,grow,16",
-    Some(ScriptError::TooWide(1)),
-)];
 
 const READ: &[(&str, Bounds, &[Rounds])] = &[
     (EACH_VERB, (4, 2, 64), &[(4, EACH_VERB_READ)]),
@@ -348,38 +170,30 @@ const READ: &[(&str, Bounds, &[Rounds])] = &[
     ("\n\n", FEW, &[]),
     ("*,end", FEW, &[(4, &[])]),
     ("*,end\n*,end\n", FEW, &[(4, &[]), (4, &[])]),
-    ("0,look", FEW, &[(4, &[(1, 0, Verb::Look)])]),
-    ("0,look\n*,end", FEW, &[(4, &[(1, 0, Verb::Look)])]),
+    ("0,look", FEW, &[(4, &[(1, 0, Look)])]),
+    ("0,look\n*,end", FEW, &[(4, &[(1, 0, Look)])]),
     (
         "0,look\n*,end\n*,end\n0,size",
         FEW,
-        &[
-            (4, &[(1, 0, Verb::Look)]),
-            (4, &[]),
-            (4, &[(4, 0, Verb::Size)]),
-        ],
+        &[(4, &[(1, 0, Look)]), (4, &[]), (4, &[(4, 0, Size)])],
     ),
 
     // Rows that give keys more bits, and are in no round.
     ("*,grow,5", FEW, &[]),
     ("*,grow,4\n*,grow,4\n*,grow,16", FEW, &[]),
     ("*,grow,5\n*,end", FEW, &[(5, &[])]),
-    ("*,grow,5\n0,look", FEW, &[(5, &[(2, 0, Verb::Look)])]),
+    ("*,grow,5\n0,look", FEW, &[(5, &[(2, 0, Look)])]),
     ("*,grow,05\n\"*\",\"grow\",\"006\"\n*,end", FEW, &[(6, &[])]),
     (
         "*,grow,1\n*,grow,9\n*,grow,9\n0,look",
         (1, 1, 64),
-        &[(9, &[(4, 0, Verb::Look)])],
+        &[(9, &[(4, 0, Look)])],
     ),
-    (
-        "0,look\n*,end\n*,grow,5",
-        FEW,
-        &[(4, &[(1, 0, Verb::Look)])],
-    ),
+    ("0,look\n*,end\n*,grow,5", FEW, &[(4, &[(1, 0, Look)])]),
     (
         "0,look\n*,end\n*,grow,5\n*,end",
         FEW,
-        &[(4, &[(1, 0, Verb::Look)]), (5, &[])],
+        &[(4, &[(1, 0, Look)]), (5, &[])],
     ),
     (
         "*,end\n*,grow,5\n*,end\n*,end\n*,grow,16\n0,look\n0,size",
@@ -388,7 +202,7 @@ const READ: &[(&str, Bounds, &[Rounds])] = &[
             (4, &[]),
             (5, &[]),
             (5, &[]),
-            (16, &[(6, 0, Verb::Look), (7, 0, Verb::Size)]),
+            (16, &[(6, 0, Look), (7, 0, Size)]),
         ],
     ),
 ];
@@ -400,52 +214,163 @@ fn scripts_are_read_as_their_rounds(rt: HostRuntime) {
     }
 }
 
-const FAULTS: &[(Bounds, &[(&str, Option<ScriptError>)])] = &[
-    (FEW, FAULTY),
-    (FEW, &[(AT_THEIR_BOUNDS, None)]),
+// Scripts under limits, with the fault of each, if it has one.
+const FAULTS: &[(Bounds, &str, Option<ScriptError>)] = &[
+    (FEW, "0,insert,16", Some(OutOfRange(1))),
+    (FEW, "1,look", Some(OutOfRange(1))),
+    (FEW, "0,insert", Some(BadArity(1))),
+    (FEW, "0,look,1", Some(BadArity(1))),
+    (FEW, "0,insert,x", Some(BadNumber(1))),
+    (FEW, "0,insert,1000000000", Some(BadNumber(1))),
+    (FEW, "x,fly", Some(BadLane(1))),
+    (FEW, "1,fly", Some(BadVerb(1))),
+    (FEW, "0", Some(BadVerb(1))),
+    (FEW, "*,look", Some(BadVerb(1))),
+    (FEW, "0,end", Some(BadVerb(1))),
+    (FEW, "0,insert,\u{e9}", Some(BadCsv(1))),
+    // The first fault of a row that has several.
+    (FEW, "*,end,\u{e9}", Some(BadCsv(1))),
+    (FEW, "**,end", Some(BadLane(1))),
+    (FEW, "*", Some(BadVerb(1))),
+    (FEW, "*,", Some(BadVerb(1))),
+    (FEW, "*,look,1", Some(BadVerb(1))),
+    (FEW, "0,end,1", Some(BadVerb(1))),
+    (FEW, "*,end,1", Some(BadArity(1))),
+    (FEW, "*,end,x", Some(BadArity(1))),
+    (FEW, "1,insert,x", Some(BadNumber(1))),
+    // The bounds of the arguments, and how many there are.
+    (FEW, "0,has,16", Some(OutOfRange(1))),
+    (FEW, "0,remove,16", Some(OutOfRange(1))),
+    (FEW, "0,rank,17", Some(OutOfRange(1))),
+    (FEW, "0,select,17", Some(OutOfRange(1))),
+    (FEW, "0,before,17", Some(OutOfRange(1))),
+    (FEW, "0,after,17", Some(OutOfRange(1))),
+    (FEW, "0,range,0,17", Some(OutOfRange(1))),
+    (FEW, "0,has", Some(BadArity(1))),
+    (FEW, "0,select", Some(BadArity(1))),
+    (FEW, "0,before,1,2", Some(BadArity(1))),
+    (FEW, "0,after", Some(BadArity(1))),
+    (FEW, "0,range,1", Some(BadArity(1))),
+    // The same of keys with weights.
+    (FEW, "0,put,16,1", Some(OutOfRange(1))),
+    (FEW, "1,put,1,1", Some(OutOfRange(1))),
+    (FEW, "0,weight,16", Some(OutOfRange(1))),
+    (FEW, "0,put", Some(BadArity(1))),
+    (FEW, "0,put,1", Some(BadArity(1))),
+    (FEW, "0,put,1,2,3", Some(BadArity(1))),
+    (FEW, "0,weight", Some(BadArity(1))),
+    (FEW, "0,weight,1,2", Some(BadArity(1))),
+    (FEW, "0,put,1,x", Some(BadNumber(1))),
+    (FEW, "0,put,16,x", Some(BadNumber(1))),
+    (FEW, "0,put,1,1000000000", Some(BadNumber(1))),
+    (FEW, "*,put,1,1", Some(BadVerb(1))),
+    // The same of rows that give keys more bits.
+    (FEW, "*,grow,3", Some(OutOfRange(1))),
+    (FEW, "*,grow,17", Some(OutOfRange(1))),
+    (FEW, "*,grow", Some(BadArity(1))),
+    (FEW, "0,grow,5", Some(BadVerb(1))),
+    (FEW, "*,grow,5,6", Some(BadArity(1))),
+    (FEW, "*,grow,x", Some(BadNumber(1))),
+    (FEW, "*,grow,", Some(BadNumber(1))),
+    (FEW, "*,grow,1000000000", Some(BadNumber(1))),
+    (FEW, "*,grow,x,6", Some(BadArity(1))),
+    (FEW, "*,grow,0", Some(OutOfRange(1))),
+    (FEW, "*,grow,999999999", Some(OutOfRange(1))),
+    (FEW, "x,grow,5", Some(BadLane(1))),
+    (FEW, "0,grow", Some(BadVerb(1))),
+    (FEW, "*,GROW,5", Some(BadVerb(1))),
+    (FEW, "grow,5", Some(BadLane(1))),
     (
-        (4, 64, 64),
-        &[("63,look\n64,look\n", Some(ScriptError::OutOfRange(2)))],
+        FEW,
+        "0,insert,15\n0,remove,15\n0,has,15\n0,rank,16\n0,select,16\n0,before,16\n0,after,16\n0,range,16,16\n0,put,15,1\n0,weight,15\n",
+        None,
     ),
-
+    ((4, 64, 64), "63,look\n64,look\n", Some(OutOfRange(2))),
     // Updates are limited in each round.
     (
         (4, 1, 2),
-        &[(
-            "0,insert,1\n0,remove,1\n0,insert,1\n",
-            Some(ScriptError::TooManyUpdates(3)),
-        )],
+        "0,insert,1\n0,remove,1\n0,insert,1\n",
+        Some(TooManyUpdates(3)),
     ),
-
     // A put is one update.
-    ((4, 1, 1), UNDER_ONE_UPDATE),
-    ((4, 1, 2), UNDER_TWO_UPDATES),
-    ((4, 1, 3), &[(THREE_PUTS, None)]),
-
+    ((4, 1, 1), TWO_UPDATES_ASKED, Some(TooManyUpdates(4))),
+    ((4, 1, 2), THREE_PUTS, Some(TooManyUpdates(3))),
+    ((4, 1, 2), TWO_UPDATES_ASKED, None),
+    ((4, 1, 3), THREE_PUTS, None),
     // Updates are limited in each lane.
-    ((4, 3, 1), OF_THREE_LANES),
-
+    (
+        (4, 3, 1),
+        "2,insert,1\n0,insert,1\n1,remove,1\n*,end\n1,remove,1\n2,insert,1\n",
+        None,
+    ),
+    (
+        (4, 3, 1),
+        "2,insert,1\n0,insert,1\n*,end\n1,remove,1\n2,insert,1\n1,insert,1\n",
+        Some(TooManyUpdates(6)),
+    ),
     // Rows keep their numbers past the end of a round.
-    (FEW, LATE_FAULT),
-
+    (FEW, "0,look\n*,end\n\n0,look\n0,fly\n", Some(BadVerb(4))),
     // Arguments have the bounds that hold at their row, and a wider round needs a table too.
-    ((4, 1, 1), GROWN),
-    (FEW, GROWN_LATE),
-    ((4, 64, 13_108), UNDER_13_108),
-    ((4, 64, 13_018), UNDER_13_018),
-    ((4, 64, 13_017), &[("*,grow,16", None)]),
+    ((4, 1, 1), "*,grow,5\n0,insert,31", None),
+    ((4, 1, 1), "0,insert,31", Some(OutOfRange(1))),
+    ((4, 1, 1), "*,grow,5\n0,insert,32", Some(OutOfRange(2))),
+    ((4, 1, 1), "*,grow,5\n0,rank,32", None),
+    ((4, 1, 1), "*,grow,5\n0,rank,33", Some(OutOfRange(2))),
+    ((4, 1, 1), "*,grow,5\n*,end\n0,remove,31", None),
+    (
+        (4, 1, 1),
+        "0,insert,16\n*,end\n*,grow,5",
+        Some(OutOfRange(1)),
+    ),
+    // The bits never fall, also from round to round.
+    ((4, 1, 1), "*,grow,6\n*,grow,5", Some(OutOfRange(2))),
+    ((4, 1, 1), "*,grow,6\n*,end\n*,grow,5", Some(OutOfRange(3))),
+    // A row that gives them takes a number, and ends no round.
+    ((4, 1, 1), "*,grow,4\n\n*,grow,4\n0,fly", Some(BadVerb(3))),
+    (
+        (4, 1, 1),
+        "*,grow,5\n0,insert,1\n*,end\n*,grow,5\n0,insert,1\n0,remove,1",
+        Some(TooManyUpdates(6)),
+    ),
+    (
+        (4, 1, 1),
+        "*,grow,5\n0,insert,1\n*,end\n*,grow,5\n0,insert,1",
+        None,
+    ),
+    (FEW, "0,insert,1\n*,grow,5", Some(BadPlace(2))),
+    (FEW, "0,look\n*,grow,4", Some(BadPlace(2))),
+    (
+        FEW,
+        "0,look\n*,end\n*,grow,5\n0,look\n*,grow,6\n",
+        Some(BadPlace(5)),
+    ),
+    // The bits are looked at first.
+    (FEW, "0,look\n*,grow,3", Some(OutOfRange(2))),
+    (FEW, "0,look\n*,grow,17", Some(OutOfRange(2))),
+    ((4, 64, 13_108), "*,grow,16", Some(TooWide(1))),
+    (
+        (4, 64, 13_108),
+        "*,end\n*,grow,5\n*,grow,16",
+        Some(TooWide(3)),
+    ),
+    ((4, 64, 13_108), "*,grow,15", None),
+    ((4, 64, 13_108), "0,look\n*,grow,16", Some(BadPlace(2))),
+    ((4, 64, 13_108), "*,grow,17", Some(OutOfRange(1))),
+    ((4, 64, 13_018), "*,grow,16", Some(TooWide(1))),
+    ((4, 64, 13_017), "*,grow,16", None),
 ];
 
 #[test]
 fn scripts_have_their_first_fault_or_none(rt: HostRuntime) {
-    for (bounds, scripts) in FAULTS {
-        assert_faults(&rt, rt.alloc(), *bounds, scripts);
+    for (bounds, script, fault) in FAULTS {
+        let found = read(&rt, rt.alloc(), script, *bounds).err();
+        equal(&rt, (*script, found), (*script, *fault));
     }
 }
 
 const OF_TWO_LANES: &str = "0,insert,5\n*,end\n1,look\n";
 
-const OF_TWO_LANES_READ: &[Rounds] = &[(4, &[(1, 0, Verb::Insert(5))]), (4, &[(3, 1, Verb::Look)])];
+const OF_TWO_LANES_READ: &[Rounds] = &[(4, &[(1, 0, Insert(5))]), (4, &[(3, 1, Look)])];
 
 // Passes whichever request for memory is refused: reading then answers `OutOfMemory`, and what is read after that is whole.
 #[test]
@@ -453,7 +378,7 @@ fn refused_memory_is_told_by_reading(rt: HostRuntime) -> Result<(), ScriptError>
     let script = match read(&rt, rt.alloc(), OF_TWO_LANES, (4, 2, 64)) {
         Ok(script) => script,
         Err(fault) => {
-            equal(&rt, fault, ScriptError::OutOfMemory);
+            equal(&rt, fault, OutOfMemory);
             read(&rt, rt.alloc(), OF_TWO_LANES, (4, 2, 64))?
         }
     };

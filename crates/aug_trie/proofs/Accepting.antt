@@ -19,6 +19,7 @@ use Rattle.aug_core.proofs.EntryCuts.{root_part}
 use Rattle.aug_trie.specs.declared.updates.outcome.Outcome.{Outcome}
 use Rattle.aug_trie.specs.declared.updates.outcome.Outcome.TheVariants.{Accepted, Replaced, Refused, Unchanged, TooGreat, TooLittle}
 use Rattle.aug_trie.specs.inside.Goes.{Goes}
+use Rattle.aug_trie.specs.inside.Weights.{WeighsAt}
 use Rattle.aug_trie.specs.inside.Climbing.{WentUp, Stayed, StayedAtOnce, CameTo, Settled, Updated, advance_from}
 use Rattle.aug_core.specs.Prefixes.{IsPrefix}
 use Rattle.aug_trie.specs.History.{last_cut}
@@ -64,6 +65,10 @@ module _ (face : ℕ → ℕ → List (ℕ × ℕ) → List ℕ) where
   settled u = record { loaded = u.loaded; more = u.more; refusing = u.refusing; came_to = u.came_to }
 
   module _ (used : ℕ) (v : SeatView) (key : ℕ) (request : Request) (w : SeatView) (kn : KnowsTable face v) (low : key < 2 ^ v.shape.bits) where
+    -- the weight that a word has with a serial, with which each cut shows that serial
+    pub weighs_with : (serial weight : ℕ) → w.shape ≡ v.shape → WeighsAt w.seen key serial weight → WeighsWith key serial weight (knows w).history
+    weighs_with serial weight shaped weighed = subst (λ (z : Shape). WeighsWith key serial weight (root_history z w.seen)) (sym shaped) (shows_weight v.shape w.seen key serial weight low weighed)
+
     -- what went up stands in the last cut with its weight
     module _ (a : Advance) (up : WentUp face used v key request w a) where
       stands_up : StandsIn (last_cut (knows w).history) (change key (new_serial a) a.new_weight)
@@ -71,6 +76,14 @@ module _ (face : ℕ → ℕ → List (ℕ × ℕ) → List ℕ) where
 
       not_before : serial_of (last_cut (knows v).history) key ≤ a.serial
       not_before = last_shown face v.shape v.seen kn.book key a.serial low (root_some face v kn) up.before
+
+      -- it went up from a serial between what was known and what is known now
+      pub went_between : (serial_of (last_cut (knows v).history) key ≤ a.serial) × (a.serial ≤ serial_of (last_cut (knows w).history) key)
+      went_between = (
+        not_before,
+        let le = at_least (last_cut (knows w).history) (change key (new_serial a) a.new_weight) stands_up in
+            elim (cases_Bool a.replaces) [ inl two ↦ (let next = two_more a two in omega arith) | inr one ↦ (let next = one_more a one in omega arith) ],
+      )
 
       -- an accepted update
       abbrev accepted_is : (kind weight : ℕ) → (a.serial + 1) % 2 ≡ kind → a.new_weight ≡ weight → a.replaces ≡ false → AcceptedUpdate kind key weight (knows v) (knows w)
@@ -98,7 +111,7 @@ module _ (face : ℕ → ℕ → List (ℕ × ℕ) → List ℕ) where
 
       -- the weight before, with which each cut shows that serial
       weighed_with : WeighsWith key a.serial a.weight (knows w).history
-      weighed_with = subst (λ (z : Shape). WeighsWith key a.serial a.weight (root_history z w.seen)) (sym up.goes.shaped) (shows_weight v.shape w.seen key a.serial a.weight low up.weighed)
+      weighed_with = weighs_with a.serial a.weight up.goes.shaped up.weighed
 
       -- a replacement whose weight is reckoned from the one before
       reckoned_is : (before after : ℕ) → a.serial % 2 ≡ 1 → a.weight ≡ before → a.new_weight ≡ after → a.replaces ≡ true → Reckoned key before after (knows v) (knows w)
@@ -134,6 +147,10 @@ module _ (face : ℕ → ℕ → List (ℕ × ℕ) → List ℕ) where
     pub shown_number : (found : ℕ) → Stayed face used v key request w found → in_the_way request found ≤ serial_of (last_cut (knows w).history) key
     shown_number found s = shown_of v w key (in_the_way request found) s.goes.shaped low s.shown
 
+    -- a word that prevented an update has a serial between these
+    pub stayed_between : (found : ℕ) → Stayed face used v key request w found → (serial_of (last_cut (knows v).history) key ≤ serial_in_word found) × (serial_in_word found ≤ serial_of (last_cut (knows w).history) key)
+    stayed_between found s = (refused_number found s, let shown = shown_number found s in elim (cases_Bool (goes_from request found)) [ inl lets ↦ (let next = way_next request found lets in omega arith) | inr stops ↦ (let is = way_found request found stops in omega arith) ])
+
     -- an update that stored nothing stayed where it was
     pub stayed_by : (found : ℕ) (done : Outcome) → stores_nothing done ≡ true → CameTo face used v key request w found done → Stayed face used v key request w found
     stayed_by found Accepted nothing c = absurd (false≢true nothing)
@@ -150,8 +167,8 @@ module _ (face : ℕ → ℕ → List (ℕ × ℕ) → List ℕ) where
       serial = serial_in_word found;
       weight = weight_in_word found;
       not_before = refused_number found s;
-      not_after = let shown = shown_number found s in let is = way_found request found c.stops in omega (arith, shown, is);
-      was = subst (λ (z : Shape). WeighsWith key (serial_in_word found) (weight_in_word found) (root_history z w.seen)) (sym s.goes.shaped) (shows_weight v.shape w.seen key (serial_in_word found) (weight_in_word found) low c.stayed.weighed);
+      not_after = (stayed_between found s).1;
+      was = weighs_with (serial_in_word found) (weight_in_word found) s.goes.shaped s.weighed;
       none_if_even = λ even. let low' : key < 2 ^ w.shape.bits = subst (λ (z : Shape). key < 2 ^ z.bits) (sym s.goes.shaped) low in
           sym c.stayed.weighed.weighs ∙ (s.goes.knows_table.book.serials key (serial_in_word found) c.stayed.weighed.entry low' c.stayed.weighed.at).none_if_even even;
       prevents = prevents;

@@ -16,8 +16,8 @@ use Rattle.aug_trie.specs.Pass.{PassFacts, GoesOn, StepsOf}
 use Rattle.aug_trie.specs.Round.{root_of}
 use Rattle.aug_trie.specs.Snapshot.{HasSnapshot, snapshot_cut}
 use Rattle.aug_trie.specs.TreeOf.{IsTreeOf}
-use Rattle.aug_trie.specs.Updates.{ComesTo, TakesSnapshot}
-use Rattle.aug_trie.specs.inside.Climbing.{Updated}
+use Rattle.aug_trie.specs.Updates.{ComesTo, TakesSnapshot, Tells}
+use Rattle.aug_trie.specs.inside.Climbing.{UpdatedFrom, told_by}
 use Rattle.aug_trie.specs.inside.Counted.{HasCounts, insertions_by, removals_by}
 use Rattle.aug_trie.specs.inside.Goes.{Looks}
 use Rattle.aug_trie.specs.inside.Knows.{knows}
@@ -28,10 +28,12 @@ use Rattle.aug_trie.specs.declared.queries.node.Node.{Node}
 use Rattle.aug_trie.specs.declared.queries.snapshot.Snapshot.{Snapshot}
 use Rattle.aug_trie.specs.declared.rounds.account.Account.{Account}
 use Rattle.aug_trie.specs.declared.updates.request.Request.{Request}
+use Rattle.aug_trie.specs.declared.updates.told.LeafUpdate.{LeafUpdate}
+use Rattle.aug_trie.specs.Requests.{word_left}
 use Rattle.aug_trie.proofs.Accepting.{comes_to, settled}
 use Rattle.aug_trie.proofs.Counters.{may_count, counted_by, counted_still}
 use Rattle.aug_trie.proofs.Going.{goes_seeing}
-use Rattle.aug_trie.proofs.Passing.{pass_told, pass_after, gained_by, goes_on_by, steps_of}
+use Rattle.aug_trie.proofs.Passing.{pass_told, pass_after, gained_by, goes_on_by, steps_of, tells}
 use Rattle.aug_trie.proofs.Snapshots.{pass_still, root_node, takes_snapshot, has_snapshot, loads_root, looked_on}
 use Rattle.aug_trie.proofs.Staging.{room_one}
 use Rattle.aug_trie.proofs.Trees.{top_is, has_node, keeps_on, reads_by, still_by}
@@ -56,12 +58,13 @@ module _ {A B : Type 0} (parts_a : Parts A) (parts_b : Parts B) where
   Holds words a = HoldsPass f words a.leaves a.bits a.next a.left × HasCounts (changes_of (known_in words).view.held) a.inserts a.removals
 
   -- an update came to this, from a pass as contracts saw it
-  pub record UpdateMade (now : PassFacts) (key : ℕ) (request : Request) (done : Outcome) (w : Known) (after : Account) : Type 0 where
+  pub record UpdateMade (now : PassFacts) (key : ℕ) (request : Request) (made : LeafUpdate) (w : Known) (after : Account) : Type 0 where
     pub holds : Holds (Some w) after
-    pub came_to : ComesTo request key done now.knows (knows w.view)
+    pub came_to : ComesTo request key made.outcome now.knows (knows w.view)
+    pub tells : Tells request key (told_by made) now.knows (knows w.view)
     pub goes_on : (steps : ℕ) × GoesOn 1 steps now (pass_facts w after.left)
     pub keeps : Keeps (summary_of parts_a parts_b) now (pass_facts w after.left)
-    pub steps : StepsOf request key done now (pass_facts w after.left)
+    pub steps : StepsOf request key made.outcome now (pass_facts w after.left)
 
   -- a snapshot was taken
   pub record SnapshotTaken (now : PassFacts) (a : Account) (number : ℕ) (w : Known) : Type 0 where
@@ -88,22 +91,23 @@ module _ {A B : Type 0} (parts_a : Parts A) (parts_b : Parts B) where
     has_records budget = let budget' = subst (λ (z : PassFacts). z.spent < z.round.updates) (sym told.1) budget in let some : 1 ≤ a.left = omega arith in
         (room_one f k.view a.leaves a.bits a.next a.left told.0 some).1
 
-    pub update_made : (key : ℕ) (request : Request) (done : Outcome) (w : Known) (after : Account) → key < 2 ^ now.round.bits → now.spent < now.round.updates → Updated f (a.next + a.bits) k.view key request w.view done → w.table ≡ k.table
-        → after ≡ account_after a request done → UpdateMade now key request done w after
-    update_made key request done w after low budget u table is =
+    pub update_made : (key : ℕ) (request : Request) (made : LeafUpdate) (w : Known) (after : Account) → key < 2 ^ now.round.bits → now.spent < now.round.updates → UpdatedFrom f (a.next + a.bits) k.view key request w.view made.found made.outcome → made.left ≡ word_left request key made.found made.outcome → w.table ≡ k.table
+        → after ≡ account_after a request made.outcome → UpdateMade now key request made w after
+    update_made key request made w after low budget from left table is = let u = from.0 in
         let p = told.0 in let now_is = told.1 in
         let low' : key < 2 ^ k.view.shape.bits = subst (λ (z : PassFacts). key < 2 ^ z.round.bits) (sym now_is) low in
         let budget' = subst (λ (z : PassFacts). z.spent < z.round.updates) (sym now_is) budget in let some : 1 ≤ a.left = omega arith in
-        let goes = (gained_by f k.view w.view a.leaves a.bits a.next a.left key request p some low' done u).2 in
-        subst (λ (z : PassFacts × TableId × Account). UpdateMade z.0 key request done (record { table = z.1; view = w.view }) z.2) (λ j. (now_is j, sym table j, sym is j)) record {
+        let goes = (gained_by f k.view w.view a.leaves a.bits a.next a.left key request p some low' made.outcome u).2 in
+        subst (λ (z : PassFacts × TableId × Account). UpdateMade z.0 key request made (record { table = z.1; view = w.view }) z.2) (λ j. (now_is j, sym table j, sym is j)) record {
           holds = (
-            record { known = record { table = k.table; view = w.view }; there = refl; is_pass = pass_after f k.view w.view a.leaves a.bits a.next a.left key request p some low' done u },
-            counted_by f (a.next + a.bits) k.view w.view key a.inserts a.removals request done u counts,
+            record { known = record { table = k.table; view = w.view }; there = refl; is_pass = pass_after f k.view w.view a.leaves a.bits a.next a.left key request p some low' made.outcome u },
+            counted_by f (a.next + a.bits) k.view w.view key a.inserts a.removals request made.outcome u counts,
           );
-          came_to = comes_to f (a.next + a.bits) k.view key request w.view p.knows_table low' done (settled f u);
-          goes_on = (length u.more + 1, goes_on_by f k.view w.view a.leaves a.bits a.next a.left key request p some low' k.table done u);
+          came_to = comes_to f (a.next + a.bits) k.view key request w.view p.knows_table low' made.outcome (settled f u);
+          tells = tells f k.view w.view a.leaves a.bits a.next a.left key request p some low' made from left;
+          goes_on = (length u.more + 1, goes_on_by f k.view w.view a.leaves a.bits a.next a.left key request p some low' k.table made.outcome u);
           keeps = keeps_on parts_a parts_b k (record { table = k.table; view = w.view }) a.left (a.left - 1) p.knows_table goes.knows_table goes.shaped goes.later;
-          steps = steps_of f k.view w.view a.leaves a.bits a.next a.left key request p some low' k.table done u;
+          steps = steps_of f k.view w.view a.leaves a.bits a.next a.left key request p some low' k.table made.outcome u;
         }
 
     -- the root's word may be loaded

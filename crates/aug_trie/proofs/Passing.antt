@@ -1,5 +1,5 @@
 -- A pass stays one.
-use Rattle.std.proofs.Common.{◌≡◌, Option, Some, ℕ, suc, ◌+◌, ◌-◌, ◌*◌, ◌^◌, ◌<◌, ◌≤◌, List, [], ◌∷◌, ◌++◌, length, length-append, sym, ap, ◌∙◌, subst, arith}
+use Rattle.std.proofs.Common.{◌≡◌, Option, Some, ℕ, suc, ◌+◌, ◌-◌, ◌*◌, ◌^◌, ◌<◌, ◌≤◌, List, [], ◌∷◌, ◌++◌, length, length-append, sym, refl, ap, ◌∙◌, subst, arith}
 use Rattle.std.proofs.Math.Nat.{add-mul}
 use Rattle.aug_core.specs.Places.{Shape}
 use Rattle.aug_core.specs.Lanes.{first_record, lane_records}
@@ -14,17 +14,21 @@ use Rattle.aug_words.specs.Seats.{Known}
 use Rattle.aug_trie.specs.inside.Goes.{HasLeaves, Goes}
 use Rattle.aug_trie.specs.declared.updates.outcome.Outcome.{Outcome}
 use Rattle.aug_trie.specs.declared.updates.outcome.Outcome.TheVariants.{Accepted, Replaced, Refused, Unchanged, TooGreat, TooLittle}
-use Rattle.aug_trie.specs.inside.Climbing.{CameTo, WentUp, Updated, advance_from}
+use Rattle.aug_trie.specs.inside.Climbing.{CameTo, WentUp, Updated, UpdatedFrom, advance_from, told_by}
 use Rattle.aug_trie.specs.inside.Weights.{WeighsAt}
 use Rattle.aug_trie.specs.LeafWords.{serial_in_word, weight_in_word}
-use Rattle.aug_trie.specs.Requests.{word_after, changes_by}
+use Rattle.aug_trie.specs.Requests.{word_after, word_left, weight_told, changes_by}
+use Rattle.aug_trie.specs.Updates.{Tells}
+use Rattle.aug_trie.specs.History.{last_cut}
+use Rattle.aug_core.specs.Cuts.{serial_of}
+use Rattle.aug_trie.specs.declared.updates.told.LeafUpdate.{LeafUpdate}
 use Rattle.aug_trie.proofs.LeafWords.{weight_of_leaf}
 use Rattle.aug_trie.specs.declared.updates.request.Request.{Request}
-use Rattle.aug_trie.specs.inside.Knows.{KnowsRound}
+use Rattle.aug_trie.specs.inside.Knows.{knows, KnowsRound}
 use Rattle.aug_trie.specs.Pass.{PassFacts, GoesOn, StepsOf}
 use Rattle.aug_trie.specs.inside.PassState.{pass_facts, known_in, IsPass, HoldsPass}
 use Rattle.aug_trie.specs.inside.RoundState.{round_of, past_rounds}
-use Rattle.aug_trie.proofs.Accepting.{settled, updated_knowledge, shown_number, stayed_by, stored_fits}
+use Rattle.aug_trie.proofs.Accepting.{settled, updated_knowledge, shown_number, stayed_between, stayed_by, stored_fits, weighs_with, went_between}
 use Rattle.aug_trie.proofs.Going.{free_from}
 use Rattle.aug_trie.proofs.Requesting.{made_few, made_one, made_two, serial_is, weight_is, to_word}
 use Rattle.aug_trie.proofs.Histories.{numbers_long}
@@ -87,6 +91,17 @@ module _ (face : ℕ → ℕ → List (ℕ × ℕ) → List ℕ) where
     stored_by TooGreat loaded c = c.stayed.goes.changes
     stored_by TooLittle loaded c = c.stayed.goes.changes
 
+    -- the serial in the word that it found is between what was known and what is known now
+    pub found_between : (done : Outcome) (loaded : ℕ) → CameTo face used v key request w loaded done → (serial_of (last_cut (knows v).history) key ≤ serial_in_word loaded) × (serial_in_word loaded ≤ serial_of (last_cut (knows w).history) key)
+    found_between Accepted loaded c = let is = serial_is request key loaded in let between = went_between face used v key request w kn low (advance_from request key loaded) c.0 in
+        (omega (arith, is, between.0), omega (arith, is, between.1))
+    found_between Replaced loaded c = let is = serial_is request key loaded in let between = went_between face used v key request w kn low (advance_from request key loaded) c.0 in
+        (omega (arith, is, between.0), omega (arith, is, between.1))
+    found_between Refused loaded c = stayed_between face used v key request w kn low loaded c
+    found_between Unchanged loaded c = stayed_between face used v key request w kn low loaded c.stayed
+    found_between TooGreat loaded c = stayed_between face used v key request w kn low loaded c.stayed
+    found_between TooLittle loaded c = stayed_between face used v key request w kn low loaded c.stayed
+
   module _ (v w : SeatView) (leaves bits next left key : ℕ) (request : Request) (p : IsPass face v leaves bits next left) (some : 1 ≤ left) (low : key < 2 ^ v.shape.bits) where
     known_after : (done : Outcome) → Updated face (next + bits) v key request w done → KnowsRound w
     known_after done u = updated_knowledge face (next + bits) v key request w p.knows_table low done (settled face u) p.knowledge
@@ -123,6 +138,19 @@ module _ (face : ℕ → ℕ → List (ℕ × ℕ) → List ℕ) where
       weighed = weighed_by (next + bits) v w key request p.knows_table low done u.loaded u.came_to;
       stored = stored_by (next + bits) v w key request p.knows_table low done u.loaded u.came_to;
     }
+
+    -- what an update tells by the word that it found and the one that it left
+    pub tells : (made : LeafUpdate) → UpdatedFrom face (next + bits) v key request w made.found made.outcome → made.left ≡ word_left request key made.found made.outcome → Tells request key (told_by made) (knows v) (knows w)
+    tells made u left = subst (λ (z : ℕ). Tells request key (record { outcome = made.outcome; before = weight_told z; now = weight_told made.left }) (knows v) (knows w)) u.1
+        (let between = found_between (next + bits) v w key request p.knows_table low made.outcome u.0.loaded u.0.came_to in record {
+          found = u.0.loaded;
+          not_before = between.0;
+          not_after = between.1;
+          was = weighs_with face (next + bits) v key request w p.knows_table low (serial_in_word u.0.loaded) (weight_in_word u.0.loaded) (gained_by made.outcome u.0).2.shaped (weighed_by (next + bits) v w key request p.knows_table low made.outcome u.0.loaded u.0.came_to);
+          stored = stored_by (next + bits) v w key request p.knows_table low made.outcome u.0.loaded u.0.came_to;
+          before = refl;
+          now = ap weight_told (left ∙ ap (λ (z : ℕ). word_left request key z made.outcome) (sym u.1));
+        })
 
 -- a pass whose seat was taken out for an update
 pub pass_told : (face : ℕ → ℕ → List (ℕ × ℕ) → List ℕ) (words : Option Known) (k : Known) (leaves bits next left : ℕ) (now : PassFacts) → HoldsPass face words leaves bits next left → words ≡ Some k → pass_facts (known_in words) left ≡ now

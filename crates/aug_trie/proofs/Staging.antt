@@ -85,7 +85,7 @@ module _ (f : ℕ → ℕ → List (ℕ × ℕ) → List ℕ) where
               leaf = w;
               has_begun = begun_here;
               has_left = record { found = word; more = []; steps = ap (λ (z : SeatView). z.steps) from_start.stepped; tried = λ lets. absurd (false≢true (sym other ∙ lets)) };
-              finish = λ z risen. subst (Updated f (number + bits) u key request z) (sym says) (refused_at_once f u w key word request t.low p.knows_table from_start bits number p.bits_are r.2 z other risen);
+              finish = λ z risen. subst (Updated f (number + bits) u key request z) (sym says) (refused_at_once f u w key word request t.low p.knows_table from_start bits number p.bits_are r.2 z other risen).0;
               on_way = way_begins f bits number key w m a r.2 el (en ∙ ap (λ (z : ℕ). z + key / 2) (p.leaves_are.are ∙ ap (λ (z : Shape). 2 ^ z.bits) (sym g.shaped))) es ep;
             };
           }
@@ -162,7 +162,7 @@ module _ (f : ℕ → ℕ → List (ℕ × ℕ) → List ℕ) where
                   tried = λ lets. omega arith;
                 };
                 has_begun = record { began = same_beginning ∙ ap (λ (z : SeatView). z.began) loaded.stepped; shaped = g.shaped; same_members = g.same_members; same_eras = g.same_eras; lane = g.lane };
-                finish = λ z risen. updated f u old key word request t.low p.knows_table loaded bits number p.bits_are r.2 t.fits t.is_stage.lets w ok room_old.is_free.lane room_old.is_free.only tried z risen done comes;
+                finish = λ z risen. (updated f u old key word request t.low p.knows_table loaded bits number p.bits_are r.2 t.fits t.is_stage.lets w ok room_old.is_free.lane room_old.is_free.only tried z risen done comes).0;
                 on_way = way_begins f bits number key w m up r.2 el (en ∙ ap (λ (z : ℕ). z + key / 2) (p.leaves_are.are ∙ ap (λ (z : Shape). 2 ^ z.bits) (sym g.shaped))) es ep;
               };
             }

@@ -20,7 +20,7 @@ use Rattle.aug_trie.specs.declared.updates.outcome.Outcome.{Outcome}
 use Rattle.aug_trie.specs.declared.updates.outcome.Outcome.TheVariants.{Accepted, Replaced, Refused, Unchanged, TooGreat, TooLittle}
 use Rattle.aug_words.specs.Seats.{MayAdvance, TriedLeaf}
 use Rattle.aug_trie.specs.inside.Goes.{Goes, HasRoom}
-use Rattle.aug_trie.specs.inside.Climbing.{WentUp, Stayed, CameTo, Updated, FitsRequest, advance_from}
+use Rattle.aug_trie.specs.inside.Climbing.{WentUp, Stayed, CameTo, UpdatedFrom, FitsRequest, advance_from}
 use Rattle.aug_trie.specs.inside.Weights.{WeighsAt}
 use Rattle.aug_trie.specs.LeafWords.{serial_in_word, weight_in_word}
 use Rattle.aug_trie.specs.Requests.{goes_from, word_after, outcome_by, outcome_at_once}
@@ -240,42 +240,48 @@ module _ (f : ℕ → ℕ → List (ℕ × ℕ) → List ℕ) where
       lifts_whole : (leaf w : SeatView) → leaf.shape ≡ v.shape → HasRisen f bits number key leaf bits w → Lifts v.shape leaf.seen w.seen key v.shape.bits
       lifts_whole leaf w shaped r = subst (λ (z : Shape × ℕ). Lifts z.0 leaf.seen w.seen key z.1) (λ i. (shaped i, is i)) r.lifts
 
-      pub refused_at_once : (w : SeatView) → goes_from request word ≡ false → HasRisen f bits number key w0 bits w → Updated f (number + bits) v key request w (outcome_at_once request)
-      refused_at_once w other h = let goes = h.goes in let between = h.took in let least = between.least_steps in let most = between.most_steps in let count = between.took.count in record {
-        loaded = word;
-        more = between.took.more;
-        steps = between.took.steps ∙ ap (λ (z : List StepTaken). z ++ between.took.more) steps0 ∙ append_assoc v.steps (load_leaf key word ∷ []) between.took.more;
-        least_steps = omega arith;
-        most_steps = omega arith;
-        tried = λ lets. absurd (false≢true (sym other ∙ lets));
-        refusing = λ _. (refl, between.took.no_try);
-        came_to = came_back used v w refl (book_refl v.seen) goes.later other (lifts_whole w0 w shaped0 h) (goes_on f 0 used used [] v w0 w (omega arith) (omega arith) first goes);
-      }
+      pub refused_at_once : (w : SeatView) → goes_from request word ≡ false → HasRisen f bits number key w0 bits w → UpdatedFrom f (number + bits) v key request w word (outcome_at_once request)
+      refused_at_once w other h = let goes = h.goes in let between = h.took in let least = between.least_steps in let most = between.most_steps in let count = between.took.count in (
+        record {
+          loaded = word;
+          more = between.took.more;
+          steps = between.took.steps ∙ ap (λ (z : List StepTaken). z ++ between.took.more) steps0 ∙ append_assoc v.steps (load_leaf key word ∷ []) between.took.more;
+          least_steps = omega arith;
+          most_steps = omega arith;
+          tried = λ lets. absurd (false≢true (sym other ∙ lets));
+          refusing = λ _. (refl, between.took.no_try);
+          came_to = came_back used v w refl (book_refl v.seen) goes.later other (lifts_whole w0 w shaped0 h) (goes_on f 0 used used [] v w0 w (omega arith) (omega arith) first goes);
+        },
+        refl,
+      )
 
       -- an update that tried its leaf
       module _ (fits : FitsRequest request) (lets : goes_from request word ≡ true) (w1 : SeatView) (ok : Bool) (h : Held) (only : HoldsOnly w0 h) (tried : TriedLeaf f w0 key word (word_after request key word) ok w1) where
-        pub updated : (w : SeatView) → HasRisen f bits number key w1 bits w → (done : Outcome) → done ≡ (if ok then outcome_by request word else Refused) → Updated f (number + bits) v key request w done
+        pub updated : (w : SeatView) → HasRisen f bits number key w1 bits w → (done : Outcome) → done ≡ (if ok then outcome_by request word else Refused) → UpdatedFrom f (number + bits) v key request w word done
         updated w r done comes = let between = r.took in let least = between.least_steps in let most = between.most_steps in let count = between.took.count in
-            let one : StepTaken = taken fits lets w1 ok h only tried in let lifts = lifts_whole w1 w (shaped1 fits lets w1 ok h only tried) r in record {
-              loaded = word;
-              more = one ∷ between.took.more;
-              steps = between.took.steps ∙ ap (λ (z : List StepTaken). z ++ between.took.more) (steps1 fits lets w1 ok h only tried) ∙ append_assoc v.steps (load_leaf key word ∷ one ∷ []) between.took.more;
-              least_steps = omega arith;
-              most_steps = omega arith;
-              tried = λ _. record { found = tried.found; rest = between.took.more; second = refl; says = done_by fits lets w1 ok h only tried done comes; no_other = between.took.no_try };
-              refusing = λ other. absurd (false≢true (sym other ∙ lets));
-              came_to = ⊎_elim
-                  (λ (same : tried.found ≡ word). subst (CameTo f (number + bits) v key request w word) (sym (done_hit fits lets w1 ok h only tried done comes same))
-                  (came_up fits lets w1 ok h only tried used v w refl (book_refl v.seen) r.goes.later lifts same (goes_on f 0 used used (made_by key a) v w1 w (omega arith) (omega arith) (goes_hit fits lets w1 ok h only tried same) r.goes)))
-                  (λ other. subst (CameTo f (number + bits) v key request w word) (sym (done_miss fits lets w1 ok h only tried done comes other))
-                  (came_late fits lets w1 ok h only tried used v w refl (book_refl v.seen) r.goes.later lifts other (goes_on f 0 used used [] v w1 w (omega arith) (omega arith) (goes_miss fits lets w1 ok h only tried other) r.goes))) (cases_eq tried.found word);
-            }
+            let one : StepTaken = taken fits lets w1 ok h only tried in let lifts = lifts_whole w1 w (shaped1 fits lets w1 ok h only tried) r in (
+              record {
+                loaded = word;
+                more = one ∷ between.took.more;
+                steps = between.took.steps ∙ ap (λ (z : List StepTaken). z ++ between.took.more) (steps1 fits lets w1 ok h only tried) ∙ append_assoc v.steps (load_leaf key word ∷ one ∷ []) between.took.more;
+                least_steps = omega arith;
+                most_steps = omega arith;
+                tried = λ _. record { found = tried.found; rest = between.took.more; second = refl; says = done_by fits lets w1 ok h only tried done comes; no_other = between.took.no_try };
+                refusing = λ other. absurd (false≢true (sym other ∙ lets));
+                came_to = ⊎_elim
+                    (λ (same : tried.found ≡ word). subst (CameTo f (number + bits) v key request w word) (sym (done_hit fits lets w1 ok h only tried done comes same))
+                    (came_up fits lets w1 ok h only tried used v w refl (book_refl v.seen) r.goes.later lifts same (goes_on f 0 used used (made_by key a) v w1 w (omega arith) (omega arith) (goes_hit fits lets w1 ok h only tried same) r.goes)))
+                    (λ other. subst (CameTo f (number + bits) v key request w word) (sym (done_miss fits lets w1 ok h only tried done comes other))
+                    (came_late fits lets w1 ok h only tried used v w refl (book_refl v.seen) r.goes.later lifts other (goes_on f 0 used used [] v w1 w (omega arith) (omega arith) (goes_miss fits lets w1 ok h only tried other) r.goes))) (cases_eq tried.found word);
+              },
+              refl,
+            )
 
   -- a pass with room for the records of the way exchanged its leaf, or failed to: it may go up the way, and that ends the update
   pub record LeafTried (v w1 : SeatView) (key word bits number : ℕ) (request : Request) (ok : Bool) : Type 0 where
     pub same_shape : w1.shape ≡ v.shape
     pub rises : MayRise f bits number key w1
-    pub updated : (w : SeatView) (done : Outcome) → HasRisen f bits number key w1 bits w → done ≡ (if ok then outcome_by request word else Refused) → Updated f (number + bits) v key request w done
+    pub updated : (w : SeatView) (done : Outcome) → HasRisen f bits number key w1 bits w → done ≡ (if ok then outcome_by request word else Refused) → UpdatedFrom f (number + bits) v key request w word done
 
   pub leaf_tried : {v w0 w1 : SeatView} {key word bits number new : ℕ} {ok : Bool} (request : Request) → key < 2 ^ v.shape.bits → bits ≡ v.shape.bits → KnowsTable f v → HasRoom v number bits → BeginsAtLeaf f v key word w0
       → FitsRequest request → goes_from request word ≡ true → new ≡ word_after request key word → TriedLeaf f w0 key word new ok w1 → LeafTried v w1 key word bits number request ok

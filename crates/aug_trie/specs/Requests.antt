@@ -13,7 +13,7 @@
 --     Add 0, Sub 0 | -         Unchanged | -          Unchanged
 --     Take 7       | 2, 0       Accepted | -          Refused
 --     Take 5       | -         Refused   | -          Refused
-use Rattle.std.specs.Prelude.{ℕ, ◌+◌, ◌-◌, ◌%◌, ◌^◌, ◌==◌, ◌&&◌, nat_lt, nat_le, Bool, true, false, if◌then◌else◌, List, [], ◌∷◌}
+use Rattle.std.specs.Prelude.{ℕ, ◌+◌, ◌-◌, ◌%◌, ◌^◌, ◌==◌, ◌&&◌, nat_lt, nat_le, Bool, true, false, if◌then◌else◌, List, [], ◌∷◌, Option, Some, None}
 use Rattle.aug_core.specs.Book.{word_of_leaf}
 use Rattle.aug_core.specs.Counts.{change}
 use Rattle.aug_core.specs.declared.view.Change.{Change}
@@ -59,6 +59,14 @@ word_after (Put weight) key word = word_of_leaf (if serial_in_word word % 2 == 1
 word_after (Add amount) key word = word_of_leaf (if serial_in_word word % 2 == 1 then serial_in_word word + 2 else serial_in_word word + 1) (weight_in_word word + amount)
 word_after (Sub amount) key word = word_of_leaf (if nat_lt amount (weight_in_word word) then serial_in_word word + 2 else serial_in_word word + 1) (weight_in_word word - amount)
 word_after (Take weight) key word = word_of_leaf (serial_in_word word + 1) 0
+
+-- the word that it leaves if it comes to this
+abbrev pub word_left : Request → ℕ → ℕ → Outcome → ℕ
+word_left request key word done = if stores_nothing done then word else word_after request key word
+
+-- the weight that a leaf's word tells of its key, if that is a member
+abbrev pub weight_told : ℕ → Option ℕ
+weight_told word = if serial_in_word word % 2 == 1 then Some (weight_in_word word) else None
 
 -- the changes that it makes if it comes to this: one to the next serial, or two if the weight of a key that is there is replaced
 abbrev pub changes_by : Request → ℕ → ℕ → Outcome → List Change

@@ -7,9 +7,12 @@ use Rattle.aug_core.specs.Cuts.{Cut, serial_of, weight_at}
 use Rattle.aug_core.specs.Prefixes.{IsPrefix}
 use Rattle.aug_trie.specs.History.{last_cut}
 use Rattle.aug_trie.specs.Knowledge.{Knowledge, StandsIn, insertion, removal}
+use Rattle.aug_trie.specs.LeafWords.{serial_in_word, weight_in_word}
+use Rattle.aug_trie.specs.Requests.{changes_by, weight_told, word_left}
 use Rattle.aug_trie.specs.declared.updates.outcome.Outcome.{Outcome}
 use Rattle.aug_trie.specs.declared.updates.outcome.Outcome.TheVariants as outcome
 use Rattle.aug_trie.specs.declared.updates.request.Request.{Request}
+use Rattle.aug_trie.specs.declared.updates.told.Told.{Told}
 use Rattle.aug_trie.specs.declared.updates.request.Request.TheVariants as request
 
 -- an accepted update of the key: its serial is new, it shows now with its weight, and it is one more accepted change. An insertion's
@@ -99,6 +102,21 @@ ComesTo (request.Sub amount) key outcome.TooLittle old new = Prevented key (λ s
 ComesTo (request.Take weight) key outcome.Accepted old new = UsedUp key weight old new
 ComesTo (request.Take weight) key outcome.Refused old new = RefusedPut key old new ⊎ Prevented key (λ serial had. (serial % 2 ≡ removal) ⊎ (had ≢ weight)) old new
 ComesTo asked key done old new = ⊥
+
+-- what an update tells of its key: the weights in the word that it found there, between then and now, and in the one that it left. No cut shows the serial in the
+-- word found with another weight, and what was stored is what the request makes of that word
+pub record Tells (request : Request) (key : ℕ) (told : Told) (old new : Knowledge) : Type 0 where
+  pub found : ℕ
+  pub not_before : serial_of (last_cut old.history) key ≤ serial_in_word found
+  pub not_after : serial_in_word found ≤ serial_of (last_cut new.history) key
+  pub was : WeighsWith key (serial_in_word found) (weight_in_word found) new.history
+  pub stored : new.accepted ≡ old.accepted ++ changes_by request key found told.outcome
+  pub before : told.before ≡ weight_told found
+  pub now : told.now ≡ weight_told (word_left request key found told.outcome)
+
+-- an update by one call: what it comes to, and what it tells
+abbrev pub Updates : Request → ℕ → Told → Knowledge → Knowledge → Type 0
+Updates request key told old new = ComesTo request key told.outcome old new × Tells request key told old new
 
 -- a snapshot is the last cut of the history as it is known then
 pub record TakesSnapshot (old new : Knowledge) (snapshot : Cut) : Type 0 where

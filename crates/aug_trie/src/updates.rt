@@ -7,4 +7,5 @@ pub(crate) mod parts;
 pub(crate) mod propagate;
 pub(crate) mod refreshing;
 pub(crate) mod request;
+pub(crate) mod told;
 pub(crate) mod update;

@@ -2,11 +2,11 @@
 ghost use Rattle.std.specs.Prelude.{◌≡◌, ◌^◌, ◌<◌};
 ghost use Rattle.aug_trie.specs.Snapshot.{HasSnapshot};
 
-use super::playing::{Act, Reply};
-use aug_model::Summary;
 use aug_monoid::{Extent, Sum};
 use aug_query::descent::{After, Before, Has, Keys, Pairs, Range, Rank, Select, Size, Weight};
 use aug_trie::{Node, Pass, Snapshot};
+use aug_trie_testing::asked;
+use aug_trie_testing::rows::{Act, Reply, folded, told_keys, told_pairs};
 use std::alloc::Global;
 
 // How many members a new snapshot of the pass shows.
@@ -17,14 +17,6 @@ pub(super) fn seen_size(pass: &mut Pass<Sum, Extent>) -> u32
     pass.ask(snapshot, Size)
 }
 
-// Whether a new snapshot of the pass shows the key.
-pub(super) fn sees(pass: &mut Pass<Sum, Extent>, key: u32) -> bool
-    ensures { pass.new.round ≡ pass.old.round }
-{
-    let snapshot = pass.snapshot();
-    pass.ask(snapshot, Has(key))
-}
-
 // What a key weighs in a new snapshot of the pass.
 pub(super) fn seen_weight(pass: &mut Pass<Sum, Extent>, key: u32) -> Option<u32>
     ensures { pass.new.round ≡ pass.old.round }
@@ -33,27 +25,15 @@ pub(super) fn seen_weight(pass: &mut Pass<Sum, Extent>, key: u32) -> Option<u32>
     pass.ask(snapshot, Weight(key))
 }
 
-// What is told of members.
-pub(super) fn folded(summary: Summary<Sum, Extent>) -> Reply {
-    Reply::Folded(summary.count, summary.a.value(), summary.b.bounds())
-}
-
-// What the further queries answer on a new snapshot.
-pub(super) fn look(pass: &mut Pass<Sum, Extent>, act: Act) -> Reply
+// What a query answers on a new snapshot.
+fn look(pass: &mut Pass<Sum, Extent>, alloc: Global, act: Act) -> Reply
     ensures { pass.new.round ≡ pass.old.round }
 {
-    let s = pass.snapshot();
-    match act {
-        Act::Rank(k) => Reply::Number(pass.ask(s, Rank(k))),
-        Act::Select(i) => Reply::Finds(pass.ask(s, Select(i))),
-        Act::Before(k) => Reply::Finds(pass.ask(s, Before(k))),
-        Act::After(k) => Reply::Finds(pass.ask(s, After(k))),
-        Act::Range(from, to) => folded(pass.ask(s, Range(from, to))),
-        _ => Reply::Not,
-    }
+    let snapshot = pass.snapshot();
+    asked!(act, alloc, query => pass.ask(snapshot, query))
 }
 
-// What a pass looks at that takes more than one query.
+// What a pass looks at.
 pub(super) fn look_closer(
     pass: &mut Pass<Sum, Extent>,
     alloc: Global,
@@ -64,18 +44,13 @@ pub(super) fn look_closer(
     ensures { pass.new.round ≡ pass.old.round }
 {
     match act {
-        Act::Keys | Act::Pairs => list(pass, alloc, act),
         Act::Top | Act::Left | Act::Right => node(pass, act),
         Act::KeptOver(weight) => kept_over(pass, universe, weight),
         Act::PassesOver(from, key) => passes_over(pass, universe, from, key),
-        Act::AddsUp => match adds_up(pass) {
-            Some(count) => Reply::Number(count),
-            None => Reply::Not,
-        },
-        _ => Reply::Not,
+        Act::AddsUp => adds_up(pass).map_or(Reply::Not, Reply::Number),
+        _ => look(pass, alloc, act),
     }
 }
-
 // What a cursor passes on from a key, on once more behind a removal, and back.
 fn passes_over(pass: &mut Pass<Sum, Extent>, universe: u32, from: u32, key: u32) -> Reply
     requires { universe ≡ 2 ^ pass.old.round.bits }
@@ -91,46 +66,6 @@ fn passes_over(pass: &mut Pass<Sum, Extent>, universe: u32, from: u32, key: u32)
     let next = pass.next(&mut at);
     let back = pass.previous(&mut at);
     Reply::Listed(first, next, back)
-}
-
-// A list of at most two keys.
-pub(super) fn told_keys(list: &[u32]) -> Reply {
-    match (list.first(), list.get(1), list.len()) {
-        (Some(first), Some(second), 2) => Reply::Keys(Some(*first), Some(*second)),
-        (Some(first), None, _) => Reply::Keys(Some(*first), None),
-        (None, _, _) => Reply::Keys(None, None),
-        _ => Reply::Not,
-    }
-}
-
-// A list of at most three pairs.
-pub(super) fn told_pairs(list: &[(u32, u32)]) -> Reply {
-    match (list.first(), list.get(1), list.get(2), list.len()) {
-        (Some(first), Some(second), Some(third), 3) => {
-            Reply::Listed(Some(*first), Some(*second), Some(*third))
-        }
-        (Some(first), Some(second), None, _) => Reply::Listed(Some(*first), Some(*second), None),
-        (Some(first), None, _, _) => Reply::Listed(Some(*first), None, None),
-        (None, _, _, _) => Reply::Listed(None, None, None),
-        _ => Reply::Not,
-    }
-}
-
-// A list of a new snapshot.
-fn list(pass: &mut Pass<Sum, Extent>, alloc: Global, act: Act) -> Reply
-    ensures { pass.new.round ≡ pass.old.round }
-{
-    let s = pass.snapshot();
-    if matches!(act, Act::Keys) {
-        return match pass.ask(s, Keys(alloc)) {
-            Ok(list) => told_keys(&list),
-            Err(_) => Reply::Not,
-        };
-    }
-    match pass.ask(s, Pairs(alloc)) {
-        Ok(list) => told_pairs(&list),
-        Err(_) => Reply::Not,
-    }
 }
 
 // Where a node stands, and what it covers.

@@ -3,7 +3,7 @@ ghost use Rattle.std.specs.Prelude.{◌≡◌, ◌^◌};
 ghost use Rattle.aug_trie.specs.Snapshot.{HasSnapshot};
 
 use super::rounds::{next_pass, opened};
-use crate::assertions::{equal, holds};
+use crate::assertions::equal;
 use aug_model::Difference;
 use aug_monoid::{Extent, Sum};
 use aug_trie::{BeginError, Pass, Snapshot};
@@ -65,23 +65,23 @@ fn set_from(pass: &mut Pass<Sum, Extent>, snapshot: Snapshot, universe: u32, fro
     }
 }
 
-// A change of a key, with its weights before and after.
-fn differs(key: u32, before: Option<u32>, after: Option<u32>) -> Difference {
-    Difference { key, before, after }
+// A key, and its weights before and after a change.
+type Told = (u32, Option<u32>, Option<u32>);
+
+// What is told of a change.
+fn told(change: &Difference) -> Told {
+    (change.key, change.before, change.after)
 }
 
-// Updates before the earlier snapshot, and between it and the later one; a key, and the changes from it on.
-struct Row {
-    shows: &'static str,
-    first: &'static [(u32, Option<u32>)],
-    then: &'static [(u32, Option<u32>)],
-    from: u32,
-    changes: &'static [Difference],
-}
+// Keys that get weights, or go.
+type Updates = &'static [(u32, Option<u32>)];
 
-const FIRST: &[(u32, Option<u32>)] = &[(3, Some(30)), (5, Some(50)), (9, Some(90))];
+// What a row shows, updates before the earlier snapshot, and between it and the later one; a key, and the changes from it on.
+type Row = (&'static str, Updates, Updates, u32, &'static [Told]);
 
-const THEN: &[(u32, Option<u32>)] = &[
+const FIRST: Updates = &[(3, Some(30)), (5, Some(50)), (9, Some(90))];
+
+const THEN: Updates = &[
     (5, None),
     (3, Some(31)),
     (12, Some(120)),
@@ -90,97 +90,54 @@ const THEN: &[(u32, Option<u32>)] = &[
 ];
 
 const ROWS: &[Row] = &[
-    Row {
-        shows: "a key that went and came back with its weight has not changed",
-        first: FIRST,
-        then: THEN,
-        from: 0,
-        changes: &[
-            Difference {
-                key: 3,
-                before: Some(30),
-                after: Some(31),
-            },
-            Difference {
-                key: 5,
-                before: Some(50),
-                after: None,
-            },
-            Difference {
-                key: 12,
-                before: None,
-                after: Some(120),
-            },
+    (
+        "a key that went and came back with its weight has not changed",
+        FIRST,
+        THEN,
+        0,
+        &[
+            (3, Some(30), Some(31)),
+            (5, Some(50), None),
+            (12, None, Some(120)),
         ],
-    },
-    Row {
-        shows: "a page begins with its key",
-        first: FIRST,
-        then: THEN,
-        from: 5,
-        changes: &[
-            Difference {
-                key: 5,
-                before: Some(50),
-                after: None,
-            },
-            Difference {
-                key: 12,
-                before: None,
-                after: Some(120),
-            },
+    ),
+    (
+        "a page begins with its key",
+        FIRST,
+        THEN,
+        5,
+        &[(5, Some(50), None), (12, None, Some(120))],
+    ),
+    ("a page begins behind a change", FIRST, THEN, 13, &[]),
+    ("no key is past the greatest", FIRST, THEN, u32::MAX, &[]),
+    (
+        "a weight of 0 is no absence",
+        &[(0, Some(0)), (15, Some(1))],
+        &[(0, None), (15, Some(0)), (7, Some(0))],
+        0,
+        &[
+            (0, Some(0), None),
+            (7, None, Some(0)),
+            (15, Some(1), Some(0)),
         ],
-    },
-    Row {
-        shows: "a page begins behind a change",
-        first: FIRST,
-        then: THEN,
-        from: 13,
-        changes: &[],
-    },
-    Row {
-        shows: "no key is past the greatest",
-        first: FIRST,
-        then: THEN,
-        from: u32::MAX,
-        changes: &[],
-    },
-    Row {
-        shows: "a weight of 0 is no absence",
-        first: &[(0, Some(0)), (15, Some(1))],
-        then: &[(0, None), (15, Some(0)), (7, Some(0))],
-        from: 0,
-        changes: &[
-            Difference {
-                key: 0,
-                before: Some(0),
-                after: None,
-            },
-            Difference {
-                key: 7,
-                before: None,
-                after: Some(0),
-            },
-            Difference {
-                key: 15,
-                before: Some(1),
-                after: Some(0),
-            },
-        ],
-    },
+    ),
 ];
 
 // A row, and that a snapshot has not changed since itself.
 fn compared(rt: &impl Abort, pass: &mut Pass<Sum, Extent>, universe: u32, row: &Row)
     requires { universe ≡ 2 ^ pass.old.round.bits }
 {
+    let (shows, first, then, from, changes) = *row;
     let empty = pass.snapshot();
-    set_all(pass, empty, universe, row.first);
+    set_all(pass, empty, universe, first);
     let earlier = pass.snapshot();
-    set_all(pass, earlier, universe, row.then);
+    set_all(pass, earlier, universe, then);
     let later = pass.snapshot();
-    let page = pass.changes(earlier, later, row.from);
-    equal(rt, (row.shows, page.as_slice()), (row.shows, row.changes));
+    let page = pass.changes(earlier, later, from);
+    equal(rt, (shows, page.len()), (shows, changes.len()));
+    for (change, expected) in page.iter().zip(changes) {
+        equal(rt, (shows, told(change)), (shows, *expected));
+    }
     let page = pass.changes(earlier, earlier, 0);
     equal(rt, page.len(), 0);
 }
@@ -189,11 +146,8 @@ fn compared(rt: &impl Abort, pass: &mut Pass<Sum, Extent>, universe: u32, row: &
 fn changes_are_told(rt: HostRuntime) -> Result<(), BeginError> {
     for row in ROWS {
         let (round, mut crew) = opened(rt.alloc(), (4, 1, 8))?;
-        let opens = next_pass(&mut crew, &round);
-        holds(&rt, opens.is_ok());
-        if let Ok(mut pass) = opens {
-            compared(&rt, &mut pass, 16, row);
-        }
+        let mut pass = next_pass(&mut crew, &round).expect(&rt, "lane 0");
+        compared(&rt, &mut pass, 16, row);
     }
     Ok(())
 }
@@ -206,30 +160,20 @@ fn pages(rt: &impl Abort, pass: &mut Pass<Sum, Extent>)
     set_from(pass, empty, 64, 20, 60);
     let full = pass.snapshot();
     let first = pass.changes(empty, full, 0);
-    equal(rt, first.len(), 32);
-    equal(rt, first.last().copied(), Some(differs(51, None, Some(51))));
+    let last = first.last().map(told);
+    equal(rt, (first.len(), last), (32, Some((51, None, Some(51)))));
     let second = pass.changes(empty, full, 52);
-    equal(rt, second.len(), 8);
-    equal(
-        rt,
-        second.first().copied(),
-        Some(differs(52, None, Some(52))),
-    );
+    let next = second.first().map(told);
+    equal(rt, (second.len(), next), (8, Some((52, None, Some(52)))));
     let back = pass.changes(full, empty, 59);
-    equal(
-        rt,
-        back.as_slice(),
-        [differs(59, Some(59), None)].as_slice(),
-    );
+    let only = back.first().map(told);
+    equal(rt, (back.len(), only), (1, Some((59, Some(59), None))));
 }
 
 #[test]
 fn changes_come_in_pages(rt: HostRuntime) -> Result<(), BeginError> {
     let (round, mut crew) = opened(rt.alloc(), (6, 1, 40))?;
-    let opens = next_pass(&mut crew, &round);
-    holds(&rt, opens.is_ok());
-    if let Ok(mut pass) = opens {
-        pages(&rt, &mut pass);
-    }
+    let mut pass = next_pass(&mut crew, &round).expect(&rt, "lane 0");
+    pages(&rt, &mut pass);
     Ok(())
 }

@@ -3,17 +3,19 @@ ghost use Rattle.std.specs.Prelude.{◌≡◌, IfOk};
 ghost use Rattle.aug_trie.specs.Round.{table_of};
 
 use super::asking::seen_size;
-use super::playing::Act::{AddsUp, Back, Now, Open, Range, Weight};
-use super::playing::Change::{Insert, Remove};
-use super::playing::Reply;
-use super::playing::Reply::{Counted, Done, Finds, Folded, Is, Number};
-use super::playing::Who::{A, B};
-use super::resting::Ask;
-use super::rounds::{CrewOf, Half, RoundOf, Trie, Way, opened};
-use super::rows::{Play, plays};
+use super::rounds::{CrewOf, Half, RoundOf, Trie, opened};
+use super::rows::rows_over;
+use super::working::Deed::{Add, AddAndSub, InsertAndRemove, Watch};
 use super::working::{Deed, Task, Worked, back, done, next_half, work};
 use crate::assertions::{equal, holds};
+use aug_trie::Outcome::{Accepted, Refused};
 use aug_trie::{BeginError, CrewError};
+use aug_trie_testing::rows::Act::{AddsUp, Now, Range, Weight};
+use aug_trie_testing::rows::Change::{Insert, Remove};
+use aug_trie_testing::rows::Line::{A, B, End, Round};
+use aug_trie_testing::rows::Reply::{Came, Finds, Folded, Number};
+use aug_trie_testing::rows::Way::Begin;
+use aug_trie_testing::rows::{Line, Reply};
 use std::alloc::Global;
 use std::process::Abort;
 use std::sync::Wait;
@@ -88,12 +90,11 @@ fn crowded<R: Threads + Wait + Sync + Abort>(
     (seen, fifth.1, last)
 }
 
-// A round of 5 lanes over the empty set: what the first two lanes do, what the next two do, and what the fifth does.
+// Rounds of 5 lanes over the empty set: how many, their bits and the updates of a lane; what the first two lanes do, what the next two do, and what the
+// fifth does.
 struct Crowd {
     shows: &'static str,
-    rounds: u32,
-    bits: u32,
-    updates: u32,
+    rounds: (u32, u32, u32),
     tasks: (Task, Task, Task),
     // How many members each of the four sees as soon as its own updates have returned, if that is known.
     each_sees: Option<u32>,
@@ -101,15 +102,15 @@ struct Crowd {
     inserts: (u32, u32),
     members: (u32, u32),
     // The rounds after that.
-    plays: &'static [Play],
+    then: &'static [Line],
 }
 
 // What a crowd's trie says at rest. Each key that went in and did not go out is a member.
 fn assert_accounts(rt: &impl Abort, ended: &Trie, crowd: &Crowd) {
     let (inserts, members) = (ended.inserts(), ended.size());
-    equal(rt, (crowd.shows, ended.missing()), (crowd.shows, 0));
     let out = u64::from(ended.removals()) + u64::from(members);
-    equal(rt, (crowd.shows, out), (crowd.shows, u64::from(inserts)));
+    let found = (crowd.shows, ended.missing(), out);
+    equal(rt, found, (crowd.shows, 0, u64::from(inserts)));
     holds(rt, inserts >= crowd.inserts.0 && inserts <= crowd.inserts.1);
     holds(rt, members >= crowd.members.0 && members <= crowd.members.1);
 }
@@ -120,63 +121,25 @@ fn crowd_played<R: Threads + Wait + Sync + Abort>(
     alloc: Global,
     crowd: &Crowd,
 ) -> Result<(), BeginError> {
-    let (round, mut crew) = opened(alloc, (crowd.bits, 5, crowd.updates))?;
+    let (_, bits, updates) = crowd.rounds;
+    let (round, mut crew) = opened(alloc, (bits, 5, updates))?;
     let (seen, fifth, last) = crowded(rt, &round, &mut crew, crowd.tasks);
     let ended = round.end(crew);
     if crowd.each_sees.is_some() {
         equal(rt, (crowd.shows, seen), (crowd.shows, [crowd.each_sees; 4]));
     }
-    equal(
-        rt,
-        (crowd.shows, fifth.is_some(), last),
-        (crowd.shows, true, ended.size()),
-    );
+    let found = (crowd.shows, fifth.is_some(), last);
+    equal(rt, found, (crowd.shows, true, ended.size()));
     assert_accounts(rt, &ended, crowd);
-    plays(rt, alloc, ended, crowd.shows, crowd.plays)?;
+    rows_over(rt, alloc, Some(ended), crowd.then)?;
     Ok(())
 }
 
-const IDLE: Task = Task {
-    keys: 0,
-    times: 0,
-    deed: Deed::Insert,
-};
+const IDLE: Task = (0, 0, Deed::Insert);
 
-const PUT_ZERO: Task = Task {
-    keys: 1,
-    times: 200,
-    deed: Deed::Put,
-};
+const PUT_ALL: Task = (4, 125, Deed::Put);
 
-const IN_AND_OUT: Task = Task {
-    keys: 1,
-    times: 500,
-    deed: Deed::InsertAndRemove,
-};
-
-const PUT_ALL: Task = Task {
-    keys: 4,
-    times: 125,
-    deed: Deed::Put,
-};
-
-const FILL: Task = Task {
-    keys: 16,
-    times: 1,
-    deed: Deed::Insert,
-};
-
-const ADD_AT_TEN: Task = Task {
-    keys: 10,
-    times: 90,
-    deed: Deed::Add,
-};
-
-const ADD_AND_SUB_AT_TEN: Task = Task {
-    keys: 10,
-    times: 90,
-    deed: Deed::AddAndSub,
-};
+const FILL: Task = (16, 1, Deed::Insert);
 
 // What four lanes added to a key 90 times.
 const ADDED: Reply = Finds(Some(909_090_090));
@@ -185,122 +148,85 @@ const CROWDS: &[Crowd] = &[
     // A put is refused only if one of the other lane came between, and each of those refuses one.
     Crowd {
         shows: "one key that two threads put in is accounted for",
-        rounds: 1,
-        bits: 1,
-        updates: 200,
-        tasks: (PUT_ZERO, IDLE, IDLE),
+        rounds: (1, 1, 200),
+        tasks: ((1, 200, Deed::Put), IDLE, IDLE),
         each_sees: None,
         inserts: (200, 400),
         members: (1, 1),
-        plays: &[],
+        then: &[],
     },
     Crowd {
         shows: "one key that four threads put in and take out is accounted for",
-        rounds: 1,
-        bits: 1,
-        updates: 1_000,
-        tasks: (IN_AND_OUT, IN_AND_OUT, IDLE),
+        rounds: (1, 1, 1_000),
+        tasks: ((1, 500, InsertAndRemove), (1, 500, InsertAndRemove), IDLE),
         each_sees: None,
         inserts: (500, 2_000),
         members: (0, 1),
-        plays: &[],
+        then: &[],
     },
     Crowd {
         shows: "each snapshot adds up while four threads put",
-        rounds: 1,
-        bits: 2,
-        updates: 500,
-        tasks: (
-            PUT_ALL,
-            PUT_ALL,
-            Task {
-                keys: 0,
-                times: 20_000,
-                deed: Deed::Watch,
-            },
-        ),
+        rounds: (1, 2, 500),
+        tasks: (PUT_ALL, PUT_ALL, (0, 20_000, Watch)),
         each_sees: None,
         inserts: (4, 2_000),
         members: (4, 4),
-        plays: &[Play {
-            way: Way::Begin,
-            numbers: (2, 1, 1),
-            steps: &[(A, Open, Done), (A, AddsUp, Number(4))],
-            rest: &[],
-        }],
+        then: &[Round(Begin, (2, 1, 1), 1), A(AddsUp, Number(4))],
     },
     // Of the updates of a lane that are refused each is so by an update of another lane that was made.
     Crowd {
         shows: "each unit that four threads add at ten keys is there, and none twice",
-        rounds: 2,
-        bits: 4,
-        updates: 3_600,
-        tasks: (ADD_AT_TEN, ADD_AT_TEN, IDLE),
+        rounds: (2, 4, 3_600),
+        tasks: ((10, 90, Add), (10, 90, Add), IDLE),
         each_sees: Some(10),
         inserts: (3_600, 3_600),
         members: (10, 10),
-        plays: &[Play {
-            way: Way::Begin,
-            numbers: (4, 1, 1),
-            steps: &[
-                (A, Open, Done),
-                (A, Weight(0), ADDED),
-                (A, Weight(1), ADDED),
-                (A, Weight(2), ADDED),
-                (A, Weight(3), ADDED),
-                (A, Weight(4), ADDED),
-                (A, Weight(5), ADDED),
-                (A, Weight(6), ADDED),
-                (A, Weight(7), ADDED),
-                (A, Weight(8), ADDED),
-                (A, Weight(9), ADDED),
-                (A, Range(0, 16), Folded(10, 9_090_900_900, Some((0, 9)))),
-            ],
-            rest: &[],
-        }],
+        then: &[
+            Round(Begin, (4, 1, 1), 1),
+            A(Weight(0), ADDED),
+            A(Weight(1), ADDED),
+            A(Weight(2), ADDED),
+            A(Weight(3), ADDED),
+            A(Weight(4), ADDED),
+            A(Weight(5), ADDED),
+            A(Weight(6), ADDED),
+            A(Weight(7), ADDED),
+            A(Weight(8), ADDED),
+            A(Weight(9), ADDED),
+            A(Range(0, 16), Folded(10, 9_090_900_900, Some((0, 9)))),
+        ],
     },
     Crowd {
         shows: "four threads that take what they added at ten keys leave none of it",
-        rounds: 2,
-        bits: 4,
-        updates: 7_200,
-        tasks: (ADD_AND_SUB_AT_TEN, ADD_AND_SUB_AT_TEN, IDLE),
+        rounds: (2, 4, 7_200),
+        tasks: ((10, 90, AddAndSub), (10, 90, AddAndSub), IDLE),
         each_sees: None,
         inserts: (3_600, 7_200),
         members: (0, 0),
-        plays: &[],
+        then: &[],
     },
 
     // The threads meet otherwise in each round.
     Crowd {
         shows: "each of four threads holds all keys once its own insertions returned, and the next round goes on",
-        rounds: 500,
-        bits: 4,
-        updates: 16,
+        rounds: (500, 4, 16),
         tasks: (FILL, FILL, IDLE),
         each_sees: Some(16),
         inserts: (16, 16),
         members: (16, 16),
-        plays: &[Play {
-            way: Way::Begin,
-            numbers: (4, 2, 1),
-            steps: &[
-                (A, Open, Done),
-                (B, Open, Done),
-                (A, Now(Remove(0)), Is(true)),
-                (B, Now(Insert(1)), Is(false)),
-                (B, Back, Done),
-                (A, Back, Done),
-            ],
-            rest: &[(Ask::Size, Number(15)), (Ask::Counts, Counted(0, 1, 0))],
-        }],
+        then: &[
+            Round(Begin, (4, 2, 1), 2),
+            A(Now(Remove(0)), Came(Accepted)),
+            B(Now(Insert(1)), Came(Refused)),
+            End(15, (0, 1, 0)),
+        ],
     },
 ];
 
 #[test]
 fn what_threads_do_at_once_is_accounted_for(rt: HostRuntime) -> Result<(), BeginError> {
     for crowd in CROWDS {
-        for _ in 0..crowd.rounds {
+        for _ in 0..crowd.rounds.0 {
             crowd_played(&rt, rt.alloc(), crowd)?;
         }
     }

@@ -2,12 +2,14 @@
 ghost use Rattle.std.specs.Prelude.{◌≡◌, ◌^◌, ◌≤◌};
 ghost use Rattle.aug_trie.specs.Round.{table_of};
 
-use super::playing::Change::Put;
 use super::playing::changed;
-use super::rounds::{CrewOf, Numbers, RoundOf, Trie, Way, begun, next_pass, opened};
+use super::rounds::{CrewOf, RoundOf, Trie, begun, next_pass, opened};
 use crate::assertions::{equal, holds};
 use aug_core::Layout;
 use aug_trie::{BeginError, Ended};
+use aug_trie_testing::rows::Change::Put;
+use aug_trie_testing::rows::{Numbers, Way};
+use aug_trie_testing::sweeps::{EACH, Sweep, UPDATES, sizes};
 use std::alloc::Global;
 use std::process::Abort;
 
@@ -26,25 +28,20 @@ fn words(numbers: Numbers) -> Option<u64> {
     }
 }
 
-// The bits of a sweep, its first and its last number of workers, the numbers of updates, the words that a table may have, and how many rounds
-// begin. There is one over two members for each number of workers and of updates, as long as its table has no more words. The three calls
-// take turns.
-type Sweep = (u32, (u32, u32), &'static [u32], u64, u32);
-
-// Rounds of one number of updates, behind so many others: the trie after them, and how many there were.
+// Rounds of one number of updates, behind so many others: the trie after them, and how many there were. The three calls take turns.
 fn swept(
     alloc: Global,
     ended: Trie,
     it: &Sweep,
+    bits: u32,
     updates: u32,
     before: u32,
 ) -> Result<(Trie, u32), BeginError> {
-    let (bits, (first, last), _, most, _) = *it;
     let mut ended = ended;
     let mut rounds = before;
-    for workers in first..=last {
-        let numbers = (bits, workers, updates);
-        if words(numbers).is_some_and(|words| words <= most) {
+    for workers in it.1 {
+        let numbers = (bits, *workers, updates);
+        if words(numbers).is_some_and(|words| words <= it.3) {
             let way = match rounds.saturating_add(bits) % 3 {
                 0 => Way::Begin,
                 1 => Way::Wider,
@@ -57,96 +54,73 @@ fn swept(
     Ok((ended, rounds))
 }
 
-const UPDATES: &[u32] = &[
-    1, 2, 4, 8, 16, 32, 64, 128, 256, 512, 1_024, 2_048, 4_096, 8_192, 16_384, 32_768, 65_536,
-];
-
-// How many rounds of a row begin.
-fn rounds(rt: &impl Abort, alloc: Global, it: &Sweep) -> Result<u32, BeginError> {
-    holds(rt, it.0 <= 16);
-    let mut ended = grown(rt, alloc, Ended::empty(alloc, it.0)?, it.0, 2)?;
+// How many rounds of a row begin with one number of bits.
+fn rounds(rt: &impl Abort, alloc: Global, it: &Sweep, bits: u32) -> Result<u32, BeginError> {
+    holds(rt, bits <= 16);
+    let mut ended = grown(rt, alloc, Ended::empty(alloc, bits)?, bits, 2)?;
     let mut rounds = 0u32;
     for updates in it.2 {
-        let (next, more) = swept(alloc, ended, it, *updates, rounds)?;
+        let (next, more) = swept(alloc, ended, it, bits, *updates, rounds)?;
         ended = next;
         rounds = more;
     }
-    equal(rt, (ended.bits(), ended.size()), (it.0, 2));
+    equal(rt, (ended.bits(), ended.size()), (bits, 2));
     Ok(rounds)
 }
 
-// Compares how many rounds of each row begin.
-fn assert_begin(rt: &impl Abort, alloc: Global, rows: &[Sweep]) -> Result<(), BeginError> {
-    for it in rows {
-        equal(rt, (it.0, rounds(rt, alloc, it)?), (it.0, it.4));
+// Compares how many rounds of a row begin.
+fn assert_begin(rt: &impl Abort, alloc: Global, it: &Sweep) -> Result<(), BeginError> {
+    for bits in it.0.0..=it.0.1 {
+        equal(rt, (bits, rounds(rt, alloc, it, bits)?), (bits, it.4));
     }
     Ok(())
 }
 
-// Each number of workers.
+// Rounds over two members: each number of workers.
 const SMALL: &[Sweep] = &[
-    (1, (1, 64), UPDATES, 16_384, 482),
-    (2, (1, 64), UPDATES, 16_384, 417),
-    (3, (1, 64), UPDATES, 16_384, 384),
-    (4, (1, 64), UPDATES, 16_384, 353),
-    (5, (1, 64), UPDATES, 16_384, 334),
-    (6, (1, 64), UPDATES, 16_384, 320),
-    (7, (1, 64), UPDATES, 16_384, 302),
-    (8, (1, 64), UPDATES, 16_384, 287),
-    (9, (1, 64), UPDATES, 16_384, 273),
-    (10, (1, 64), UPDATES, 16_384, 259),
-    (11, (1, 64), UPDATES, 16_384, 232),
-    (12, (1, 64), UPDATES, 13_192, 141),
-    (13, (1, 64), UPDATES, 21_384, 134),
-    (14, (1, 64), UPDATES, 37_768, 130),
-    (15, (1, 64), &[1], 200_000, 64),
-    (16, (1, 64), &[1], 200_000, 64),
+    ((1, 1), EACH, UPDATES, 16_384, 482),
+    ((2, 2), EACH, UPDATES, 16_384, 417),
+    ((3, 3), EACH, UPDATES, 16_384, 384),
+    ((4, 4), EACH, UPDATES, 16_384, 353),
+    ((5, 5), EACH, UPDATES, 16_384, 334),
+    ((6, 6), EACH, UPDATES, 16_384, 320),
+    ((7, 7), EACH, UPDATES, 16_384, 302),
+    ((8, 8), EACH, UPDATES, 16_384, 287),
+    ((9, 9), EACH, UPDATES, 16_384, 273),
+    ((10, 10), EACH, UPDATES, 16_384, 259),
+    ((11, 11), EACH, UPDATES, 16_384, 232),
+    ((12, 12), EACH, UPDATES, 13_192, 141),
+    ((13, 13), EACH, UPDATES, 21_384, 134),
+    ((14, 14), EACH, UPDATES, 37_768, 130),
+    ((15, 16), EACH, &[1], 200_000, 64),
 ];
 
 #[test]
 fn no_round_is_refused_for_its_workers(rt: HostRuntime) -> Result<(), BeginError> {
-    assert_begin(&rt, rt.alloc(), SMALL)
+    for it in SMALL {
+        assert_begin(&rt, rt.alloc(), it)?;
+    }
+    Ok(())
 }
 
 // Each number of updates.
 const GREAT: &[Sweep] = &[
-    (1, (1, 1), UPDATES, 6_000_000, 17),
-    (2, (1, 1), UPDATES, 6_000_000, 17),
-    (3, (1, 1), UPDATES, 6_000_000, 17),
-    (4, (1, 1), UPDATES, 6_000_000, 17),
-    (5, (1, 1), UPDATES, 6_000_000, 17),
-    (6, (1, 1), UPDATES, 6_000_000, 17),
-    (7, (1, 1), UPDATES, 6_000_000, 17),
-    (8, (1, 1), UPDATES, 6_000_000, 17),
-    (9, (1, 1), UPDATES, 1_000_000, 15),
-    (10, (1, 1), UPDATES, 1_000_000, 15),
-    (11, (1, 1), UPDATES, 1_000_000, 15),
-    (12, (1, 1), UPDATES, 1_000_000, 15),
-    (13, (1, 1), UPDATES, 1_000_000, 14),
-    (14, (1, 1), UPDATES, 1_000_000, 14),
-    (15, (1, 1), UPDATES, 1_000_000, 14),
-    (16, (1, 1), UPDATES, 1_000_000, 14),
-    (1, (64, 64), UPDATES, 500_000, 11),
-    (2, (64, 64), UPDATES, 500_000, 10),
-    (3, (64, 64), UPDATES, 500_000, 10),
-    (4, (64, 64), UPDATES, 500_000, 9),
-    (5, (64, 64), UPDATES, 500_000, 9),
-    (6, (64, 64), UPDATES, 500_000, 9),
-    (7, (64, 64), UPDATES, 500_000, 8),
-    (8, (64, 64), UPDATES, 500_000, 8),
-    (9, (64, 64), UPDATES, 500_000, 8),
-    (10, (64, 64), UPDATES, 500_000, 8),
-    (11, (64, 64), UPDATES, 500_000, 8),
-    (12, (64, 64), UPDATES, 500_000, 8),
-    (13, (64, 64), UPDATES, 500_000, 7),
-    (14, (64, 64), UPDATES, 500_000, 7),
-    (15, (64, 64), UPDATES, 500_000, 7),
-    (16, (64, 64), UPDATES, 500_000, 7),
+    ((1, 8), &[1], UPDATES, 6_000_000, 17),
+    ((9, 12), &[1], UPDATES, 1_000_000, 15),
+    ((13, 16), &[1], UPDATES, 1_000_000, 14),
+    ((1, 1), &[64], UPDATES, 500_000, 11),
+    ((2, 3), &[64], UPDATES, 500_000, 10),
+    ((4, 6), &[64], UPDATES, 500_000, 9),
+    ((7, 12), &[64], UPDATES, 500_000, 8),
+    ((13, 16), &[64], UPDATES, 500_000, 7),
 ];
 
 #[test]
 fn no_round_is_refused_for_its_updates(rt: HostRuntime) -> Result<(), BeginError> {
-    assert_begin(&rt, rt.alloc(), GREAT)
+    for it in GREAT {
+        assert_begin(&rt, rt.alloc(), it)?;
+    }
+    Ok(())
 }
 
 // Puts the keys from the first up to the second in, as long as updates are left.
@@ -183,14 +157,6 @@ fn grown(
     let ended = goes_on(alloc, ended, Way::OverList, (bits, 1, 1))?;
     equal(rt, (ended.bits(), ended.size()), (bits, members));
     Ok(ended)
-}
-
-// Some sizes of sets of keys of `bits` bits.
-fn sizes(bits: u32) -> [u32; 5]
-    requires { bits ≤ 16 }
-{
-    let universe: u32 = 1 << bits;
-    [0, 1, universe / 2, universe.saturating_sub(1), universe]
 }
 
 // Rounds of a trie that has half of the keys of `bits` bits or fewer: the trie with all of them.

@@ -2,21 +2,13 @@
 #![tactic(auto)]
 
 #[cfg(test)]
-mod adding;
-#[cfg(test)]
 mod asking;
 #[cfg(test)]
 mod assertions;
 #[cfg(test)]
 mod batching;
 #[cfg(test)]
-mod beginning;
-#[cfg(test)]
-mod carrying;
-#[cfg(test)]
 mod comparing;
-#[cfg(test)]
-mod copying;
 #[cfg(test)]
 mod crowds;
 #[cfg(test)]
@@ -25,23 +17,15 @@ pub mod eras;
 #[cfg(test)]
 mod granting;
 #[cfg(test)]
-mod latest;
-#[cfg(test)]
 mod listing;
 #[cfg(test)]
 mod looking;
 #[cfg(test)]
 mod playing;
 #[cfg(test)]
-mod popping;
-#[cfg(test)]
-mod putting;
-#[cfg(test)]
 mod refused;
 #[cfg(test)]
 mod renewing;
-#[cfg(test)]
-mod replacing;
 #[cfg(test)]
 mod requests;
 #[cfg(test)]
@@ -55,6 +39,6 @@ mod telling;
 #[cfg(test)]
 mod turning;
 #[cfg(test)]
-mod widening;
+mod updates;
 #[cfg(test)]
 mod working;

@@ -2,36 +2,38 @@
 ghost use Rattle.std.specs.Prelude.{◌≡◌, IfOk};
 ghost use Rattle.aug_trie.specs.Round.{table_of};
 
-use super::playing::Reply::{Counted, Finds, Number};
-use super::playing::{Reply, steps};
+use super::playing::steps;
 use super::requests::{ANSWERS, played_by_two};
-use super::resting::{Ask, rests};
 use super::rounds::{CrewOf, RoundOf, Trie, tried_over};
+use super::rows::{behind, rows_over};
 use crate::assertions::equal;
 use aug_query::size;
 use aug_trie::{BeginError, Members};
+use aug_trie_testing::rows::Act::*;
+use aug_trie_testing::rows::Line;
+use aug_trie_testing::rows::Line::*;
+use aug_trie_testing::rows::Reply::*;
 use std::alloc::Global;
 use std::process::Abort;
 
 // What the trie that `played_by_two` leaves answers without a list.
-const AS_BEFORE: &[(Ask, Reply)] = &[
-    (Ask::Bits, Number(4)),
-    (Ask::Size, Number(2)),
-    (Ask::Weight(5), Finds(Some(70))),
-    (Ask::Weight(9), Finds(Some(9))),
-    (Ask::Counts, Counted(3, 1, 0)),
+const AS_BEFORE: &[Line] = &[
+    Rest(Bits, Number(4)),
+    Rest(Weight(5), Finds(Some(70))),
+    Rest(Weight(9), Finds(Some(9))),
+    End(2, (3, 1, 0)),
 ];
 
 // The list of its set, requested again if memory was refused.
 fn listed(rt: &impl Abort, alloc: Global, ended: Trie) -> Result<Members, BeginError> {
     let members = match ended.into_members(alloc) {
         Ok(members) => members,
-        Err(mut ended) => {
-            rests(rt, alloc, &mut ended, "a trie that came back", AS_BEFORE);
-            let Ok(members) = ended.into_members(alloc) else {
-                return Err(BeginError::OutOfMemory);
-            };
-            members
+        Err(ended) => {
+            let ended = rows_over(rt, alloc, Some(ended), AS_BEFORE)?;
+            match ended.expect(rt, "a trie").into_members(alloc) {
+                Ok(members) => members,
+                Err(_) => return Err(BeginError::OutOfMemory),
+            }
         }
     };
     assert_is_whole(rt, &members);
@@ -70,7 +72,9 @@ fn assert_is_whole(rt: &impl Abort, members: &Members) {
 fn a_round_over_a_list_asks_13_times_for_memory(rt: HostRuntime) -> Result<(), BeginError> {
     let members = listed(&rt, rt.alloc(), played_by_two(&rt, rt.alloc())?)?;
     let (round, mut crew) = begun_at_last(&rt, rt.alloc(), members)?;
-    steps(&rt, rt.alloc(), &round, &mut crew, 16, "a list", ANSWERS);
+    let lines = behind(ANSWERS, 1);
+    let count = steps(&rt, rt.alloc(), &round, &mut crew, 16, 1, "a list", lines);
+    equal(&rt, count, lines.len());
     Ok(())
 }
 

@@ -3,13 +3,14 @@
 ghost use Rattle.std.specs.Prelude.{◌≡◌, ◌^◌, IfSome};
 ghost use Rattle.aug_trie.specs.Round.{table_of};
 
-use super::asking::{look, look_closer, seen_size, seen_weight, sees};
+use super::asking::{look_closer, seen_weight};
 use super::rounds::{Climber, CrewOf, RoundOf, Walker, next_pass};
 use super::turning::{last, to_the_end, turns};
 use crate::assertions::equal;
 use aug_monoid::{Extent, Sum};
 use aug_query::rank;
-use aug_trie::{Outcome, Pass, Pop};
+use aug_trie::Pass;
+use aug_trie_testing::rows::{Act, Change, Line, Reply, key_of, made, request_of, tells};
 use std::alloc::Global;
 use std::process::Abort;
 
@@ -53,106 +54,6 @@ fn climbing<'r>(climb: Climber<'r>) -> Lane<'r>
     }
 }
 
-// The names of three lanes.
-#[derive(Clone, Copy)]
-pub(super) enum Who {
-    A,
-    B,
-    C,
-}
-
-// An update.
-#[derive(Clone, Copy)]
-pub(super) enum Change {
-    Insert(u32),
-    Remove(u32),
-    Put(u32, u32),
-    Add(u32, u32),
-    Sub(u32, u32),
-    // Takes a key out that has this weight.
-    Take(u32, u32),
-    // Takes out the member at one end.
-    PopFirst,
-    PopLast,
-}
-
-// What a lane does.
-#[derive(Clone, Copy)]
-pub(super) enum Act {
-    // How many passes the crew handed out. It hands the pass of this lane out, and takes it back.
-    Handed,
-    Open,
-    Back,
-    // The pass is given up, also amid an update by turns.
-    GiveUp,
-    // An update at once, or begun by turns.
-    Now(Change),
-    Start(Change),
-    // How many turns may be left; this number of turns; the last one; all up to the end, counted or not.
-    TurnsLeft,
-    Turns(u32),
-    Last,
-    ToTheEnd,
-    Finish,
-    // Its pass goes by way of a half.
-    Halve,
-    // What a new snapshot shows: how many members, whether it has a key, and what the key weighs.
-    Size,
-    Sees(u32),
-    Weight(u32),
-    // The further queries.
-    Rank(u32),
-    Select(u32),
-    Before(u32),
-    After(u32),
-    Range(u32, u32),
-    Keys,
-    Pairs,
-    // The rank of a key by a view of the pass, which is given up then.
-    RankByView(u32),
-    // A clone of the top of the tree, and the children of that clone.
-    Top,
-    Left,
-    Right,
-    // What a snapshot and its clone show before and after a put of 1 with this weight, or an insertion of 2 and a removal of 1.
-    KeptOver(Option<u32>),
-    // What a cursor passes over a new snapshot: on from the first key, on once more after the pass took the second key out, and back.
-    PassesOver(u32, u32),
-    // How many of the keys of 2 bits are members, if the sums of all are those of each key.
-    AddsUp,
-    // The number of the lane, and what its pass counts: insertions, removals, and updates that are left.
-    Lane,
-    Counts,
-}
-
-// What an act comes to.
-#[derive(Clone, Copy, PartialEq, Eq, Debug)]
-pub(super) enum Reply {
-    // It was done, or could not be done.
-    Done,
-    Not,
-    Is(bool),
-    Came(Outcome),
-    Popped(Pop),
-    // What an update by turns came to, and how many turns that took.
-    Ended(Outcome, u32),
-    Number(u32),
-    Finds(Option<u32>),
-    Counted(u32, u32, u32),
-    // How many members a range has, their weights together, and the least and the greatest.
-    Folded(u32, u64, Option<(u32, u32)>),
-    // The level and the place of a node, and the same of what it covers.
-    Stands(u32, u32, u32, u64, Option<(u32, u32)>),
-    // A list of at most two keys, and one of at most three pairs.
-    Keys(Option<u32>, Option<u32>),
-    Listed(Option<(u32, u32)>, Option<(u32, u32)>, Option<(u32, u32)>),
-    // How many members there are, what 1 and 2 weigh, and the weights of the keys of 2 bits together.
-    Kept(u32, Option<u32>, Option<u32>, u64),
-}
-
-// Who does what, and what it comes to.
-pub(super) type Step = (Who, Act, Reply);
-
 // Makes an update, if one is left.
 pub(super) fn changed(pass: &mut Pass<Sum, Extent>, universe: u32, change: Change) -> Reply
     requires { universe ≡ 2 ^ pass.old.round.bits }
@@ -162,14 +63,36 @@ pub(super) fn changed(pass: &mut Pass<Sum, Extent>, universe: u32, change: Chang
         return Reply::Not;
     }
     match change {
-        Change::Insert(k) if k < universe => Reply::Is(pass.insert(k)),
-        Change::Remove(k) if k < universe => Reply::Is(pass.remove(k)),
+        Change::Insert(k) if k < universe => Reply::Came(made(pass.insert(k))),
+        Change::Remove(k) if k < universe => Reply::Came(made(pass.remove(k))),
         Change::Put(k, weight) if k < universe => Reply::Came(pass.put(k, weight)),
         Change::Add(k, amount) if k < universe => Reply::Came(pass.add(k, amount)),
         Change::Sub(k, amount) if k < universe => Reply::Came(pass.sub(k, amount)),
-        Change::Take(k, weight) if k < universe => Reply::Is(pass.take(k, weight)),
+        Change::Take(k, weight) if k < universe => Reply::Came(made(pass.take(k, weight))),
         Change::PopFirst => Reply::Popped(pass.pop_first()),
         Change::PopLast => Reply::Popped(pass.pop_last()),
+        _ => Reply::Not,
+    }
+}
+
+// Makes an update, and looks what its key weighs then.
+fn seen(pass: &mut Pass<Sum, Extent>, universe: u32, change: Change) -> Reply
+    requires { universe ≡ 2 ^ pass.old.round.bits }
+    ensures { pass.new.round ≡ pass.old.round }
+{
+    match (changed(pass, universe, change), key_of(change)) {
+        (Reply::Came(outcome), Some(key)) => Reply::Seen(outcome, seen_weight(pass, key)),
+        (reply, _) => reply,
+    }
+}
+
+// Makes an update of a key, if one is left, and says what it tells.
+fn told(pass: &mut Walker, universe: u32, change: Change) -> Reply
+    requires universe { universe ≡ 2 ^ pass.old.round.bits }
+    ensures { pass.new.round ≡ pass.old.round }
+{
+    match request_of(change) {
+        Some((k, request)) if k < universe && pass.budget() > 0 => tells(pass.update(k, request)),
         _ => Reply::Not,
     }
 }
@@ -202,6 +125,49 @@ fn start<'r>(pass: Walker<'r>, universe: u32, change: Change) -> (Lane<'r>, Repl
     }
 }
 
+// The lane of an update by turns, and what these come to.
+fn goes_on<'r>(climb: Climber<'r>, count: u32) -> (Lane<'r>, Reply)
+    ensures pass { IfSome result.0.pass (λ p. p.round ≡ climb.entry.start.round) }
+    ensures climb { IfSome result.0.climb (λ c. c.start.round ≡ climb.entry.start.round) }
+{
+    match turns(climb, count) {
+        Some(climb) => (climbing(climb), Reply::Done),
+        None => (out(), Reply::Not),
+    }
+}
+
+// An update is begun by turns, and so many of these are made.
+fn begun<'r>(pass: Walker<'r>, universe: u32, change: Change, count: u32) -> (Lane<'r>, Reply)
+    requires universe { universe ≡ 2 ^ pass.round.bits }
+    ensures pass { IfSome result.0.pass (λ p. p.round ≡ pass.entry.round) }
+    ensures climb { IfSome result.0.climb (λ c. c.start.round ≡ pass.entry.round) }
+{
+    let (lane, reply) = start(pass, universe, change);
+    let Lane { pass, climb } = lane;
+    match climb {
+        Some(climb) => goes_on(climb, count),
+        None => (Lane { pass, climb: None }, reply),
+    }
+}
+
+// An update is made by turns.
+fn by_turns<'r>(pass: Walker<'r>, universe: u32, change: Change) -> (Lane<'r>, Reply)
+    requires universe { universe ≡ 2 ^ pass.round.bits }
+    ensures pass { IfSome result.0.pass (λ p. p.round ≡ pass.entry.round) }
+    ensures climb { IfSome result.0.climb (λ c. c.start.round ≡ pass.entry.round) }
+{
+    let (lane, reply) = start(pass, universe, change);
+    let Lane { pass, climb } = lane;
+    let Some(climb) = climb else {
+        return (Lane { pass, climb: None }, reply);
+    };
+    let left = climb.turns_left();
+    match to_the_end(climb) {
+        Some((pass, outcome, made)) => (walking(pass), Reply::Ended(left, outcome, made)),
+        None => (out(), Reply::Not),
+    }
+}
+
 // What a pass does that stays with its lane.
 fn walk(pass: &mut Pass<Sum, Extent>, alloc: Global, universe: u32, act: Act) -> Reply
     requires { universe ≡ 2 ^ pass.old.round.bits }
@@ -209,14 +175,10 @@ fn walk(pass: &mut Pass<Sum, Extent>, alloc: Global, universe: u32, act: Act) ->
 {
     match act {
         Act::Now(change) => changed(pass, universe, change),
-        Act::Size => Reply::Number(seen_size(pass)),
-        Act::Sees(key) => Reply::Is(sees(pass, key)),
-        Act::Weight(key) => Reply::Finds(seen_weight(pass, key)),
+        Act::See(change) => seen(pass, universe, change),
+        Act::Tell(change) => told(pass, universe, change),
         Act::Lane => Reply::Number(pass.lane()),
         Act::Counts => Reply::Counted(pass.inserts(), pass.removals(), pass.budget()),
-        Act::Rank(_) | Act::Select(_) | Act::Before(_) | Act::After(_) | Act::Range(_, _) => {
-            look(pass, act)
-        }
         _ => look_closer(pass, alloc, universe, act),
     }
 }
@@ -253,7 +215,8 @@ fn walked<'r>(
             let half = pass.into_half();
             (walking(round.pass(half)), Reply::Done)
         }
-        Act::Start(change) => start(pass, universe, change),
+        Act::Start(change, count) => begun(pass, universe, change, count),
+        Act::ByTurns(change) => by_turns(pass, universe, change),
         _ => {
             let mut pass = pass;
             let reply = walk(&mut pass, alloc, universe, act);
@@ -272,16 +235,9 @@ fn climbed<'r>(climb: Climber<'r>, act: Act) -> (Lane<'r>, Reply)
             let left = climb.turns_left();
             (climbing(climb), Reply::Number(left))
         }
-        Act::Turns(count) => match turns(climb, count) {
-            Some(climb) => (climbing(climb), Reply::Done),
-            None => (out(), Reply::Not),
-        },
-        Act::Last => match last(climb) {
+        Act::Turns(count) => goes_on(climb, count),
+        Act::Last(count) => match last(climb, count) {
             Some((pass, outcome)) => (walking(pass), Reply::Came(outcome)),
-            None => (out(), Reply::Not),
-        },
-        Act::ToTheEnd => match to_the_end(climb) {
-            Some((pass, outcome, made)) => (walking(pass), Reply::Ended(outcome, made)),
             None => (out(), Reply::Not),
         },
         Act::Finish => match to_the_end(climb) {
@@ -290,6 +246,34 @@ fn climbed<'r>(climb: Climber<'r>, act: Act) -> (Lane<'r>, Reply)
         },
         Act::GiveUp => (out(), Reply::Done),
         _ => (climbing(climb), Reply::Not),
+    }
+}
+
+// A lane that is opened, if it is one that is.
+fn opened<'r>(round: &'r RoundOf, crew: &mut CrewOf, opens: bool) -> (Lane<'r>, Reply)
+    requires together { table_of crew.old.round ≡ round.now }
+    ensures together { crew.new.round ≡ crew.old.round }
+    ensures pass { IfSome result.0.pass (λ pass. pass.round ≡ crew.old.round) }
+    ensures climb { IfSome result.0.climb (λ climb. climb.start.round ≡ crew.old.round) }
+{
+    if !opens {
+        return (out(), Reply::Not);
+    }
+    match next_pass(crew, round) {
+        Ok(pass) => (walking(pass), Reply::Done),
+        Err(_) => (out(), Reply::Not),
+    }
+}
+
+// The pass of a lane comes back, if it makes no update by turns.
+fn back(crew: &mut CrewOf, lane: Lane<'_>)
+    requires { IfSome lane.pass (λ pass. pass.round ≡ crew.old.round) }
+    ensures { crew.new.round ≡ crew.old.round }
+{
+    let Lane { pass, climb } = lane;
+    drop(climb);
+    if let Some(pass) = pass {
+        crew.back(pass);
     }
 }
 
@@ -318,10 +302,7 @@ fn done<'r>(
         return climbed(climb, act);
     }
     match act {
-        Act::Open => match next_pass(crew, round) {
-            Ok(pass) => (walking(pass), Reply::Done),
-            Err(_) => (out(), Reply::Not),
-        },
+        Act::Open => opened(round, crew, true),
         Act::Handed => (out(), Reply::Number(crew.handed())),
         _ => (out(), Reply::Not),
     }
@@ -335,16 +316,15 @@ struct Lanes<'r> {
     c: Lane<'r>,
 }
 
-// What one of three lanes does.
+// What one of three lanes does, and what that comes to and should come to, if the line is a step.
 fn acted<'r>(
     round: &'r RoundOf,
     crew: &mut CrewOf,
     lanes: Lanes<'r>,
     alloc: Global,
     universe: u32,
-    who: Who,
-    act: Act,
-) -> (Lanes<'r>, Reply)
+    line: Line,
+) -> (Lanes<'r>, Option<(Reply, Reply)>)
     requires together { table_of crew.old.round ≡ round.now }
     requires universe { universe ≡ 2 ^ crew.old.round.bits }
     requires pass_a { IfSome lanes.a.pass (λ pass. pass.round ≡ crew.old.round) }
@@ -362,45 +342,55 @@ fn acted<'r>(
     ensures climb_c { IfSome result.0.c.climb (λ climb. climb.start.round ≡ crew.old.round) }
 {
     let Lanes { a, b, c } = lanes;
-    match who {
-        Who::A => {
+    match line {
+        Line::A(act, expected) => {
             let (a, reply) = done(round, crew, a, alloc, universe, act);
-            (Lanes { a, b, c }, reply)
+            (Lanes { a, b, c }, Some((reply, expected)))
         }
-        Who::B => {
+        Line::B(act, expected) => {
             let (b, reply) = done(round, crew, b, alloc, universe, act);
-            (Lanes { a, b, c }, reply)
+            (Lanes { a, b, c }, Some((reply, expected)))
         }
-        Who::C => {
+        Line::C(act, expected) => {
             let (c, reply) = done(round, crew, c, alloc, universe, act);
-            (Lanes { a, b, c }, reply)
+            (Lanes { a, b, c }, Some((reply, expected)))
         }
+        _ => (Lanes { a, b, c }, None),
     }
 }
 
-// The steps of a script, which shows this. Passes that are out at its end are given up.
+// The first lines of a script, up to one that is no step, over so many lanes that are open: how many there were. At their end all passes come back.
 pub(super) fn steps(
     rt: &impl Abort,
     alloc: Global,
     round: &RoundOf,
     crew: &mut CrewOf,
     universe: u32,
+    open: u32,
     shows: &str,
-    script: &[Step],
-)
+    lines: &[Line],
+) -> usize
     requires together { table_of crew.old.round ≡ round.now }
     requires universe { universe ≡ 2 ^ crew.old.round.bits }
     ensures { crew.new.round ≡ crew.old.round }
 {
-    let mut lanes = Lanes {
-        a: out(),
-        b: out(),
-        c: out(),
-    };
-    for (number, step) in script.iter().enumerate() {
-        let (who, act, expected) = *step;
-        let (next, reply) = acted(round, crew, lanes, alloc, universe, who, act);
+    let (a, _) = opened(round, crew, open > 0);
+    let (b, _) = opened(round, crew, open > 1);
+    let (c, _) = opened(round, crew, open > 2);
+    let mut lanes = Lanes { a, b, c };
+    let mut count = 0;
+    for (number, line) in lines.iter().enumerate() {
+        let (next, found) = acted(round, crew, lanes, alloc, universe, *line);
         lanes = next;
+        let Some((reply, expected)) = found else {
+            break;
+        };
         equal(rt, (shows, number, reply), (shows, number, expected));
+        count = number.saturating_add(1);
     }
+    let Lanes { a, b, c } = lanes;
+    back(crew, a);
+    back(crew, b);
+    back(crew, c);
+    count
 }

@@ -2,26 +2,16 @@
 ghost use Rattle.std.specs.Prelude.{◌≡◌, ◌≤◌, IfOk, IfErr};
 ghost use Rattle.aug_trie.specs.Round.{table_of};
 
-use super::asking::sees;
-use super::playing::Change::Insert;
-use super::playing::Reply::Is;
+use super::asking::seen_weight;
 use super::playing::changed;
-use super::rounds::{CrewOf, RoundOf, Trie};
-use crate::assertions::{equal, holds};
+use super::rounds::{CrewOf, RoundOf};
+use crate::assertions::equal;
 use crate::eras::gone_on;
-use aug_trie::{BeginError, Ended, Members, Round};
+use aug_trie::Outcome::Accepted;
+use aug_trie::{BeginError, Members, Round};
+use aug_trie_testing::rows::Change::Insert;
+use aug_trie_testing::rows::Reply::Came;
 use std::alloc::Global;
-
-// The empty set of 4 bits.
-fn nothing(alloc: Global) -> Result<Members, BeginError>
-    ensures { IfOk result (λ set. set.bits ≡ 4) }
-{
-    let ended: Trie = Ended::empty(alloc, 4)?;
-    match ended.into_members(alloc) {
-        Ok(set) => Ok(set),
-        Err(_) => Err(BeginError::OutOfMemory),
-    }
-}
 
 // A round of two lanes with two updates each, with room for all keys.
 fn begun(alloc: Global, set: Members) -> Result<(RoundOf, CrewOf), Members>
@@ -37,20 +27,23 @@ fn begun(alloc: Global, set: Members) -> Result<(RoundOf, CrewOf), Members>
 
 #[test]
 fn a_note_of_the_round_before_is_of_another_round(rt: HostRuntime) -> Result<(), BeginError> {
-    let Ok((round, mut crew)) = begun(rt.alloc(), nothing(rt.alloc())?) else {
+    let Ok(nothing) = Members::empty(rt.alloc(), 4) else {
+        return Err(BeginError::OutOfMemory);
+    };
+    let Ok((round, mut crew)) = begun(rt.alloc(), nothing) else {
         return Err(BeginError::OutOfMemory);
     };
     let Ok(mut list) = Vec::with_capacity(rt.alloc(), 16) else {
         return Err(BeginError::OutOfMemory);
     };
     let mut pass = crew.pass(&round).expect(&rt, "lane 0");
-    equal(&rt, changed(&mut pass, 16, Insert(5)), Is(true));
+    equal(&rt, changed(&mut pass, 16, Insert(5)), Came(Accepted));
     let note = pass.note();
     let half = pass.into_half();
     let mut crew = gone_on(&round, crew, half, &note, &mut list);
     equal(&rt, list.as_slice(), [(5, 5)].as_slice());
     let mut pass = crew.pass(&round).expect(&rt, "lane 0 of the next round");
     pass.learn(note);
-    holds(&rt, sees(&mut pass, 5));
+    equal(&rt, seen_weight(&mut pass, 5), Some(5));
     Ok(())
 }

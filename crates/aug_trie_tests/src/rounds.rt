@@ -4,6 +4,7 @@ ghost use Rattle.aug_trie.specs.Round.{table_of};
 
 use aug_monoid::{Extent, Sum};
 use aug_trie::{BeginError, Climb, Crew, CrewError, Ended, Members, Pass, PassHalf, Round};
+use aug_trie_testing::rows::{Numbers, Way};
 use std::alloc::Global;
 
 pub(super) type Trie = Ended<Sum, Extent>;
@@ -17,17 +18,6 @@ pub(super) type Half = PassHalf<Sum, Extent>;
 pub(super) type Walker<'r> = Pass<'r, Sum, Extent>;
 
 pub(super) type Climber<'r> = Climb<'r, Sum, Extent>;
-
-// The bits of a round's keys, and its numbers of workers and of updates.
-pub(super) type Numbers = (u32, u32, u32);
-
-// The call by which a round begins. That of the list begins over the set of a trie that is given back.
-#[derive(Clone, Copy)]
-pub(super) enum Way {
-    Begin,
-    Wider,
-    OverList,
-}
 
 // A round over a trie, by `begin` if that is the way and the trie has as many bits, or else by `begin_wider`.
 pub(super) fn tried(

@@ -1,95 +1,79 @@
-//! Rounds as rows of tables: a row has a name that says what it shows, and rounds that go on from one another.
-use super::playing::{Reply, Step, steps};
-use super::resting::{Ask, rests};
-use super::rounds::{Numbers, Trie, Way, begun};
+//! Rounds as lines of tables: a row has a name that says what it shows, and rounds that go on from one another.
+use super::playing::steps;
+use super::resting::rests;
+use super::rounds::{Trie, begun};
 use crate::assertions::holds;
 use aug_trie::{BeginError, Ended};
+use aug_trie_testing::rows::{Line, Numbers, Way};
 use std::alloc::Global;
 use std::process::Abort;
 
-// A round: what happens in it, and what the trie answers that is left. Its way of beginning is `Begin` unless it says another.
-pub(super) struct Play {
-    pub(super) way: Way,
-    pub(super) numbers: Numbers,
-    pub(super) steps: &'static [Step],
-    pub(super) rest: &'static [(Ask, Reply)],
-}
-
-// Rounds of which the first is over the empty set, and each other one over what the one before it left.
-pub(super) struct Row {
-    pub(super) shows: &'static str,
-    pub(super) plays: &'static [Play],
-}
-
-// A round over a trie in which this happens: the trie after it.
+// A round over a trie, or over the empty set, in which the first lines happen, up to one that is no step: the trie after it, and
+// how many these were.
 pub(super) fn played(
     rt: &impl Abort,
     alloc: Global,
-    ended: Trie,
+    ended: Option<Trie>,
     way: Way,
     numbers: Numbers,
+    open: u32,
     shows: &str,
-    script: &[Step],
-) -> Result<Trie, BeginError> {
+    lines: &[Line],
+) -> Result<(Trie, usize), BeginError> {
     holds(rt, numbers.0 <= 16);
-    let (round, mut crew) = begun(alloc, ended, way, numbers)?;
-    steps(rt, alloc, &round, &mut crew, 1 << numbers.0, shows, script);
-    Ok(round.end(crew))
-}
-
-// The same over the empty set.
-pub(super) fn played_from_empty(
-    rt: &impl Abort,
-    alloc: Global,
-    numbers: Numbers,
-    shows: &str,
-    script: &[Step],
-) -> Result<Trie, BeginError> {
-    let ended: Trie = Ended::empty(alloc, numbers.0)?;
-    played(rt, alloc, ended, Way::Begin, numbers, shows, script)
-}
-
-// A round of a row.
-fn play_round(
-    rt: &impl Abort,
-    alloc: Global,
-    ended: Trie,
-    shows: &str,
-    it: &Play,
-) -> Result<Trie, BeginError> {
-    let mut ended = played(rt, alloc, ended, it.way, it.numbers, shows, it.steps)?;
-    rests(rt, alloc, &mut ended, shows, it.rest);
-    Ok(ended)
-}
-
-// Rounds of a row: the trie after them.
-pub(super) fn plays(
-    rt: &impl Abort,
-    alloc: Global,
-    ended: Trie,
-    shows: &str,
-    rounds: &[Play],
-) -> Result<Trie, BeginError> {
-    let mut ended = ended;
-    for it in rounds {
-        ended = play_round(rt, alloc, ended, shows, it)?;
-    }
-    Ok(ended)
-}
-
-// A row: the trie after its rounds.
-fn play_row(rt: &impl Abort, alloc: Global, row: &Row) -> Result<Trie, BeginError> {
-    let Some(first) = row.plays.first() else {
-        return Err(BeginError::BadBits);
+    let ended = match ended {
+        Some(ended) => ended,
+        None => Ended::empty(alloc, numbers.0)?,
     };
-    let ended: Trie = Ended::empty(alloc, first.numbers.0)?;
-    plays(rt, alloc, ended, row.shows, row.plays)
+    let (round, mut crew) = begun(alloc, ended, way, numbers)?;
+    let universe = 1 << numbers.0;
+    let count = steps(rt, alloc, &round, &mut crew, universe, open, shows, lines);
+    Ok((round.end(crew), count))
 }
 
-// A table.
-pub(super) fn rows(rt: &impl Abort, alloc: Global, table: &[Row]) -> Result<(), BeginError> {
-    for it in table {
-        play_row(rt, alloc, it)?;
+// The lines behind one of them.
+pub(super) fn behind(lines: &[Line], number: usize) -> &[Line] {
+    match lines.split_at_checked(number) {
+        Some((_, lines)) => lines,
+        None => &[],
     }
+}
+
+// The rows of a table, of which the first may go on over a trie: the trie after them, if there was a round.
+pub(super) fn rows_over(
+    rt: &impl Abort,
+    alloc: Global,
+    ended: Option<Trie>,
+    table: &[Line],
+) -> Result<Option<Trie>, BeginError> {
+    let (mut ended, mut shows, mut until) = (ended, "", 0usize);
+    for (number, line) in table.iter().enumerate() {
+        match *line {
+            Line::Row(name) => {
+                ended = None;
+                shows = name;
+            }
+            Line::And(name) => shows = name,
+            Line::Round(way, numbers, open) => {
+                let from = number.saturating_add(1);
+                let lines = behind(table, from);
+                let (next, count) = played(rt, alloc, ended, way, numbers, open, shows, lines)?;
+                ended = Some(next);
+                until = from.saturating_add(count);
+            }
+            _ => {
+                holds(
+                    rt,
+                    number < until || rests(rt, alloc, &mut ended, shows, *line),
+                );
+            }
+        }
+    }
+    Ok(ended)
+}
+
+// A table of rows.
+pub(super) fn rows(rt: &impl Abort, alloc: Global, table: &[Line]) -> Result<(), BeginError> {
+    rows_over(rt, alloc, None, table)?;
     Ok(())
 }

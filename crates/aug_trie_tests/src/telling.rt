@@ -5,16 +5,19 @@ ghost use Rattle.aug_trie.specs.Round.{RoundFacts, table_of};
 ghost use Rattle.aug_trie.specs.Snapshot.{HasSnapshot, snapshot_cut};
 ghost use Rattle.aug_trie_tests.specs.Reports.{ShowsInsertion, no_round};
 
-use super::playing::Change::Insert;
-use super::playing::Reply::{Counted, Is};
 use super::playing::changed;
-use super::resting::{Ask, rests};
 use super::rounds::{CrewOf, Half, RoundOf, Trie, Walker, next_pass, opened};
+use super::rows::rows_over;
 use super::working::{back, next_half};
 use crate::assertions::{equal, holds};
 use aug_monoid::{Extent, Sum};
 use aug_query::descent;
+use aug_trie::Outcome::Accepted;
 use aug_trie::{BeginError, Note, Snapshot};
+use aug_trie_testing::rows::Act::{Counts, Has};
+use aug_trie_testing::rows::Change::Insert;
+use aug_trie_testing::rows::Line::Rest;
+use aug_trie_testing::rows::Reply::{Came, Counted, Is};
 use crossbeam_channel::{Receiver, Sender, unbounded};
 use std::alloc::Global;
 use std::marker::{Brand, PhantomData, Send};
@@ -66,7 +69,7 @@ fn a_note_tells_what_its_maker_knew(rt: HostRuntime) -> Result<(), BeginError> {
 fn lost(rt: &impl Abort, alloc: Global, learns: bool) -> Result<Trie, BeginError> {
     let (round, mut crew) = opened(alloc, (4, 1, 1))?;
     let mut pass = next_pass(&mut crew, &round).expect(rt, "lane 0");
-    equal(rt, changed(&mut pass, 16, Insert(9)), Is(true));
+    equal(rt, changed(&mut pass, 16, Insert(9)), Came(Accepted));
     let note = pass.note();
     drop(pass);
     if learns {
@@ -78,9 +81,9 @@ fn lost(rt: &impl Abort, alloc: Global, learns: bool) -> Result<Trie, BeginError
 #[test]
 fn a_crew_that_learnt_a_note_ends_with_what_it_tells(rt: HostRuntime) -> Result<(), BeginError> {
     for learns in [true, false] {
-        let mut ended = lost(&rt, rt.alloc(), learns)?;
-        let asks = [(Ask::Has(9), Is(learns)), (Ask::Counts, Counted(0, 0, 1))];
-        rests(&rt, rt.alloc(), &mut ended, "a note of a lost pass", &asks);
+        let ended = lost(&rt, rt.alloc(), learns)?;
+        let asks = [Rest(Has(9), Is(learns)), Rest(Counts, Counted(0, 0, 1))];
+        rows_over(&rt, rt.alloc(), Some(ended), &asks)?;
     }
     Ok(())
 }

@@ -1,18 +1,16 @@
 //! Updates by single turns: how many there are, schedules in which they meet others, and passes that are given up.
 ghost use Rattle.std.specs.Prelude.{◌≡◌, ◌+◌, IfSome};
 
-use super::playing::Act::{
-    Back, Counts, GiveUp, Last, Now, Open, Sees, Size, Start, ToTheEnd, Turns, TurnsLeft, Weight,
-};
-use super::playing::Change;
-use super::playing::Change::{Insert, Put, Remove};
-use super::playing::Reply::{Came, Counted, Done, Ended, Finds, Is, Number};
-use super::playing::Who::{A, B, C};
-use super::resting::{Ask, rests};
-use super::rounds::{Climber, Trie, Walker, Way};
-use super::rows::{Play, Row, played, played_from_empty, rows};
-use aug_trie::Outcome::{Accepted, Refused};
+use super::rounds::{Climber, Walker};
+use super::rows::{rows, rows_over};
+use aug_trie::Outcome::{Accepted, Refused, Replaced, TooGreat, TooLittle, Unchanged};
 use aug_trie::{BeginError, Outcome, Turn};
+use aug_trie_testing::rows::Act::*;
+use aug_trie_testing::rows::Change::*;
+use aug_trie_testing::rows::Line::*;
+use aug_trie_testing::rows::Reply::*;
+use aug_trie_testing::rows::Way::*;
+use aug_trie_testing::rows::{Change, Line, made};
 use std::alloc::Global;
 use std::process::Abort;
 
@@ -30,11 +28,11 @@ pub(super) fn turns<'r>(climb: Climber<'r>, count: u32) -> Option<Climber<'r>>
     Some(climb)
 }
 
-// The last turn, and what the update came to.
-pub(super) fn last<'r>(climb: Climber<'r>) -> Option<(Walker<'r>, Outcome)>
+// The last turn behind so many, and what the update came to.
+pub(super) fn last<'r>(climb: Climber<'r>, count: u32) -> Option<(Walker<'r>, Outcome)>
     ensures { IfSome result (λ t. t.0.round ≡ climb.entry.start.round) }
 {
-    match climb.turn() {
+    match turns(climb, count)?.turn() {
         Turn::More(_) => None,
         Turn::Done(pass, outcome) => Some((pass, outcome)),
     }
@@ -56,169 +54,76 @@ pub(super) fn to_the_end<'r>(climb: Climber<'r>) -> Option<(Walker<'r>, Outcome,
     None
 }
 
-const BY_TURNS: &[Row] = &[
-    Row {
-        shows: "turns of an insertion alone in a round of 1 bits are the least",
-        plays: &[Play {
-            way: Way::Begin,
-            numbers: (1, 1, 2),
-            steps: &[
-                (A, Open, Done),
-                (A, Start(Insert(0)), Done),
-                (A, TurnsLeft, Number(20)),
-                (A, ToTheEnd, Ended(Accepted, 11)),
-                (A, Start(Insert(0)), Done),
-                (A, TurnsLeft, Number(20)),
-                (A, ToTheEnd, Ended(Refused, 10)),
-                (A, Counts, Counted(1, 0, 0)),
-                (A, Size, Number(1)),
-            ],
-            rest: &[],
-        }],
-    },
-    Row {
-        shows: "turns of an insertion alone in a round of 4 bits are the least",
-        plays: &[Play {
-            way: Way::Begin,
-            numbers: (4, 1, 2),
-            steps: &[
-                (A, Open, Done),
-                (A, Start(Insert(0)), Done),
-                (A, TurnsLeft, Number(110)),
-                (A, ToTheEnd, Ended(Accepted, 56)),
-                (A, Start(Insert(0)), Done),
-                (A, TurnsLeft, Number(110)),
-                (A, ToTheEnd, Ended(Refused, 55)),
-                (A, Counts, Counted(1, 0, 0)),
-                (A, Size, Number(1)),
-            ],
-            rest: &[],
-        }],
-    },
-    Row {
-        shows: "a removal by turns takes the key out",
-        plays: &[Play {
-            way: Way::Begin,
-            numbers: (2, 1, 3),
-            steps: &[
-                (A, Open, Done),
-                (A, Now(Insert(3)), Is(true)),
-                (A, Start(Remove(3)), Done),
-                (A, ToTheEnd, Ended(Accepted, 26)),
-                (A, Start(Remove(3)), Done),
-                (A, ToTheEnd, Ended(Refused, 25)),
-                (A, Counts, Counted(1, 1, 0)),
-                (A, Size, Number(0)),
-                (A, Back, Done),
-            ],
-            rest: &[(Ask::Size, Number(0)), (Ask::Counts, Counted(1, 1, 0))],
-        }],
-    },
+const BY_TURNS: &[Line] = &[
+    Row("turns of an insertion alone in a round of 1 bits are the least"),
+    Round(Begin, (1, 1, 2), 1),
+    A(ByTurns(Insert(0)), Ended(20, Accepted, 11)),
+    A(ByTurns(Insert(0)), Ended(20, Refused, 10)),
+    A(Counts, Counted(1, 0, 0)),
+    A(Size, Number(1)),
+    Row("turns of an insertion alone in a round of 4 bits are the least"),
+    Round(Begin, (4, 1, 2), 1),
+    A(ByTurns(Insert(0)), Ended(110, Accepted, 56)),
+    A(ByTurns(Insert(0)), Ended(110, Refused, 55)),
+    A(Counts, Counted(1, 0, 0)),
+    A(Size, Number(1)),
+    Row("a removal by turns takes the key out"),
+    Round(Begin, (2, 1, 3), 1),
+    A(Now(Insert(3)), Came(Accepted)),
+    A(ByTurns(Remove(3)), Ended(50, Accepted, 26)),
+    A(ByTurns(Remove(3)), Ended(50, Refused, 25)),
+    A(Counts, Counted(1, 1, 0)),
+    A(Size, Number(0)),
+    End(0, (1, 1, 0)),
     // Both tries of one pass fail at both levels, and what it put in is shown.
-    Row {
-        shows: "an update whose tries all fail is shown",
-        plays: &[Play {
-            way: Way::Begin,
-            numbers: (2, 3, 2),
-            steps: &[
-                (A, Open, Done),
-                (B, Open, Done),
-                (C, Open, Done),
-                (A, Start(Insert(0)), Done),
-                (A, TurnsLeft, Number(50)),
-                (A, Turns(10), Done),
-                (B, Now(Insert(1)), Is(true)),
-                (A, Turns(9), Done),
-                (C, Now(Remove(1)), Is(true)),
-                (A, Turns(15), Done),
-                (B, Now(Insert(1)), Is(true)),
-                (A, Turns(15), Done),
-                (C, Now(Remove(1)), Is(true)),
-                (A, TurnsLeft, Number(1)),
-                (A, Last, Came(Accepted)),
-                (A, Sees(0), Is(true)),
-                (A, Size, Number(1)),
-                (A, Back, Done),
-                (B, Back, Done),
-                (C, Back, Done),
-            ],
-            rest: &[(Ask::Size, Number(1)), (Ask::Counts, Counted(3, 2, 0))],
-        }],
-    },
+    Row("an update whose tries all fail is shown"),
+    Round(Begin, (2, 3, 2), 3),
+    A(Start(Insert(0), 0), Done),
+    A(TurnsLeft, Number(50)),
+    A(Turns(10), Done),
+    B(Now(Insert(1)), Came(Accepted)),
+    A(Turns(9), Done),
+    C(Now(Remove(1)), Came(Accepted)),
+    A(Turns(15), Done),
+    B(Now(Insert(1)), Came(Accepted)),
+    A(Turns(15), Done),
+    C(Now(Remove(1)), Came(Accepted)),
+    A(TurnsLeft, Number(1)),
+    A(Last(0), Came(Accepted)),
+    A(Has(0), Is(true)),
+    A(Size, Number(1)),
+    End(1, (3, 2, 0)),
     // The leaf is changed twice between the first turn and the second.
-    Row {
-        shows: "an insertion that lost its leaf is refused",
-        plays: &[Play {
-            way: Way::Begin,
-            numbers: (1, 2, 2),
-            steps: &[
-                (A, Open, Done),
-                (B, Open, Done),
-                (A, Start(Insert(0)), Done),
-                (A, Turns(1), Done),
-                (B, Now(Insert(0)), Is(true)),
-                (B, Now(Remove(0)), Is(true)),
-                (A, Turns(9), Done),
-                (A, Last, Came(Refused)),
-                (A, Size, Number(0)),
-                (A, Back, Done),
-                (B, Back, Done),
-            ],
-            rest: &[(Ask::Size, Number(0)), (Ask::Counts, Counted(1, 1, 0))],
-        }],
-    },
+    Row("an insertion that lost its leaf is refused"),
+    Round(Begin, (1, 2, 2), 2),
+    A(Start(Insert(0), 1), Done),
+    B(Now(Insert(0)), Came(Accepted)),
+    B(Now(Remove(0)), Came(Accepted)),
+    A(Last(9), Came(Refused)),
+    A(Size, Number(0)),
+    End(0, (1, 1, 0)),
     // Three changes of one key reach the root at once.
-    Row {
-        shows: "the root shows three changes of a key at once",
-        plays: &[Play {
-            way: Way::Begin,
-            numbers: (1, 3, 1),
-            steps: &[
-                (A, Open, Done),
-                (B, Open, Done),
-                (C, Open, Done),
-                (A, Start(Insert(0)), Done),
-                (A, Turns(2), Done),
-                (B, Start(Remove(0)), Done),
-                (B, Turns(2), Done),
-                (C, Start(Insert(0)), Done),
-                (C, Turns(2), Done),
-                (A, Turns(8), Done),
-                (A, Last, Came(Accepted)),
-                (A, Sees(0), Is(true)),
-                (B, Turns(8), Done),
-                (B, Last, Came(Accepted)),
-                (B, Sees(0), Is(true)),
-                (C, Turns(8), Done),
-                (C, Last, Came(Accepted)),
-                (C, Sees(0), Is(true)),
-                (A, Back, Done),
-                (B, Back, Done),
-                (C, Back, Done),
-            ],
-            rest: &[(Ask::Size, Number(1)), (Ask::Counts, Counted(2, 1, 0))],
-        }],
-    },
-    Row {
-        shows: "a change of a pass given up is shown by its neighbour",
-        plays: &[Play {
-            way: Way::Begin,
-            numbers: (2, 2, 1),
-            steps: &[
-                (A, Open, Done),
-                (B, Open, Done),
-                (A, Start(Insert(0)), Done),
-                (A, Turns(2), Done),
-                (A, GiveUp, Done),
-                (B, Now(Insert(1)), Is(true)),
-                (B, Sees(0), Is(true)),
-                (B, Sees(1), Is(true)),
-                (B, Size, Number(2)),
-                (B, Back, Done),
-            ],
-            rest: &[(Ask::Size, Number(2)), (Ask::Counts, Counted(1, 0, 1))],
-        }],
-    },
+    Row("the root shows three changes of a key at once"),
+    Round(Begin, (1, 3, 1), 3),
+    A(Start(Insert(0), 2), Done),
+    B(Start(Remove(0), 2), Done),
+    C(Start(Insert(0), 2), Done),
+    A(Last(8), Came(Accepted)),
+    A(Has(0), Is(true)),
+    B(Last(8), Came(Accepted)),
+    B(Has(0), Is(true)),
+    C(Last(8), Came(Accepted)),
+    C(Has(0), Is(true)),
+    End(1, (2, 1, 0)),
+    Row("a change of a pass given up is shown by its neighbour"),
+    Round(Begin, (2, 2, 1), 2),
+    A(Start(Insert(0), 2), Done),
+    A(GiveUp, Done),
+    B(Now(Insert(1)), Came(Accepted)),
+    B(Has(0), Is(true)),
+    B(Has(1), Is(true)),
+    B(Size, Number(2)),
+    End(2, (1, 0, 1)),
 ];
 
 #[test]
@@ -226,97 +131,263 @@ fn updates_by_turns_come_to_what_they_meet(rt: HostRuntime) -> Result<(), BeginE
     rows(&rt, rt.alloc(), BY_TURNS)
 }
 
-// A trie in which 0 is alone and weighs 0, or the empty one.
-fn zero_or_nothing(
-    rt: &impl Abort,
-    alloc: Global,
-    bits: u32,
-    zero: bool,
-) -> Result<Trie, BeginError> {
-    let script = [
-        (A, Open, Done),
-        (A, Now(Insert(0)), Is(true)),
-        (A, Back, Done),
-    ];
-    let steps = if zero {
-        script.as_slice()
-    } else {
-        [].as_slice()
-    };
-    played_from_empty(rt, alloc, (bits, 1, 1), "0 or nothing", steps)
+const AMOUNTS: &[Line] = &[
+    // An update that its leaf prevents has no exchange.
+    Row("turns of additions and subtractions alone in a round of 1 bit"),
+    Round(Begin, (1, 1, 8), 1),
+    A(ByTurns(Add(0, 5)), Ended(20, Accepted, 11)),
+    A(ByTurns(Add(0, 5)), Ended(20, Replaced, 11)),
+    A(ByTurns(Add(0, u32::MAX)), Ended(20, TooGreat, 10)),
+    A(ByTurns(Add(0, 0)), Ended(20, Unchanged, 10)),
+    A(Weight(0), Finds(Some(10))),
+    A(ByTurns(Sub(0, 3)), Ended(20, Replaced, 11)),
+    A(ByTurns(Sub(0, 8)), Ended(20, TooLittle, 10)),
+    A(Weight(0), Finds(Some(7))),
+    A(ByTurns(Sub(0, 7)), Ended(20, Accepted, 11)),
+    A(ByTurns(Sub(0, 7)), Ended(20, TooLittle, 10)),
+    A(Counts, Counted(3, 3, 0)),
+    A(Size, Number(0)),
+    Row("turns of an addition alone in a round of 4 bits"),
+    Round(Begin, (4, 1, 2), 1),
+    A(ByTurns(Add(9, 7)), Ended(110, Accepted, 56)),
+    A(ByTurns(Sub(9, 8)), Ended(110, TooLittle, 55)),
+    A(Counts, Counted(1, 0, 0)),
+    // The other lane comes between the turn that loads the leaf and the turn that exchanges its word.
+    Row(
+        "an addition that meets another one is refused, and reckons from its weight when it is made again",
+    ),
+    Round(Begin, (1, 2, 3), 2),
+    A(Now(Add(0, 1)), Came(Accepted)),
+    A(Start(Add(0, 10), 1), Done),
+    B(Now(Add(0, 100)), Came(Replaced)),
+    A(Last(9), Came(Refused)),
+    A(Weight(0), Finds(Some(101))),
+    A(See(Add(0, 10)), Seen(Replaced, Some(111))),
+    Rest(Weight(0), Finds(Some(111))),
+    Rest(Counts, Counted(3, 2, 0)),
+    // The word that the subtraction found is there again but for its serial.
+    Row("a subtraction that meets changes which leave the weight as it was is refused"),
+    Round(Begin, (1, 2, 2), 2),
+    A(Now(Add(0, 4)), Came(Accepted)),
+    A(Start(Sub(0, 4), 1), Done),
+    B(Now(Remove(0)), Came(Accepted)),
+    B(Now(Add(0, 4)), Came(Accepted)),
+    A(Finish, Came(Refused)),
+    A(Weight(0), Finds(Some(4))),
+    A(Counts, Counted(1, 0, 0)),
+    // What it found in its leaf was too little. That more came then does not count.
+    Row("a subtraction that found too little meets an addition"),
+    Round(Begin, (1, 2, 1), 2),
+    A(Start(Sub(0, 4), 1), Done),
+    B(Now(Add(0, 4)), Came(Accepted)),
+    A(Finish, Came(TooLittle)),
+    A(Weight(0), Finds(Some(4))),
+];
+
+#[test]
+fn amounts_by_turns_come_to_what_they_meet(rt: HostRuntime) -> Result<(), BeginError> {
+    rows(&rt, rt.alloc(), AMOUNTS)
 }
 
-// A pass makes a change of 0 and is given up after some of its turns, and another pass puts a key in.
-struct GivenUp {
-    shows: &'static str,
-    change: Change,
-    other: u32,
-    // What 0 weighs before the change and after it, and the turn that leaves the change to be shown.
-    before: Option<u32>,
-    after: Option<u32>,
-    shown_from: u32,
+const WEIGHTS: &[Line] = &[
+    Row("turns of a put alone in a round of 1 bits are as many whether it replaces"),
+    Round(Begin, (1, 1, 2), 1),
+    A(ByTurns(Put(0, 7)), Ended(20, Accepted, 11)),
+    A(Counts, Counted(1, 0, 1)),
+    A(ByTurns(Put(0, 8)), Ended(20, Replaced, 11)),
+    A(Counts, Counted(2, 1, 0)),
+    A(Weight(0), Finds(Some(8))),
+    Row("turns of a put alone in a round of 4 bits are as many whether it replaces"),
+    Round(Begin, (4, 1, 2), 1),
+    A(ByTurns(Put(0, 7)), Ended(110, Accepted, 56)),
+    A(Counts, Counted(1, 0, 1)),
+    A(ByTurns(Put(0, 8)), Ended(110, Replaced, 56)),
+    A(Counts, Counted(2, 1, 0)),
+    A(Weight(0), Finds(Some(8))),
+    // The replacement comes between the turn that loads the leaf and the turn that exchanges its word.
+    Row("a removal that meets a replacement is refused"),
+    Round(Begin, (1, 1, 1), 1),
+    A(Now(Insert(0)), Came(Accepted)),
+    Round(Begin, (1, 2, 1), 2),
+    A(Start(Remove(0), 1), Done),
+    B(Now(Put(0, 8)), Came(Replaced)),
+    A(Last(9), Came(Refused)),
+    A(Weight(0), Finds(Some(8))),
+    Rest(Weight(0), Finds(Some(8))),
+    End(1, (1, 1, 0)),
+    // The other pass puts the weight in that the key has already, so that the leaf's word differs in its serial alone.
+    Row("a put that meets one of the same weight is refused"),
+    Round(Begin, (1, 1, 1), 1),
+    A(Now(Insert(0)), Came(Accepted)),
+    Round(Begin, (1, 2, 1), 2),
+    A(Start(Put(0, 9), 1), Done),
+    B(Now(Put(0, 0)), Came(Replaced)),
+    A(Last(9), Came(Refused)),
+    A(Counts, Counted(0, 0, 0)),
+    A(Weight(0), Finds(Some(0))),
+    End(1, (1, 1, 0)),
+    // A put of an absent key meets an insertion of it, and one of a member meets its removal.
+    Row("a put that lost its leaf is refused"),
+    Round(Begin, (1, 2, 2), 2),
+    A(Start(Put(0, 9), 1), Done),
+    B(Now(Insert(0)), Came(Accepted)),
+    A(Finish, Came(Refused)),
+    A(Start(Put(0, 9), 1), Done),
+    B(Now(Remove(0)), Came(Accepted)),
+    A(Finish, Came(Refused)),
+    A(Size, Number(0)),
+    End(0, (1, 1, 0)),
+    Row("takes by turns, alone and against another lane"),
+    Round(Begin, (1, 2, 8), 2),
+    A(Now(Put(0, 3)), Came(Accepted)),
+    A(ByTurns(Take(0, 3)), Ended(20, Accepted, 11)),
+    A(ByTurns(Take(0, 3)), Ended(20, Refused, 10)),
+    A(Now(Put(0, 4)), Came(Accepted)),
+    A(Start(Take(0, 4), 1), Done),
+    B(Now(Put(0, 4)), Came(Replaced)),
+    A(Finish, Came(Refused)),
+    A(Weight(0), Finds(Some(4))),
+];
+
+#[test]
+fn puts_and_takes_by_turns_come_to_what_they_meet(rt: HostRuntime) -> Result<(), BeginError> {
+    rows(&rt, rt.alloc(), WEIGHTS)
 }
+
+// A look shows what others changed since the last one: by itself, and behind an update that changed nothing, which still brings what it found in its
+// leaf to the root.
+const LOOKS: &[Line] = &[
+    Row("each look shows what another pass changed since the last"),
+    Round(Begin, (4, 2, 2), 2),
+    A(Has(1), Is(false)),
+    A(Size, Number(0)),
+    B(Now(Insert(1)), Came(Accepted)),
+    A(Has(1), Is(true)),
+    A(Size, Number(1)),
+    B(Now(Remove(1)), Came(Accepted)),
+    A(Has(1), Is(false)),
+    A(Size, Number(0)),
+    // The other insertion has changed the leaf and is not at the root.
+    Row("a refused insertion shows the key that it found"),
+    Round(Begin, (1, 1, 1), 1),
+    A(Now(Insert(0)), Came(Accepted)),
+    Round(Begin, (1, 3, 1), 3),
+    A(Has(0), Is(true)),
+    A(Has(0), Is(true)),
+    B(Now(Remove(0)), Came(Accepted)),
+    C(Start(Insert(0), 2), Done),
+    B(Has(0), Is(false)),
+    A(See(Insert(0)), Seen(Refused, Some(0))),
+    C(Finish, Came(Accepted)),
+    C(Size, Number(1)),
+    Row("a refused removal shows that the key is gone"),
+    Round(Begin, (1, 1, 1), 1),
+    A(Now(Insert(0)), Came(Accepted)),
+    Round(Begin, (1, 3, 1), 2),
+    B(Start(Remove(0), 2), Done),
+    A(Has(0), Is(true)),
+    A(Has(0), Is(true)),
+    A(See(Remove(0)), Seen(Refused, None)),
+    B(Finish, Came(Accepted)),
+    B(Size, Number(0)),
+    Row("a refused update by turns shows what it found"),
+    Round(Begin, (1, 1, 1), 1),
+    A(Now(Insert(0)), Came(Accepted)),
+    Round(Begin, (1, 3, 1), 3),
+    C(Start(Remove(0), 2), Done),
+    A(Start(Remove(0), 0), Done),
+    A(Finish, Came(Refused)),
+    A(Has(0), Is(false)),
+    B(Start(Insert(0), 2), Done),
+    A(Has(0), Is(false)),
+    C(Finish, Came(Accepted)),
+    C(Has(0), Is(true)),
+    B(Finish, Came(Accepted)),
+    B(Has(0), Is(true)),
+    // The leaf is changed between the first turn and the second.
+    Row("an insertion that lost its leaf shows who won"),
+    Round(Begin, (1, 2, 1), 2),
+    A(Start(Insert(0), 1), Done),
+    B(Start(Insert(0), 2), Done),
+    A(Finish, Came(Refused)),
+    A(Has(0), Is(true)),
+    B(Finish, Came(Accepted)),
+    Row("a put that lost its leaf shows the weight that won"),
+    Round(Begin, (1, 1, 1), 1),
+    A(Now(Insert(0)), Came(Accepted)),
+    Round(Begin, (1, 3, 1), 2),
+    A(Start(Put(0, 5), 1), Done),
+    B(Start(Put(0, 7), 2), Done),
+    A(Finish, Came(Refused)),
+    A(Weight(0), Finds(Some(7))),
+    B(Finish, Came(Replaced)),
+    // The first put has changed the leaf and is not at the root.
+    Row("a put shows its weight over that of one on its way"),
+    Round(Begin, (1, 2, 1), 2),
+    B(Start(Put(0, 7), 2), Done),
+    A(Weight(0), Finds(None)),
+    A(Weight(0), Finds(None)),
+    A(See(Put(0, 9)), Seen(Replaced, Some(9))),
+    B(Finish, Came(Accepted)),
+    B(Weight(0), Finds(Some(9))),
+];
+
+#[test]
+fn each_look_shows_what_others_changed_since_the_last(rt: HostRuntime) -> Result<(), BeginError> {
+    rows(&rt, rt.alloc(), LOOKS)
+}
+
+// A round of 2 bits that leaves 0, which weighs 0, and one that leaves nothing.
+const ZERO: &[Line] = &[
+    Round(Begin, (2, 1, 1), 1),
+    A(Now(Insert(0)), Came(Accepted)),
+];
+
+const NOTHING: &[Line] = &[Round(Begin, (2, 1, 1), 0)];
+
+// What it shows that a pass makes a change of 0 and is given up after some of its turns, and another pass puts a key in: the change, that key, what 0
+// weighs before the change and after it, and the turn that leaves the change to be shown.
+type GivenUp = (&'static str, (Change, u32, Option<u32>, Option<u32>, u32));
 
 // The rest of the round shows the change or does not, and in the next round 0 goes in if it is not there.
 fn given_up(rt: &impl Abort, alloc: Global, row: &GivenUp, turned: u32) -> Result<(), BeginError> {
-    let weight = if turned < row.shown_from {
-        row.before
-    } else {
-        row.after
-    };
+    let (shows, (change, other, before, after, shown_from)) = *row;
+    let weight = if turned < shown_from { before } else { after };
     let members = if weight.is_some() { 2 } else { 1 };
-    let ended = zero_or_nothing(rt, alloc, 2, row.before.is_some())?;
-    let script = [
-        (A, Open, Done),
-        (B, Open, Done),
-        (A, Start(row.change), Done),
-        (A, Turns(turned), Done),
-        (A, GiveUp, Done),
-        (B, Now(Insert(row.other)), Is(true)),
-        (B, Size, Number(members)),
-        (B, Weight(0), Finds(weight)),
-        (B, Sees(row.other), Is(true)),
-        (B, Back, Done),
+    let first = if before.is_some() { ZERO } else { NOTHING };
+    let table = [
+        And(shows),
+        Round(Begin, (2, 2, 1), 2),
+        A(Start(change, turned), Done),
+        A(GiveUp, Done),
+        B(See(Insert(other)), Seen(Accepted, Some(other))),
+        B(Size, Number(members)),
+        B(Weight(0), Finds(weight)),
+        End(members, (1, 0, 1)),
+        Rest(Weight(0), Finds(weight)),
+        Round(Begin, (2, 1, 1), 1),
+        A(Now(Insert(0)), Came(made(weight.is_none()))),
     ];
-    let mut ended = played(rt, alloc, ended, Way::Begin, (2, 2, 1), row.shows, &script)?;
-    let asks = [
-        (Ask::Size, Number(members)),
-        (Ask::Weight(0), Finds(weight)),
-        (Ask::Counts, Counted(1, 0, 1)),
-    ];
-    rests(rt, alloc, &mut ended, row.shows, &asks);
-    let script = [(A, Open, Done), (A, Now(Insert(0)), Is(weight.is_none()))];
-    played(rt, alloc, ended, Way::Begin, (2, 1, 1), row.shows, &script)?;
+    let ended = rows_over(rt, alloc, None, first)?;
+    rows_over(rt, alloc, ended, &table)?;
     Ok(())
 }
 
 // The second turn exchanges the leaf's word. From it on the change is shown if the other pass brings the node over both keys up to date
 // with its children. It is shown from the eleventh on if only the pass that is given up can bring that node up to date.
 const GIVEN_UP: &[GivenUp] = &[
-    GivenUp {
-        shows: "an insertion is given up below a node that its neighbour refreshes",
-        change: Insert(0),
-        other: 1,
-        before: None,
-        after: Some(0),
-        shown_from: 2,
-    },
-    GivenUp {
-        shows: "an insertion is given up below a node that nobody else refreshes",
-        change: Insert(0),
-        other: 2,
-        before: None,
-        after: Some(0),
-        shown_from: 11,
-    },
-    GivenUp {
-        shows: "a replacement that is given up leaves one weight or the other",
-        change: Put(0, 8),
-        other: 1,
-        before: Some(0),
-        after: Some(8),
-        shown_from: 2,
-    },
+    (
+        "an insertion is given up below a node that its neighbour refreshes",
+        (Insert(0), 1, None, Some(0), 2),
+    ),
+    (
+        "an insertion is given up below a node that nobody else refreshes",
+        (Insert(0), 2, None, Some(0), 11),
+    ),
+    (
+        "a replacement that is given up leaves one weight or the other",
+        (Put(0, 8), 1, Some(0), Some(8), 2),
+    ),
 ];
 
 #[test]

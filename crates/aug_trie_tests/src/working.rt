@@ -3,11 +3,12 @@ ghost use Rattle.std.specs.Prelude.{◌≡◌, ◌^◌, IfOk};
 ghost use Rattle.aug_trie.specs.Round.{table_of};
 
 use super::asking::{adds_up, seen_size};
-use super::playing::Change::{Add, Insert, Put, Remove, Sub};
-use super::playing::Reply::Came;
-use super::playing::{Change, changed};
+use super::playing::changed;
 use super::rounds::{CrewOf, Half, RoundOf, Walker, next_pass};
 use aug_trie::{CrewError, Outcome};
+use aug_trie_testing::rows::Change;
+use aug_trie_testing::rows::Change::{Add, Insert, Put, Remove, Sub};
+use aug_trie_testing::rows::Reply::Came;
 use std::sync::Wait;
 use std::thread;
 use std::thread::Threads;
@@ -50,13 +51,8 @@ pub(super) enum Deed {
     Watch,
 }
 
-// What a lane does: the same with each of the keys below `keys`, and so often.
-#[derive(Clone, Copy)]
-pub(super) struct Task {
-    pub(super) keys: u32,
-    pub(super) times: u32,
-    pub(super) deed: Deed,
-}
+// What a lane does: this with each of so many keys, and so often.
+pub(super) type Task = (u32, u32, Deed);
 
 // What a lane adds. A hundred of each show in the weight's decimals how often each lane added.
 fn amount_of(lane: u32) -> u32 {
@@ -117,11 +113,12 @@ fn turn(pass: &mut Walker<'_>, universe: u32, task: Task, members: u32) -> Optio
     requires { universe ≡ 2 ^ pass.old.round.bits }
     ensures { pass.new.round ≡ pass.old.round }
 {
-    if matches!(task.deed, Deed::Watch) {
+    let (keys, _, deed) = task;
+    if matches!(deed, Deed::Watch) {
         return adds_up(pass).filter(|count| *count >= members);
     }
-    for key in 0..task.keys {
-        do_once(pass, universe, task.deed, key);
+    for key in 0..keys {
+        do_once(pass, universe, deed, key);
     }
     Some(0)
 }
@@ -137,7 +134,7 @@ pub(super) fn done(round: &RoundOf, half: Half, task: Task) -> Worked
     let universe = half.universe();
     let mut pass = round.pass(half);
     let mut members = 0;
-    for _ in 0..task.times {
+    for _ in 0..task.1 {
         match turn(&mut pass, universe, task, members) {
             Some(count) => members = count,
             None => return (pass.into_half(), None),

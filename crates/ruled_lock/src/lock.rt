@@ -1,11 +1,11 @@
 //! The lock.
 ghost use Rattle.std.specs.Prelude.{◌≡◌, ◌≢◌, ◌+◌, ◌<◌, ◌≤◌, ◌++◌, [], ◌∷◌, IfErr, IfOk, IfSome, IsSome, None, Some, vec_capacity, vec_len};
-ghost use Rattle.ruled_lock.specs.Locks.{client_of, missed_of, IsSamePass, HoldsNothing, Holds, Learns, TurnsAt, Forks, Meets};
+ghost use Rattle.ruled_lock.specs.Locks.{client_of, missed_of, IsSameKey, HoldsNothing, Holds, Learns, TurnsAt, Forks, Meets};
 
 use crate::effects::{Both, Cut, Give, Try};
 use crate::holding::Holding;
 use crate::patience::Patience;
-use crate::rule::{Lesson, LockRule, Outcome};
+use crate::rule::{Lesson, LockRule, Transition};
 use atomic_table::{Join, Seat, Split, Table, TableRule};
 use std::alloc::{AllocError, Global};
 use std::marker::PhantomData;
@@ -55,12 +55,12 @@ impl<T, V, P: LockRule<T, V>> TableRule<Option<T>, Holding<T, V>, ()> for Locked
     ghost first = { λ _. idle P.first };
 }
 
-/// A pass of a lock. It has no bytes, and its view is what the caller's rule sees of it.
-pub type Pass<T, V> = Seat<Option<T>, Holding<T, V>>;
+/// A key of a lock. It has no bytes, and its view is what the caller's rule sees of it.
+pub type Key<T, V> = Seat<Option<T>, Holding<T, V>>;
 
 /// A value that one thread at a time holds, under a rule of the caller's.
 pub struct RuledLock<T, V, P: LockRule<T, V>> {
-    // The word that is used is 0 if the value is in the lock, and 1 if a pass holds it.
+    // The word that is used is 0 if the value is in the lock, and 1 if a key holds it.
     pub table: Table<Option<T>, Holding<T, V>, (), Locked<P>, Global>,
     ghost counts: { (table.shared.table_id.words ≡ 33) × (table.shared.table_id.slots ≡ 17) },
 }
@@ -73,8 +73,8 @@ impl<T: Drop, V, P: LockRule<T, V>> Drop for RuledLock<T, V, P> {
 }
 
 impl<T, V, P: LockRule<T, V>> RuledLock<T, V, P> {
-    /// A lock of this value, and its first pass.
-    pub fn new(alloc: Global, value: T) -> Result<(RuledLock<T, V, P>, Pass<T, V>), AllocError>
+    /// A lock of this value, and its first key.
+    pub fn new(alloc: Global, value: T) -> Result<(RuledLock<T, V, P>, Key<T, V>), AllocError>
     where
         T: Drop,
         requires rule { P.holds value (P.first ∷ []) }
@@ -85,57 +85,57 @@ impl<T, V, P: LockRule<T, V>> RuledLock<T, V, P> {
         slots.push_reserved(Some(value));
         leave_room(&mut slots);
         match Table::new(alloc, &[0; WORDS], slots, &()) {
-            Ok((table, pass)) => Ok((RuledLock { table }, pass)),
+            Ok((table, key)) => Ok((RuledLock { table }, key)),
             Err(_) => Err(AllocError),
         }
     }
 
-    /// Cuts a view in two: one more pass.
-    pub fn another<M: Split<V>>(&self, pass: &mut Pass<T, V>) -> Pass<T, V>
-        requires lock { pass.old.table_id ≡ self.now.table.shared.table_id }
-        requires rule { Forks P.holds pass.old.id (client_of pass.old) (M.left (client_of pass.old)) (M.right (client_of pass.old)) }
-        ensures same { IsSamePass pass.old pass.new }
-        ensures free { HoldsNothing pass.old → HoldsNothing pass.new }
-        ensures left { client_of pass.new ≡ M.left (client_of pass.old) }
-        ensures new { (result.table_id ≡ pass.old.table_id) × HoldsNothing result × (client_of result ≡ M.right (client_of pass.old)) }
+    /// Cuts a view in two: one more key.
+    pub fn another<M: Split<V>>(&self, key: &mut Key<T, V>) -> Key<T, V>
+        requires lock { key.old.table_id ≡ self.now.table.shared.table_id }
+        requires rule { Forks P.holds key.old.id (client_of key.old) (M.left (client_of key.old)) (M.right (client_of key.old)) }
+        ensures same { IsSameKey key.old key.new }
+        ensures free { HoldsNothing key.old → HoldsNothing key.new }
+        ensures left { client_of key.new ≡ M.left (client_of key.old) }
+        ensures new { (result.table_id ≡ key.old.table_id) × HoldsNothing result × (client_of result ≡ M.right (client_of key.old)) }
     {
-        self.table.shared.split_seat::<Cut<M>>(pass)
+        self.table.shared.split_seat::<Cut<M>>(key)
     }
 
-    /// Takes in what another pass of this lock knows, and ends that pass.
-    pub fn join<M: Join<V>>(&self, pass: &mut Pass<T, V>, other: Pass<T, V>)
-        requires lock { pass.old.table_id ≡ self.now.table.shared.table_id }
+    /// Takes in what another key of this lock knows, and ends that key.
+    pub fn join<M: Join<V>>(&self, key: &mut Key<T, V>, other: Key<T, V>)
+        requires lock { key.old.table_id ≡ self.now.table.shared.table_id }
         requires same_lock { other.table_id ≡ self.now.table.shared.table_id }
         requires free { HoldsNothing other }
-        requires rule { Meets P.holds pass.old.id (client_of pass.old) other.id (client_of other) (M.both (client_of pass.old) (client_of other)) M.spent }
-        ensures same { IsSamePass pass.old pass.new }
-        ensures taken { pass.new.me.0.taken ≡ pass.old.me.0.taken }
-        ensures slots { pass.new.me.1 ≡ pass.old.me.1 }
-        ensures both { client_of pass.new ≡ M.both (client_of pass.old) (client_of other) }
+        requires rule { Meets P.holds key.old.id (client_of key.old) other.id (client_of other) (M.both (client_of key.old) (client_of other)) M.spent }
+        ensures same { IsSameKey key.old key.new }
+        ensures taken { key.new.me.0.taken ≡ key.old.me.0.taken }
+        ensures slots { key.new.me.1 ≡ key.old.me.1 }
+        ensures both { client_of key.new ≡ M.both (client_of key.old) (client_of other) }
     {
-        self.table.shared.join_seat::<Both<M>>(pass, other);
+        self.table.shared.join_seat::<Both<M>>(key, other);
     }
 
-    /// Takes the value out. If another pass has it, the call waits or gives up, as its patience says. It gives up only where it found the value
+    /// Takes the value out. If another key has it, the call waits or gives up, as its patience says. It gives up only where it found the value
     /// out.
     #[inline(always)]
     pub fn take<M: Lesson<T, V>, W: Patience>(
         &self,
         how: &W,
-        pass: &mut Pass<T, V>,
+        key: &mut Key<T, V>,
     ) -> Result<T, W::GaveUp>
-        requires lock { pass.old.table_id ≡ self.now.table.shared.table_id }
-        requires free { HoldsNothing pass.old }
-        requires rule { Learns P.holds pass.old.id (client_of pass.old) M.fact }
-        ensures same { IsSamePass pass.old pass.new }
-        ensures view { client_of pass.new ≡ client_of pass.old }
-        ensures holds { IfOk result (λ t. Holds t None pass.new) }
-        ensures fact { IfOk result (λ t. M.fact (client_of pass.old) t) }
-        ensures free { IfErr result (λ _. HoldsNothing pass.new) }
-        ensures missed { IfErr result (λ _. missed_of pass.old < missed_of pass.new) }
+        requires lock { key.old.table_id ≡ self.now.table.shared.table_id }
+        requires free { HoldsNothing key.old }
+        requires rule { Learns P.holds key.old.id (client_of key.old) M.fact }
+        ensures same { IsSameKey key.old key.new }
+        ensures view { client_of key.new ≡ client_of key.old }
+        ensures holds { IfOk result (λ t. Holds t None key.new) }
+        ensures fact { IfOk result (λ t. M.fact (client_of key.old) t) }
+        ensures free { IfErr result (λ _. HoldsNothing key.new) }
+        ensures missed { IfErr result (λ _. missed_of key.old < missed_of key.new) }
     {
-        match how.acquire::<T, V, P, M>(self, pass) {
-            Ok(()) => match self.table.shared.exchange(pass, SLOT, None) {
+        match how.acquire::<T, V, P, M>(self, key) {
+            Ok(()) => match self.table.shared.exchange(key, SLOT, None) {
                 Some(value) => Ok(value),
                 None => unreachable!(),
             },
@@ -143,36 +143,36 @@ impl<T, V, P: LockRule<T, V>> RuledLock<T, V, P> {
         }
     }
 
-    // Takes the slot, unless another pass has it: the word as it was, which is then not 0.
+    // Takes the slot, unless another key has it: the word as it was, which is then not 0.
     #[inline(always)]
-    pub(crate) fn try_for<M: Lesson<T, V>>(&self, pass: &mut Pass<T, V>) -> u64
-        requires lock { pass.old.table_id ≡ self.now.table.shared.table_id }
-        requires free { HoldsNothing pass.old }
-        requires rule { Learns P.holds pass.old.id (client_of pass.old) M.fact }
-        ensures same { IsSamePass pass.old pass.new }
-        ensures view { client_of pass.new ≡ client_of pass.old }
-        ensures holds { result ≡ 0 → (t : T) × Holds t (Some t) pass.new × M.fact (client_of pass.old) t }
-        ensures free { result ≢ 0 → HoldsNothing pass.new }
-        ensures missed { result ≢ 0 → missed_of pass.new ≡ missed_of pass.old + 1 }
+    pub(crate) fn try_for<M: Lesson<T, V>>(&self, key: &mut Key<T, V>) -> u64
+        requires lock { key.old.table_id ≡ self.now.table.shared.table_id }
+        requires free { HoldsNothing key.old }
+        requires rule { Learns P.holds key.old.id (client_of key.old) M.fact }
+        ensures same { IsSameKey key.old key.new }
+        ensures view { client_of key.new ≡ client_of key.old }
+        ensures holds { result ≡ 0 → (t : T) × Holds t (Some t) key.new × M.fact (client_of key.old) t }
+        ensures free { result ≢ 0 → HoldsNothing key.new }
+        ensures missed { result ≢ 0 → missed_of key.new ≡ missed_of key.old + 1 }
     {
         self.table
             .shared
-            .compare_exchange::<Try<M>>(pass, WORD, 0, 1)
+            .compare_exchange::<Try<M>>(key, WORD, 0, 1)
     }
 
-    // Takes the slot, and sleeps for a while again and again as long as another pass has it. Nobody wakes it: a static library, which
+    // Takes the slot, and sleeps for a while again and again as long as another key has it. Nobody wakes it: a static library, which
     // may wake nobody, can put values back too.
     #[inline(always)]
-    pub(crate) fn wait_for<M: Lesson<T, V>, R: Wait>(&self, rt: &R, pass: &mut Pass<T, V>)
-        requires lock { pass.old.table_id ≡ self.now.table.shared.table_id }
-        requires free { HoldsNothing pass.old }
-        requires rule { Learns P.holds pass.old.id (client_of pass.old) M.fact }
-        ensures same { IsSamePass pass.old pass.new }
-        ensures view { client_of pass.new ≡ client_of pass.old }
-        ensures holds { (t : T) × Holds t (Some t) pass.new × M.fact (client_of pass.old) t }
+    pub(crate) fn wait_for<M: Lesson<T, V>, R: Wait>(&self, rt: &R, key: &mut Key<T, V>)
+        requires lock { key.old.table_id ≡ self.now.table.shared.table_id }
+        requires free { HoldsNothing key.old }
+        requires rule { Learns P.holds key.old.id (client_of key.old) M.fact }
+        ensures same { IsSameKey key.old key.new }
+        ensures view { client_of key.new ≡ client_of key.old }
+        ensures holds { (t : T) × Holds t (Some t) key.new × M.fact (client_of key.old) t }
     {
         for _ in rt.forever() {
-            if self.try_for::<M>(pass) == 0 {
+            if self.try_for::<M>(key) == 0 {
                 return;
             }
             let pause = Duration::from_micros(PAUSE);
@@ -183,17 +183,17 @@ impl<T, V, P: LockRule<T, V>> RuledLock<T, V, P> {
 
     /// Puts a value back, in the place of the one that was taken.
     #[inline(always)]
-    pub fn put<M: Outcome<T, V>>(&self, pass: &mut Pass<T, V>, value: T)
-        requires lock { pass.old.table_id ≡ self.now.table.shared.table_id }
-        requires holds { (t : T) × Holds t None pass.old × TurnsAt P.holds pass.old.id (client_of pass.old) t value M.then }
-        ensures same { IsSamePass pass.old pass.new }
-        ensures free { HoldsNothing pass.new }
-        ensures then { IfSome pass.old.me.0.taken (λ t. M.then (client_of pass.old) t value (client_of pass.new)) }
+    pub fn put<M: Transition<T, V>>(&self, key: &mut Key<T, V>, value: T)
+        requires lock { key.old.table_id ≡ self.now.table.shared.table_id }
+        requires holds { (t : T) × Holds t None key.old × TurnsAt P.holds key.old.id (client_of key.old) t value M.then }
+        ensures same { IsSameKey key.old key.new }
+        ensures free { HoldsNothing key.new }
+        ensures then { IfSome key.old.me.0.taken (λ t. M.then (client_of key.old) t value (client_of key.new)) }
     {
-        match self.table.shared.exchange(pass, SLOT, Some(value)) {
+        match self.table.shared.exchange(key, SLOT, Some(value)) {
             Some(_) => unreachable!(),
             None => {}
         }
-        self.table.shared.swap::<Give<M>>(pass, WORD, 0);
+        self.table.shared.swap::<Give<M>>(key, WORD, 0);
     }
 }

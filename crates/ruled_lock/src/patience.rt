@@ -1,12 +1,12 @@
 //! How a call meets a lock whose value is out.
 ghost use Rattle.std.specs.Prelude.{◌≡◌, ◌<◌, IfErr, IfOk, Some};
-ghost use Rattle.ruled_lock.specs.Locks.{client_of, missed_of, IsSamePass, HoldsNothing, Holds, Learns};
+ghost use Rattle.ruled_lock.specs.Locks.{client_of, missed_of, IsSameKey, HoldsNothing, Holds, Learns};
 
-use crate::lock::{Pass, RuledLock};
+use crate::lock::{Key, RuledLock};
 use crate::rule::{Lesson, LockRule};
 use std::sync::Wait;
 
-/// How long a call waits for a value that another pass has.
+/// How long a call waits for a value that another key has.
 pub trait Patience {
     /// What shows that the call gave up.
     type GaveUp;
@@ -15,16 +15,16 @@ pub trait Patience {
     fn acquire<T, V, P: LockRule<T, V>, M: Lesson<T, V>>(
         &self,
         lock: &RuledLock<T, V, P>,
-        pass: &mut Pass<T, V>,
+        key: &mut Key<T, V>,
     ) -> Result<(), Self::GaveUp>
-        requires lock { pass.old.table_id ≡ lock.now.table.shared.table_id }
-        requires free { HoldsNothing pass.old }
-        requires rule { Learns P.holds pass.old.id (client_of pass.old) M.fact }
-        ensures same { IsSamePass pass.old pass.new }
-        ensures view { client_of pass.new ≡ client_of pass.old }
-        ensures holds { IfOk result (λ _. (t : T) × Holds t (Some t) pass.new × M.fact (client_of pass.old) t) }
-        ensures free { IfErr result (λ _. HoldsNothing pass.new) }
-        ensures missed { IfErr result (λ _. missed_of pass.old < missed_of pass.new) };
+        requires lock { key.old.table_id ≡ lock.now.table.shared.table_id }
+        requires free { HoldsNothing key.old }
+        requires rule { Learns P.holds key.old.id (client_of key.old) M.fact }
+        ensures same { IsSameKey key.old key.new }
+        ensures view { client_of key.new ≡ client_of key.old }
+        ensures holds { IfOk result (λ _. (t : T) × Holds t (Some t) key.new × M.fact (client_of key.old) t) }
+        ensures free { IfErr result (λ _. HoldsNothing key.new) }
+        ensures missed { IfErr result (λ _. missed_of key.old < missed_of key.new) };
 }
 
 /// It waits until the value is back, and gives up never.
@@ -42,9 +42,9 @@ impl<R: Wait> Patience for Waits<'_, R> {
     fn acquire<T, V, P: LockRule<T, V>, M: Lesson<T, V>>(
         &self,
         lock: &RuledLock<T, V, P>,
-        pass: &mut Pass<T, V>,
+        key: &mut Key<T, V>,
     ) -> Result<(), Never> {
-        lock.wait_for::<M, R>(self.0, pass);
+        lock.wait_for::<M, R>(self.0, key);
         Ok(())
     }
 }
@@ -66,9 +66,9 @@ impl Patience for Tries {
     fn acquire<T, V, P: LockRule<T, V>, M: Lesson<T, V>>(
         &self,
         lock: &RuledLock<T, V, P>,
-        pass: &mut Pass<T, V>,
+        key: &mut Key<T, V>,
     ) -> Result<(), WasOut> {
-        if lock.try_for::<M>(pass) == 0 {
+        if lock.try_for::<M>(key) == 0 {
             Ok(())
         } else {
             Err(WasOut { found: () })

@@ -4,7 +4,7 @@ ghost use Rattle.ruled_lock.specs.Locks.{Holds, HoldsNothing};
 
 use crate::assertions::equal;
 use atomic_table::Split;
-use ruled_lock::{Lesson, LockRule, Outcome, Pass, RuledLock, Tries, Waits, WasOut};
+use ruled_lock::{Key, Lesson, LockRule, RuledLock, Transition, Tries, Waits, WasOut};
 use std::alloc::AllocError;
 use std::process::Abort;
 use std::sync::Wait;
@@ -26,7 +26,7 @@ impl Lesson<u64, ()> for Anything {
     ghost fact = { λ _ _. Unit {0} };
 }
 
-impl Outcome<u64, ()> for Anything {
+impl Transition<u64, ()> for Anything {
     ghost then = { λ _ _ _ _. Unit {0} };
 }
 
@@ -39,40 +39,40 @@ impl Split<()> for Anything {
 // A count behind a lock.
 type Lock = RuledLock<u64, (), Anything>;
 
-// A pass of the lock.
+// A key of the lock.
 #[derive(Drop)]
 struct End<'l> {
     lock: &'l Lock,
-    pass: Pass<u64, ()>,
-    ghost of: { pass.table_id ≡ lock.now.table.shared.table_id },
-    ghost free: { HoldsNothing pass },
+    key: Key<u64, ()>,
+    ghost of: { key.table_id ≡ lock.now.table.shared.table_id },
+    ghost free: { HoldsNothing key },
 }
 
 // The same while it has the count.
 struct Held<'l> {
     lock: &'l Lock,
-    pass: Pass<u64, ()>,
+    key: Key<u64, ()>,
     count: u64,
-    ghost of: { pass.table_id ≡ lock.now.table.shared.table_id },
-    ghost holds: { Holds count None pass },
+    ghost of: { key.table_id ≡ lock.now.table.shared.table_id },
+    ghost holds: { Holds count None key },
 }
 
 impl<'l> End<'l> {
     // Takes the count, and waits while the other end has it.
     fn take<R: Wait>(self, rt: &R) -> Held<'l> {
-        let End { lock, mut pass } = self;
-        match lock.take::<Anything, Waits<'_, R>>(&Waits(rt), &mut pass) {
-            Ok(count) => Held { lock, pass, count },
+        let End { lock, mut key } = self;
+        match lock.take::<Anything, Waits<'_, R>>(&Waits(rt), &mut key) {
+            Ok(count) => Held { lock, key, count },
             Err(never) => match never {},
         }
     }
 
     // Takes the count, unless another end has it.
     fn try_take(self) -> Result<Held<'l>, (End<'l>, WasOut)> {
-        let End { lock, mut pass } = self;
-        match lock.take::<Anything, Tries>(&Tries, &mut pass) {
-            Ok(count) => Ok(Held { lock, pass, count }),
-            Err(missed) => Err((End { lock, pass }, missed)),
+        let End { lock, mut key } = self;
+        match lock.take::<Anything, Tries>(&Tries, &mut key) {
+            Ok(count) => Ok(Held { lock, key, count }),
+            Err(missed) => Err((End { lock, key }, missed)),
         }
     }
 }
@@ -82,26 +82,26 @@ impl<'l> Held<'l> {
     fn put(self) -> End<'l> {
         let Held {
             lock,
-            mut pass,
+            mut key,
             count,
         } = self;
-        lock.put::<Anything>(&mut pass, count.wrapping_add(1));
-        End { lock, pass }
+        lock.put::<Anything>(&mut key, count.wrapping_add(1));
+        End { lock, key }
     }
 }
 
-// Three ends of a lock, of its first pass.
-fn ends<'l>(lock: &'l Lock, first: Pass<u64, ()>) -> (End<'l>, End<'l>, End<'l>)
+// Three ends of a lock, of its first key.
+fn ends<'l>(lock: &'l Lock, first: Key<u64, ()>) -> (End<'l>, End<'l>, End<'l>)
     requires of { first.table_id ≡ lock.now.table.shared.table_id }
     requires free { HoldsNothing first }
 {
-    let mut pass = first;
-    let other = lock.another::<Anything>(&mut pass);
-    let third = lock.another::<Anything>(&mut pass);
+    let mut key = first;
+    let other = lock.another::<Anything>(&mut key);
+    let third = lock.another::<Anything>(&mut key);
     (
-        End { lock, pass },
-        End { lock, pass: other },
-        End { lock, pass: third },
+        End { lock, key },
+        End { lock, key: other },
+        End { lock, key: third },
     )
 }
 
@@ -127,7 +127,7 @@ fn raises<'l>(rt: &impl Abort, end: End<'l>, count: u64) -> End<'l> {
 
 #[test]
 fn a_try_takes_the_value_unless_it_is_out(rt: HostRuntime) -> Result<(), AllocError> {
-    let (lock, first): (Lock, Pass<u64, ()>) = RuledLock::new(rt.alloc(), 7)?;
+    let (lock, first): (Lock, Key<u64, ()>) = RuledLock::new(rt.alloc(), 7)?;
     let (one, other, third) = ends(&lock, first);
     let other = raises(&rt, other, 7);
     let held = one.take(&rt);
@@ -204,7 +204,7 @@ fn borrows<R: Wait>(rt: &R, end: End<'_>, turns: &Turns) {
 fn a_thread_that_waits_is_woken_1000_times_by_one_release(
     rt: HostRuntime,
 ) -> Result<(), AllocError> {
-    let (lock, first): (Lock, Pass<u64, ()>) = RuledLock::new(rt.alloc(), 0)?;
+    let (lock, first): (Lock, Key<u64, ()>) = RuledLock::new(rt.alloc(), 0)?;
     let (one, other, third) = ends(&lock, first);
     let turns = Turns {
         count: AtomicU64::new(0),

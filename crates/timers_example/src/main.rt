@@ -8,7 +8,7 @@ use anyhow::bail;
 use aug_live::{Handle, Live, LiveError};
 use aug_monoid::{Extent, Nothing};
 use aug_trie::Outcome::{Accepted, Replaced};
-use aug_trie::{Members, Outcome};
+use aug_trie::{Members, Told};
 use std::alloc::Global;
 use std::sync::Wait;
 use std::thread::Threads;
@@ -22,8 +22,8 @@ fn is_over<R: Clock>(rt: &R, end: Instant) -> bool {
 }
 
 // One if an update was made.
-fn made(done: Outcome) -> u64 {
-    u64::from(matches!(done, Accepted | Replaced))
+fn made(told: Told) -> u64 {
+    u64::from(matches!(told.outcome, Accepted | Replaced))
 }
 
 // Arms timers, and cancels each third one if it was not fired meanwhile: how many were armed, and how many cancelled. An update requires that its

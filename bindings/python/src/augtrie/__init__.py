@@ -1,4 +1,4 @@
-"""A sorted set of whole numbers with weights that threads share without locks, over the proved library `augtrie`.
+"""A sorted set of whole numbers with weights that threads share, over the proved library `augtrie`.
 
     from augtrie import Trie
 

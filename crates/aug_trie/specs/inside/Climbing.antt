@@ -13,9 +13,15 @@ use Rattle.aug_trie.specs.inside.Goes.{Goes}
 use Rattle.aug_trie.specs.inside.Weights.{WeighsAt}
 use Rattle.aug_trie.specs.Pass.{TryNoLeaf, ExchangesOnce, least_update_steps, most_update_steps}
 use Rattle.aug_trie.specs.LeafWords.{serial_in_word, weight_in_word}
-use Rattle.aug_trie.specs.Requests.{goes_from, in_the_way, outcome_at_once}
+use Rattle.aug_trie.specs.Requests.{goes_from, in_the_way, outcome_at_once, weight_told}
 use Rattle.aug_trie.specs.declared.updates.request.Request.{Request}
+use Rattle.aug_trie.specs.declared.updates.told.LeafUpdate.{LeafUpdate}
+use Rattle.aug_trie.specs.declared.updates.told.Told.{Told}
 use Rattle.aug_trie.specs.declared.updates.request.Request.TheVariants.{Insert, Remove, Put, Add, Sub, Take}
+
+-- what an update of a leaf tells
+abbrev pub told_by : LeafUpdate → Told
+told_by made = record { outcome = made.outcome; before = weight_told made.found; now = weight_told made.left }
 
 -- the weight that a put brings, or the amount, fits a leaf's word
 abbrev pub FitsRequest : Request → Type 0
@@ -82,3 +88,7 @@ module _ (face : ℕ → ℕ → List (ℕ × ℕ) → List ℕ) (used : ℕ) (v
     pub tried : goes_from request loaded ≡ true → ExchangesOnce request key loaded more done
     pub refusing : goes_from request loaded ≡ false → (done ≡ outcome_at_once request) × TryNoLeaf more
     pub came_to : CameTo loaded done
+
+  -- and by this word, which it found
+  abbrev pub UpdatedFrom : ℕ → Outcome → Type 0
+  UpdatedFrom loaded done = (u : Updated done) × (u.loaded ≡ loaded)

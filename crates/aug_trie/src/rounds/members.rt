@@ -4,11 +4,14 @@ ghost use Rattle.aug_model.specs.Keys.{IsKeySet, keys_of};
 ghost use Rattle.aug_core.specs.Layout.{IsOutside, IsWithin};
 
 use crate::error::BeginError;
-use std::alloc::Global;
+use aug_monoid::Monoid;
+use aug_query::descent::Pairs;
+use aug_query::{Descend, MemberList, Query};
+use std::alloc::{AllocError, Global};
 use std::marker::Model;
 
-/// The set of a trie at rest as a list, which `Ended::into_members` gives, or the empty set. It needs 8 bytes a member, and none of the
-/// trie's table. `Round::begin_over` begins a round over it.
+/// The set of a trie at rest, or of a snapshot, as a list, which `Ended::into_members` gives, or the query `AllMembers`; or the empty set. It needs 8
+/// bytes a member, and none of the trie's table. `Round::begin_over` begins a round over it, and the query `ChangesSince` compares a later snapshot with it.
 #[derive(Drop)]
 pub struct Members {
     pub(crate) bits: u32,
@@ -71,5 +74,38 @@ impl Members {
         ensures { result.now ≡ self.now.pairs }
     {
         self.pairs.as_slice()
+    }
+}
+
+impl MemberList for Members {
+    ghost set_of = { λ m. m };
+
+    fn len(&self) -> usize {
+        self.pairs.len()
+    }
+
+    fn member(&self, place: usize) -> (u32, u32) {
+        self.pairs[place]
+    }
+}
+
+/// All members of a snapshot, rising, each with its weight. Room for them is made at the beginning, and only that can be refused.
+#[derive(Clone, Copy)]
+pub struct AllMembers(pub Global);
+
+impl<A: Monoid, B: Monoid> Query<A, B> for AllMembers {
+    type Answer = Result<Members, AllocError>;
+
+    ghost use Rattle.std.specs.Prelude.{◌≡◌, ◌+◌, ◌*◌, length, IfOk};
+    ghost use Rattle.aug_query.specs.Descend.{loads};
+
+    ghost Answers = { λ q set answer. IfOk answer (λ members. members ≡ set) };
+
+    ghost most = { λ q set. loads (2 * set.bits * length set.pairs + 1) (set.bits * length set.pairs + 1) 0 0 };
+
+    fn run<D: Descend<A, B>>(self, tree: &mut D) -> Result<Members, AllocError> {
+        let bits = tree.bits();
+        let pairs = Query::<A, B>::run(Pairs(self.0), tree)?;
+        Ok(Members { bits, pairs })
     }
 }

@@ -2,7 +2,7 @@
 ghost use Rattle.std.specs.Prelude.{if◌then◌else◌, ◌≡◌, ℕ, ◌+◌, ◌*◌, ◌^◌, ◌<◌, ◌≤◌, [], ◌∷◌, ◌++◌};
 ghost use Rattle.std.specs.Bool.{OnTrue, OnFalse};
 ghost use Rattle.aug_trie.specs.Knowledge.{IsKnowledge, insertion, removal, inserts_of, removals_of};
-ghost use Rattle.aug_trie.specs.Updates.{AcceptedUpdate, RefusedUpdate, UsedUp, ComesTo, TakesSnapshot};
+ghost use Rattle.aug_trie.specs.Updates.{AcceptedUpdate, RefusedUpdate, UsedUp, ComesTo, TakesSnapshot, Tells};
 ghost use Rattle.aug_model.specs.Folds.{summary_of};
 ghost use Rattle.aug_trie.specs.Node.{Keeps};
 ghost use Rattle.aug_core.specs.Kinds.{load_node};
@@ -15,13 +15,14 @@ use crate::rounds::account::Account;
 use crate::updates::batch::amount_in;
 use crate::updates::outcome::Outcome;
 use crate::updates::request::Request;
+use crate::updates::told::{Told, weight_in};
 use crate::updates::update::update;
 use aug_monoid::Monoid;
 use aug_words::WordPass;
 use std::marker::Model;
 
-/// A pass of a round, with a lane of its own. It may go to another thread. None of its calls waits, and only `keys`
-/// and `pairs` take memory.
+/// A pass of a round, with a lane of its own. It may go to another thread. None of its calls waits or takes memory, except that a query which lists all
+/// members takes it from the allocator that it brings.
 #[derive(Drop)]
 pub struct Pass<'r, A: Monoid, B: Monoid> {
     // What it knows of the words. An update takes it out and puts it back, so that its steps can keep it in registers.
@@ -56,7 +57,7 @@ impl<'r, A: Monoid, B: Monoid> Pass<'r, A, B> {
         ensures keeps { Keeps (summary_of A.parts B.parts) self.old self.new }
         ensures steps { StepsOf Request.Insert k (if result then Outcome.Accepted else Outcome.Refused) self.old self.new }
     {
-        matches!(self.update(k, Request::Insert), Outcome::Accepted)
+        matches!(self.update(k, Request::Insert).outcome, Outcome::Accepted)
     }
 
     /// Takes a key out. True if this call took it out. False if it was no member, or somebody else took it out meanwhile.
@@ -70,7 +71,7 @@ impl<'r, A: Monoid, B: Monoid> Pass<'r, A, B> {
         ensures keeps { Keeps (summary_of A.parts B.parts) self.old self.new }
         ensures steps { StepsOf Request.Remove k (if result then Outcome.Accepted else Outcome.Refused) self.old self.new }
     {
-        matches!(self.update(k, Request::Remove), Outcome::Accepted)
+        matches!(self.update(k, Request::Remove).outcome, Outcome::Accepted)
     }
 
     /// Puts a key in with a weight, or gives a member this weight, also if it has it already.
@@ -87,7 +88,7 @@ impl<'r, A: Monoid, B: Monoid> Pass<'r, A, B> {
         ensures keeps { Keeps (summary_of A.parts B.parts) self.old self.new }
         ensures steps { StepsOf (Request.Put weight) k result self.old self.new }
     {
-        self.update(k, Request::Put(weight))
+        self.update(k, Request::Put(weight)).outcome
     }
 
     /// Adds an amount to the weight of a key. A key that is no member weighs nothing, and goes in with the amount.
@@ -104,7 +105,7 @@ impl<'r, A: Monoid, B: Monoid> Pass<'r, A, B> {
         ensures keeps { Keeps (summary_of A.parts B.parts) self.old self.new }
         ensures steps { StepsOf (Request.Add amount) k result self.old self.new }
     {
-        self.update(k, Request::Add(amount))
+        self.update(k, Request::Add(amount)).outcome
     }
 
     /// Takes an amount from the weight of a member. A member of whose weight nothing is left goes out.
@@ -121,7 +122,7 @@ impl<'r, A: Monoid, B: Monoid> Pass<'r, A, B> {
         ensures keeps { Keeps (summary_of A.parts B.parts) self.old self.new }
         ensures steps { StepsOf (Request.Sub amount) k result self.old self.new }
     {
-        self.update(k, Request::Sub(amount))
+        self.update(k, Request::Sub(amount)).outcome
     }
 
     /// Takes a key out if it weighs exactly this much. True if this call took it out. False if it was no member, weighed something else, or another
@@ -136,26 +137,30 @@ impl<'r, A: Monoid, B: Monoid> Pass<'r, A, B> {
         ensures keeps { Keeps (summary_of A.parts B.parts) self.old self.new }
         ensures steps { StepsOf (Request.Take weight) k (if result then Outcome.Accepted else Outcome.Refused) self.old self.new }
     {
-        matches!(self.update(k, Request::Take(weight)), Outcome::Accepted)
+        matches!(
+            self.update(k, Request::Take(weight)).outcome,
+            Outcome::Accepted
+        )
     }
 
     /// Makes an update of a key as it is asked to, as the call of its name does: `Accepted` or `Refused` where `insert`, `remove` and `take` answer true or
-    /// false.
+    /// false. It tells what the key weighed before that, and what it weighs by it.
     #[inline(always)]
-    pub fn update(&mut self, k: u32, request: Request) -> Outcome
+    pub fn update(&mut self, k: u32, request: Request) -> Told
         requires key { k < 2 ^ self.old.round.bits }
         requires budget { self.old.spent < self.old.round.updates }
-        ensures comes_to { ComesTo request k result self.old.knows self.new.knows }
+        ensures comes_to { ComesTo request k result.outcome self.old.knows self.new.knows }
+        ensures tells { Tells request k result self.old.knows self.new.knows }
         ensures goes_on { (steps : ℕ) × GoesOn 1 steps self.old self.new }
         ensures keeps { Keeps (summary_of A.parts B.parts) self.old self.new }
-        ensures steps { StepsOf request k result self.old self.new }
+        ensures steps { StepsOf request k result.outcome self.old self.new }
     {
         let _amount = amount_in(request);
         let Some(words) = self.words.take() else {
             unreachable!()
         };
         let account = self.account;
-        let (words, outcome) = update(
+        let (words, made) = update(
             words,
             account.leaves,
             account.bits,
@@ -164,8 +169,14 @@ impl<'r, A: Monoid, B: Monoid> Pass<'r, A, B> {
             request,
         );
         self.words = Some(words);
-        self.account = account.after(request, outcome);
-        outcome
+        self.account = account.after(request, made.outcome);
+        let before = weight_in(made.found);
+        let now = weight_in(made.left);
+        Told {
+            outcome: made.outcome,
+            before,
+            now,
+        }
     }
 
     /// Takes a snapshot, by one load of the root's word. It shows every change that the pass knows.

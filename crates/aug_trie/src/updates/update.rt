@@ -4,15 +4,16 @@ ghost use Rattle.aug_core.specs.Faces.{face};
 ghost use Rattle.aug_core.specs.Counts.{changes_of};
 ghost use Rattle.aug_core.specs.Effects.{KnowsTable};
 ghost use Rattle.aug_trie.specs.declared.updates.outcome.Outcome.TheVariants as outcome;
-ghost use Rattle.aug_trie.specs.inside.Climbing.{Updated, FitsRequest};
+ghost use Rattle.aug_trie.specs.inside.Climbing.{UpdatedFrom, FitsRequest};
 ghost use Rattle.aug_trie.specs.inside.Goes.{HasLeaves, HasRoom};
 ghost use Rattle.aug_trie.specs.LeafWords.{serial_in_word};
-ghost use Rattle.aug_trie.specs.Requests.{goes_from, outcome_by, outcome_at_once, word_after as word_of_request};
+ghost use Rattle.aug_trie.specs.Requests.{goes_from, outcome_by, outcome_at_once, word_after as word_of_request, word_left};
 
 use crate::updates::leaf_words::{leaf_serial, leaf_weight, leaf_word};
 use crate::updates::outcome::Outcome;
 use crate::updates::propagate::propagate;
 use crate::updates::request::Request;
+use crate::updates::told::LeafUpdate;
 use aug_monoid::Monoid;
 use aug_words::WordPass;
 
@@ -89,7 +90,7 @@ pub(crate) fn update<'r, A: Monoid, B: Monoid>(
     key: u32,
     number: u64,
     request: Request,
-) -> (WordPass<'r, A, B>, Outcome)
+) -> (WordPass<'r, A, B>, LeafUpdate)
     requires leaves { HasLeaves pass.view.shape leaves }
     requires bits { bits ≡ pass.view.shape.bits }
     requires key { key < 2 ^ pass.view.shape.bits }
@@ -99,18 +100,29 @@ pub(crate) fn update<'r, A: Monoid, B: Monoid>(
     requires small { number + bits < 2 ^ 60 }
     requires fits { FitsRequest request }
     ensures table { result.0.table ≡ pass.entry.table }
-    ensures updated { Updated (face A.parts B.parts) (number + bits) pass.entry.view key request result.0.view result.1 }
+    ensures updated { UpdatedFrom (face A.parts B.parts) (number + bits) pass.entry.view key request result.0.view result.1.found result.1.outcome }
+    ensures left { result.1.left ≡ word_left request key result.1.found result.1.outcome }
 {
     let mut pass = pass;
     let leaf = key as usize;
     let word = pass.begin_at_leaf(leaf);
     if !goes_on(request, word) {
-        return (
-            propagate(pass, leaves, bits, leaf, number),
-            at_once(request),
-        );
+        let outcome = at_once(request);
+        let made = LeafUpdate {
+            outcome,
+            found: word,
+            left: word,
+        };
+        return (propagate(pass, leaves, bits, leaf, number), made);
     }
-    let done = pass.try_leaf(leaf, word, word_after(request, key, word));
+    let next = word_after(request, key, word);
+    let done = pass.try_leaf(leaf, word, next);
     let outcome = outcome_of(request, word, done);
-    (propagate(pass, leaves, bits, leaf, number), outcome)
+    let left = if done { next } else { word };
+    let made = LeafUpdate {
+        outcome,
+        found: word,
+        left,
+    };
+    (propagate(pass, leaves, bits, leaf, number), made)
 }

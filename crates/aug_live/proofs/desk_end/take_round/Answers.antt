@@ -11,19 +11,19 @@ pub take-requires-clause-rule : goal.take-requires-clause-rule
 take-requires-clause-rule g c = learns _ _
 
 pub put-requires-clause-holds : goal.put-requires-clause-holds
-put-requires-clause-holds g c = let taken = c.in-Ok.field-0 in let id = c.take.new.pass.id in (
+put-requires-clause-holds g c = let taken = c.in-Ok.field-0 in let id = c.take.new.key.id in (
   taken,
   c.in-Ok.ensures.holds,
-  λ views on at. turns _ (client_of c.take.new.pass) taken (record { working = None; opened = c.in-Ok.field-0.opened }) views on at refl (subst (λ (o : Option TrieFacts). Moves id o None) (sym c.in-None.is) tt),
+  λ views on at. turns _ (client_of c.take.new.key) taken (record { working = None; opened = c.in-Ok.field-0.opened }) views on at refl (subst (λ (o : Option TrieFacts). Moves id o None) (sym c.in-None.is) tt),
 )
 
 pub returns-in-Some-clause-more : goal.returns-in-Some-clause-more
-returns-in-Some-clause-more g c = let before = client_of c.args.pass.now in subst (KnowsMore before) (sym c.take.ensures.view) (more_self before)
+returns-in-Some-clause-more g c = let before = client_of c.args.key.now in subst (KnowsMore before) (sym c.take.ensures.view) (more_self before)
 
 pub returns-in-Err-clause-more : goal.returns-in-Err-clause-more
-returns-in-Err-clause-more g c = let before = client_of c.args.pass.now in subst (KnowsMore before) (sym c.take.ensures.view) (more_self before)
+returns-in-Err-clause-more g c = let before = client_of c.args.key.now in subst (KnowsMore before) (sym c.take.ensures.view) (more_self before)
 
 pub returns-in-None-clause-more : goal.returns-in-None-clause-more
-returns-in-None-clause-more g c = let before = client_of c.args.pass.now in let taken = c.in-Ok.field-0 in
-    subst (KnowsMore before) (sym (put_known c.take.new.pass.me.0.taken taken (record { working = None; opened = taken.opened }) (client_of c.take.new.pass) (client_of c.put.new.pass) c.in-Ok.ensures.holds.0 c.put.ensures.then))
+returns-in-None-clause-more g c = let before = client_of c.args.key.now in let taken = c.in-Ok.field-0 in
+    subst (KnowsMore before) (sym (put_known c.take.new.key.me.0.taken taken (record { working = None; opened = taken.opened }) (client_of c.take.new.key) (client_of c.put.new.key) c.in-Ok.ensures.holds.0 c.put.ensures.then))
     (subst (λ (z : TrieFacts). KnowsMore before (record z { closed = true })) (sym c.take.ensures.view) (closed_more before))

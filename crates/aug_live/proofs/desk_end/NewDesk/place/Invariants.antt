@@ -11,9 +11,9 @@ invariant-loop-share g l =
     let rest = l.share-iterator in let all = l.initial.share-iterator in let mine = l.mine-inside in
     (vec_len l.ends + into_iter_len rest ≡ into_iter_len all)
     × (into_iter_len all ≤ vec_capacity l.ends)
-    × ((k : ℕ) (d : TableId) → k < into_iter_len rest → get_or (into_iter_items rest) k d ≡ mine.pass.table_id)
-    × (mine.pass.table_id ≡ (arc_value mine.lock).table.shared.table_id)
-    × HoldsNothing mine.pass
-    × (client_of mine.pass ≡ l.fn.working)
+    × ((k : ℕ) (d : TableId) → k < into_iter_len rest → get_or (into_iter_items rest) k d ≡ mine.key.table_id)
+    × (mine.key.table_id ≡ (arc_value mine.lock).table.shared.table_id)
+    × HoldsNothing mine.key
+    × (client_of mine.key ≡ l.fn.working)
     × All (λ (e : TrieFacts). e ≡ l.fn.working) l.ends.items
-    × (mine.pass.id ≡ 0)
+    × (mine.key.id ≡ 0)

@@ -6,11 +6,11 @@ use Rattle.aug_live.proofs.desk_end.OwnerEnd.renew.Goals as goal
 
 pub lay_on-requires-clause-goes_on : goal.lay_on-requires-clause-goes_on
 lay_on-requires-clause-goes_on g c = let took = c.take_own.ensures in let was = c.in-Ok.working in let mid = c.settle-working.result.0 in let now = c.renew-renewed.new.self in
-    owner_lays c.self.inside.pass c.take_own.new.pass was now took.view c.in-Ok.ensures.holds c.in-Ok.ensures.knows (more_on was mid now c.settle-working.ensures.more c.renew-renewed.ensures.more) took.same c.self.invariant.2
+    owner_lays c.self.inside.key c.take_own.new.key was now took.view c.in-Ok.ensures.holds c.in-Ok.ensures.knows (more_on was mid now c.settle-working.ensures.more c.renew-renewed.ensures.more) took.same c.self.invariant.2
 
 pub lay_on-requires-in-Err-settled-clause-goes_on : goal.lay_on-requires-in-Err-settled-clause-goes_on
 lay_on-requires-in-Err-settled-clause-goes_on g c = let took = c.take_own.ensures in
-    owner_lays c.self.inside.pass c.take_own.new.pass c.in-Ok.working c.settle-working.result.0 took.view c.in-Ok.ensures.holds c.in-Ok.ensures.knows c.settle-working.ensures.more took.same c.self.invariant.2
+    owner_lays c.self.inside.key c.take_own.new.key c.in-Ok.working c.settle-working.result.0 took.view c.in-Ok.ensures.holds c.in-Ok.ensures.knows c.settle-working.ensures.more took.same c.self.invariant.2
 
 pub returns-in-Ok-settled-clause-more : goal.returns-in-Ok-settled-clause-more
 returns-in-Ok-settled-clause-more g c = knows_on_from c.args.self.now _ _ (c.take_own.ensures.view ∙ c.self.view_is) c.lay_on.ensures.more

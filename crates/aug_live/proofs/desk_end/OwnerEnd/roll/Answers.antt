@@ -6,7 +6,7 @@ use Rattle.aug_live.proofs.Lanes.{more_self}
 use Rattle.aug_live.proofs.desk_end.OwnerEnd.roll.Goals as goal
 
 pub lay_on-requires-clause-goes_on : goal.lay_on-requires-clause-goes_on
-lay_on-requires-clause-goes_on g c = let took = c.take_own.ensures in owner_lays c.self.inside.pass c.take_own.new.pass c.in-Ok.working c.roll-working.result.0 took.view c.in-Ok.ensures.holds c.in-Ok.ensures.knows c.roll-working.ensures.more took.same c.self.invariant.2
+lay_on-requires-clause-goes_on g c = let took = c.take_own.ensures in owner_lays c.self.inside.key c.take_own.new.key c.in-Ok.working c.roll-working.result.0 took.view c.in-Ok.ensures.holds c.in-Ok.ensures.knows c.roll-working.ensures.more took.same c.self.invariant.2
 
 pub returns-in-Ok-clause-more : goal.returns-in-Ok-clause-more
 returns-in-Ok-clause-more g c = knows_on_from c.args.self.now _ _ (c.take_own.ensures.view ∙ c.self.view_is) c.lay_on.ensures.more

@@ -11,11 +11,11 @@ pub put-requires-clause-holds : goal.put-requires-clause-holds
 put-requires-clause-holds g c = let was = c.in-Ok.working in (
   record { working = Some was; opened = true },
   c.in-Ok.ensures.holds,
-  λ views on at. turns _ (client_of c.take_own.new.pass) (record { working = Some was; opened = true }) (record { working = None; opened = true }) views on at refl (c.take_own.ensures.same.1 ∙ c.self.invariant.2.first),
+  λ views on at. turns _ (client_of c.take_own.new.key) (record { working = Some was; opened = true }) (record { working = None; opened = true }) views on at refl (c.take_own.ensures.same.1 ∙ c.self.invariant.2.first),
 )
 
 pub lay_on-requires-clause-goes_on : goal.lay_on-requires-clause-goes_on
-lay_on-requires-clause-goes_on g c = let took = c.take_own.ensures in owner_lays c.self.inside.pass c.take_own.new.pass c.in-Ok.working c.in-Err-stop.working took.view c.in-Ok.ensures.holds c.in-Ok.ensures.knows c.in-Err-stop.ensures.more took.same c.self.invariant.2
+lay_on-requires-clause-goes_on g c = let took = c.take_own.ensures in owner_lays c.self.inside.key c.take_own.new.key c.in-Ok.working c.in-Err-stop.working took.view c.in-Ok.ensures.holds c.in-Ok.ensures.knows c.in-Err-stop.ensures.more took.same c.self.invariant.2
 
 pub returns-in-Ok-stop-clause-closes : goal.returns-in-Ok-stop-clause-closes
 returns-in-Ok-stop-clause-closes g c = let was = c.in-Ok.working in

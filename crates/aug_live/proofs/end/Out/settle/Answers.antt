@@ -4,7 +4,7 @@ use Rattle.aug_live.proofs.Tied.{roller_settles, what_is}
 use Rattle.aug_live.proofs.end.Out.settle.Goals as goal
 
 pub put-requires-clause-holds : goal.put-requires-clause-holds
-put-requires-clause-holds g c = let o = c.self.inside.pass.me.0.taken in let is = c.self.view_is in let taken : taken_by o ≡ _ = ap (λ (z : OutFacts). z.taken) is in (
+put-requires-clause-holds g c = let o = c.self.inside.key.me.0.taken in let is = c.self.view_is in let taken : taken_by o ≡ _ = ap (λ (z : OutFacts). z.taken) is in (
   taken_by o,
   (what_is o _ c.self.invariant.1, c.self.invariant.2),
   λ views ties at. roller_settles _ _ (taken_by o) c.args.lane views ties at

@@ -1,0 +1,280 @@
+//! Rows as tables of lines: who does what, one step after the other, and what each step comes to. A table is data, so that the proof of a test that
+//! plays it is short. `aug_trie_tests` plays them with passes, and `aug_live_tests` with handles.
+
+use aug_model::Summary;
+use aug_monoid::{Extent, Sum};
+use aug_trie::{Outcome, Pop, Request, Told};
+
+/// An update.
+#[derive(Clone, Copy)]
+pub enum Change {
+    Insert(u32),
+    Remove(u32),
+    Put(u32, u32),
+    Add(u32, u32),
+    Sub(u32, u32),
+    /// Takes a key out that has this weight.
+    Take(u32, u32),
+    /// Takes out the member at one end.
+    PopFirst,
+    PopLast,
+}
+
+/// What is done.
+#[derive(Clone, Copy)]
+pub enum Act {
+    /// An update at once; the same, and what its key weighs in a new snapshot or look behind it.
+    Now(Change),
+    See(Change),
+    /// An update of a key at once, and what that tells.
+    Tell(Change),
+    /// What is asked of a new snapshot, of the look that is held, or of a trie at rest.
+    Size,
+    Has(u32),
+    Weight(u32),
+    Rank(u32),
+    Select(u32),
+    Before(u32),
+    After(u32),
+    Range(u32, u32),
+    Keys,
+    Pairs,
+
+    /// How many passes the crew handed out. It hands the pass of this lane out, and takes it back.
+    Handed,
+    Open,
+    Back,
+    /// The pass, also amid an update by turns, or the handle, is given up.
+    GiveUp,
+    /// The number of the lane, and what its pass counts: insertions, removals, and updates that are left. Of a trie at rest, insertions, removals, and
+    /// passes that did not come back.
+    Lane,
+    Counts,
+    /// An update by turns: all of them; its beginning, and so many turns. How many may be left; so many; the last one behind so many; all that are left.
+    ByTurns(Change),
+    Start(Change, u32),
+    TurnsLeft,
+    Turns(u32),
+    Last(u32),
+    Finish,
+    /// Its pass goes by way of a half.
+    Halve,
+    /// The rank of a key by a view of the pass, which is given up then.
+    RankByView(u32),
+    /// A clone of the top of the tree, and the children of that clone.
+    Top,
+    Left,
+    Right,
+    /// What a snapshot and its clone show before and after a put of 1 with this weight, or an insertion of 2 and a removal of 1.
+    KeptOver(Option<u32>),
+    /// What a cursor passes over a new snapshot: on from the first key, on once more after the pass took the second key out, and back.
+    PassesOver(u32, u32),
+    /// How many of the keys of 2 bits are members, if the sums of all are those of each key.
+    AddsUp,
+    /// The bits of a trie at rest, and how many keys these have.
+    Bits,
+    Universe,
+
+    /// Puts keys in, from the first number on as many as the second. How many of them went in.
+    Fill(u32, u32),
+    /// The handle makes a note, which is dropped.
+    Note,
+    /// The handle takes a look, the look takes a newer snapshot, and it is over.
+    Look,
+    Again,
+    Over,
+    /// Queries of a caller's own.
+    Band(u32, u32),
+    SelectByWeight(u64),
+    /// A handle of the lane with this number comes in the place of the handle.
+    Renew(u32),
+    /// The round rolls over, or the trie is closed.
+    Roll,
+    Close,
+}
+
+/// What an act comes to.
+#[derive(Clone, Copy, PartialEq, Eq, Debug)]
+pub enum Reply {
+    /// It was done, or could not be done.
+    Done,
+    Not,
+    Is(bool),
+    /// What an update comes to, and what its key weighs behind it.
+    Came(Outcome),
+    Seen(Outcome, Option<u32>),
+    /// What an update comes to, and what its key weighed before and weighs by it, as it tells itself.
+    Tells(Outcome, Option<u32>, Option<u32>),
+    Popped(Pop),
+    Number(u32),
+    Finds(Option<u32>),
+    /// How many members a range has, their weights together, and the least and the greatest.
+    Folded(u32, u64, Option<(u32, u32)>),
+    /// A list of at most two keys, and one of at most three pairs. Of more pairs, how many there are, the first and the last.
+    Two(Option<u32>, Option<u32>),
+    Listed(Option<(u32, u32)>, Option<(u32, u32)>, Option<(u32, u32)>),
+    Many(usize, Option<(u32, u32)>, Option<(u32, u32)>),
+
+    Counted(u32, u32, u32),
+    /// How many turns were left to an update as it began, what it came to, and how many turns that took.
+    Ended(u32, Outcome, u32),
+    /// The level and the place of a node, and the same of what it covers.
+    Stands(u32, u32, u32, u64, Option<(u32, u32)>),
+    /// How many members there are, what 1 and 2 weigh, and the weights of the keys of 2 bits together.
+    Kept(u32, Option<u32>, Option<u32>, u64),
+
+    /// It would have to wait for a lock, or the round that the lane came into was spent at once.
+    Later,
+    Anew,
+    /// It was refused: the trie was closed, the lane has a newer handle, or there is no such lane.
+    IsClosed,
+    IsReplaced,
+    NoLane,
+    /// It was refused for another cause.
+    Fails,
+    /// The members of a trie at its end, its rounds, and how many keys were put in and taken out.
+    Closed(u32, u64, u64, u64),
+}
+
+/// The call by which a round begins. That of the list begins over the set of a trie that is given back.
+#[derive(Clone, Copy)]
+pub enum Way {
+    Begin,
+    Wider,
+    OverList,
+}
+
+/// The bits of a round's keys, and its numbers of workers and of updates.
+pub type Numbers = (u32, u32, u32);
+
+/// A line of a table.
+#[derive(Clone, Copy)]
+pub enum Line {
+    /// A row begins, which shows this, over the empty set or over what the row before it left.
+    Row(&'static str),
+    And(&'static str),
+    /// A round begins, and so many lanes are opened. At its end all passes come back.
+    Round(Way, Numbers, u32),
+    /// A live trie opens: the bits of its keys, its handles, its spare lanes, and the updates of a lane.
+    Live(u32, u32, u32, u32),
+    /// What a lane does, or a handle, from the last one of a live trie on.
+    A(Act, Reply),
+    B(Act, Reply),
+    C(Act, Reply),
+    /// The same by calls that wait for nobody.
+    TryA(Act, Reply),
+    TryB(Act, Reply),
+    /// What the trie at rest answers. How many members it has, and its counts.
+    Rest(Act, Reply),
+    End(u32, (u32, u32, u32)),
+}
+
+/// What an update comes to that was made or refused.
+pub fn made(done: bool) -> Outcome {
+    if done {
+        Outcome::Accepted
+    } else {
+        Outcome::Refused
+    }
+}
+
+/// The key of an update that names one, and what is done to it.
+pub fn request_of(change: Change) -> Option<(u32, Request)> {
+    match change {
+        Change::Insert(k) => Some((k, Request::Insert)),
+        Change::Remove(k) => Some((k, Request::Remove)),
+        Change::Put(k, weight) => Some((k, Request::Put(weight))),
+        Change::Add(k, amount) => Some((k, Request::Add(amount))),
+        Change::Sub(k, amount) => Some((k, Request::Sub(amount))),
+        Change::Take(k, weight) => Some((k, Request::Take(weight))),
+        Change::PopFirst | Change::PopLast => None,
+    }
+}
+
+/// The key of an update that names one.
+pub fn key_of(change: Change) -> Option<u32> {
+    request_of(change).map(|asked| asked.0)
+}
+
+/// What an update tells.
+pub fn tells(told: Told) -> Reply {
+    Reply::Tells(told.outcome, told.before, told.now)
+}
+
+/// What is told of members.
+pub fn folded(summary: Summary<Sum, Extent>) -> Reply {
+    Reply::Folded(summary.count, summary.a.value(), summary.b.bounds())
+}
+
+/// What is told of a list of keys.
+pub fn told_keys(list: &[u32]) -> Reply {
+    if list.len() > 2 {
+        return Reply::Not;
+    }
+    Reply::Two(list.first().copied(), list.get(1).copied())
+}
+
+/// What is told of a list of pairs.
+pub fn told_pairs(list: &[(u32, u32)]) -> Reply {
+    let (count, first) = (list.len(), list.first().copied());
+    if count > 3 {
+        return Reply::Many(count, first, list.last().copied());
+    }
+    Reply::Listed(first, list.get(1).copied(), list.get(2).copied())
+}
+
+/// What an act comes to that asks one query, by an expression that asks it.
+#[macro_export]
+macro_rules! asked {
+    ($act:expr, $alloc:expr, $query:ident => $answer:expr) => {
+        match $act {
+            Act::Size => {
+                let $query = Size;
+                Reply::Number($answer)
+            }
+            Act::Has(k) => {
+                let $query = Has(k);
+                Reply::Is($answer)
+            }
+            Act::Weight(k) => {
+                let $query = Weight(k);
+                Reply::Finds($answer)
+            }
+            Act::Rank(k) => {
+                let $query = Rank(k);
+                Reply::Number($answer)
+            }
+            Act::Select(i) => {
+                let $query = Select(i);
+                Reply::Finds($answer)
+            }
+            Act::Before(k) => {
+                let $query = Before(k);
+                Reply::Finds($answer)
+            }
+            Act::After(k) => {
+                let $query = After(k);
+                Reply::Finds($answer)
+            }
+            Act::Range(from, to) => {
+                let $query = Range(from, to);
+                folded($answer)
+            }
+            Act::Keys => {
+                let $query = Keys($alloc);
+                match $answer {
+                    Ok(list) => told_keys(&list),
+                    Err(_) => Reply::Not,
+                }
+            }
+            Act::Pairs => {
+                let $query = Pairs($alloc);
+                match $answer {
+                    Ok(list) => told_pairs(&list),
+                    Err(_) => Reply::Not,
+                }
+            }
+            _ => Reply::Not,
+        }
+    };
+}

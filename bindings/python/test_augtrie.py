@@ -369,6 +369,17 @@ def differences(before, now):
     return [(key, before.get(key), now.get(key)) for key in keys if before.get(key) != now.get(key)]
 
 
+def update_both(trie, model, rng, keys, updates):
+    """Makes drawn updates of a trie and of a dict: half of them puts, and half removals."""
+    for _ in range(updates):
+        key, weight = rng.randrange(keys), rng.randrange(3)
+        if rng.random() < 0.5:
+            trie.put(key, weight)
+            model[key] = weight
+        else:
+            assert trie.discard(key) is (model.pop(key, None) is not None)
+
+
 @test
 def a_renewal_tells_what_it_changed():
     rng = random.Random(4)
@@ -376,20 +387,11 @@ def a_renewal_tells_what_it_changed():
         trie.update(range(0, 1024, 3))
         model = {key: key for key in range(0, 1024, 3)}
 
-        def work(updates):
-            for _ in range(updates):
-                key, weight = rng.randrange(1024), rng.randrange(3)
-                if rng.random() < 0.5:
-                    trie.put(key, weight)
-                    model[key] = weight
-                else:
-                    assert trie.discard(key) is (model.pop(key, None) is not None)
-
         with trie.snapshot() as now:
             assert list(now.changes()) == []
             for updates in (1, 0, 5, 40, 200, 1000, 3):
                 before, told = dict(model), list(now.changes())
-                assert elsewhere(lambda: work(updates)) is None and list(now.changes()) == told
+                assert elsewhere(lambda: update_both(trie, model, rng, 1024, updates)) is None and list(now.changes()) == told
                 now.renew()
                 assert list(now.changes()) == differences(before, model) == elsewhere(lambda: list(now.changes()))
             # As many as a page has, or some more or less; and none, if all are as they were.
@@ -414,13 +416,7 @@ def what_changed_since_a_list_is_told_over_roll_overs():
         for updates in (0, 1, 40, 3000, 0, 200, 3000):
             with trie.snapshot() as now:
                 kept, before = list(now.items()), dict(model)
-            for _ in range(updates):
-                key, weight = rng.randrange(128), rng.randrange(3)
-                if rng.random() < 0.5:
-                    trie.put(key, weight)
-                    model[key] = weight
-                else:
-                    assert trie.discard(key) is (model.pop(key, None) is not None)
+            update_both(trie, model, rng, 128, updates)
             with trie.snapshot() as now:
                 assert list(now.changes_since(kept)) == differences(before, model) == list(now.changes_since(iter(kept)))
                 assert list(now.changes_since([])) == differences({}, model) and list(now.changes_since(now.items())) == []

@@ -1,41 +1,55 @@
--- From what a call did to what a handle denotes to what it says of the handle.
-use Rattle.std.proofs.Common.{◌≡◌, ◌∙◌, ℕ, Option, Some, None, refl, ap, sym, subst}
-use Rattle.std.specs.Prelude.{ℤ}
+-- From what a call did to what a handle stands for to what it says of the handle.
+use Rattle.std.proofs.Common.{◌≡◌, ◌∙◌, ap, sym, subst, true≢false}
+use Rattle.std.specs.Prelude.{ℤ, ⊤, Option, Some, None, IsSome, IsNone}
 use Rattle.aug_model.specs.Keys.{SetFacts}
-use Rattle.aug_live.specs.LiveHandles.{LookFacts, IsAsked, set_of_look}
-use Rattle.aug_c.specs.Handles.{On}
-use Rattle.aug_c.specs.UserCalls.{Asks, span_of}
-use Rattle.aug_c.specs.declared.seat.Seat.{Seat}
-use Rattle.aug_c.specs.declared.seat.Seat.TheVariants.{Free, Looking}
-use Rattle.aug_c.specs.inside.Answered.{AnsweredBy}
+use Rattle.aug_live.specs.LiveHandles.{HandleFacts, LookFacts, set_of_look}
+use Rattle.aug_c.specs.Handles.{state_of, AsksUser, HandleCall, OnFree, OnLooking, StaysFree, StaysLooking, UpdatesUser}
+use Rattle.aug_c.specs.UserCalls.{Asks, AsksLook}
+use Rattle.aug_c.specs.declared.raw_handle.RawHandle.{RawHandle}
+use Rattle.aug_c.specs.declared.state.HandleState.{HandleState}
+use Rattle.aug_c.specs.declared.state.HandleState.TheVariants.{Closed, Trie, Free, Looking}
+use Rattle.aug_c.specs.inside.Answered.{AnswersLook}
 
-module _ {X : Type 0} (does : X → X → ℤ → Type 0) (old new : Option X) (code : ℤ) where
-  pub on_some : (before after : X) (said : ℤ) → old ≡ Some before → new ≡ Some after → code ≡ said → does before after said → On does old new code
-  on_some before after said was is says done = subst (λ (o : Option X). On does o new code) (sym was) (after, is, subst (does before after) (sym says) done)
+not_none : {X : Type 0} (o : Option X) → IsSome o → ¬ IsNone o
+not_none None some none = true≢false (sym some)
+not_none (Some x) some none = true≢false none
 
--- what does more does this too
-pub on_weaker : {X : Type 0} {does also : X → X → ℤ → Type 0} → ((before after : X) (said : ℤ) → does before after said → also before after said) → (old new : Option X) (code said : ℤ) → code ≡ said → On does old new said → On also old new code
-on_weaker weaker None new code said says on = (on.0, says ∙ on.1)
-on_weaker {X} {does} {also} weaker (Some old) new code said says on = (on.0, on.1, subst (also old on.0) (sym says) (weaker old on.0 said on.2))
+-- the look that a user holds was asked
+pub looking_call : (Does : LookFacts → LookFacts → ℤ → Type 0) (Same : Type 0) (old new : RawHandle) (held look after : LookFacts) (code said : ℤ) → IsSome old.held.value → state_of old ≡ Looking held → look ≡ held
+    → state_of new ≡ Looking after → new.tag ≡ old.tag → code ≡ said → Does look after said → AsksUser Does Same old new code
+looking_call Does Same old new held look after code said some was same is tag says done = record {
+  does = subst (λ (s : HandleState). OnLooking (StaysLooking Does) Same s (state_of new) code) (sym (was ∙ ap (λ (l : LookFacts). Looking l) (sym same))) (after, is, subst (Does look after) (sym says) done);
+  tag = tag;
+  foreign = λ none. absurd (not_none old.held.value some none);
+}
 
--- the look that a user holds is asked
-module _ (user : Option Seat) (held look new : LookFacts) (most : ℕ) (code : ℤ) (is : user ≡ Some (Looking held)) (same : look ≡ held) (asked : IsAsked span_of most look new) where
-  holds : user ≡ Some (Looking look)
-  holds = is ∙ ap (λ (l : LookFacts). Some (Looking l)) (sym same)
+module _ {Does Also : HandleState → HandleState → ℤ → Type 0} (also : (s t : HandleState) (code : ℤ) → Does s t code → Also s t code) where
+  -- what does more does this too
+  call_also : (old new : RawHandle) (code said : ℤ) → code ≡ said → HandleCall Does old new said → HandleCall Also old new code
+  call_also old new code said says call = record {
+    does = subst (Also (state_of old) (state_of new)) (sym says) (also (state_of old) (state_of new) said call.does);
+    tag = call.tag;
+    foreign = call.foreign;
+  }
 
-  pub asked_by : (told : SetFacts → ℤ) → code ≡ told (set_of_look look) → On (Asks told) user (Some (Looking new)) code
-  asked_by told says = subst (λ (u : Option Seat). On (Asks told) u (Some (Looking new)) code) (sym holds) (Looking new, refl, (new, refl, record { says = says; most = most; asked = asked }))
+module _ (Does Also : HandleFacts → HandleFacts → ℤ → Type 0) (Same : Type 0) (also : (old new : HandleFacts) (code : ℤ) → Does old new code → Also old new code) where
+  free_also : (s t : HandleState) (code : ℤ) → OnFree (StaysFree Does) Same s t code → OnFree (StaysFree Also) ⊤ s t code
+  free_also (Free old) t code d = (d.0, d.1, also old d.0 code d.2)
+  free_also (Looking look) t code d = (d.0, d.1, tt)
+  free_also (Trie trie) t code d = (d.0, d.1, tt)
+  free_also Closed t code d = (d.0, d.1, tt)
 
-  pub answered_by : {X : Type 0} (is_answer : SetFacts → X → Type 0) (number_of : X → ℤ) (answer : X) → is_answer (set_of_look look) answer → code ≡ number_of answer → On (AnsweredBy is_answer number_of) user (Some (Looking new)) code
-  answered_by is_answer number_of answer right says = subst (λ (u : Option Seat). On (AnsweredBy is_answer number_of) u (Some (Looking new)) code) (sym holds)
-      (Looking new, refl, (new, refl, record { answer = answer; is = right; says = says; most = most; asked = asked }))
+  -- an update that does more does this too
+  pub updates_also : (old new : RawHandle) (code said : ℤ) → code ≡ said → UpdatesUser Does Same old new said → UpdatesUser Also ⊤ old new code
+  updates_also old new code said says call = call_also free_also old new code said says call
 
 module _ {X : Type 0} (is_answer : SetFacts → X → Type 0) (number_of : X → ℤ) (told : SetFacts → ℤ) (tells : (set : SetFacts) (x : X) → is_answer set x → number_of x ≡ told set) where
-  -- a query that has an answer as a number asks for that number
-  asks : (old new : Seat) (code : ℤ) → AnsweredBy is_answer number_of old new code → Asks told old new code
-  asks (Free access) new code t = t
-  asks (Looking old) new code t = (t.0, t.1, record { says = t.2.says ∙ tells (set_of_look old) t.2.answer t.2.is; most = t.2.most; asked = t.2.asked })
+  looking_also : (s t : HandleState) (code : ℤ) → OnLooking (StaysLooking (AnswersLook is_answer number_of)) ⊤ s t code → OnLooking (StaysLooking (AsksLook told)) ⊤ s t code
+  looking_also (Looking old) t code d = (d.0, d.1, record { says = d.2.says ∙ tells (set_of_look old) d.2.answer d.2.is; most = d.2.most; asked = d.2.asked })
+  looking_also (Free access) t code d = d
+  looking_also (Trie trie) t code d = d
+  looking_also Closed t code d = d
 
-  pub told_by : (old new : Option Seat) (code said : ℤ) → code ≡ said → On (AnsweredBy is_answer number_of) old new said → On (Asks told) old new code
-  told_by None new code said says on = (on.0, says ∙ on.1)
-  told_by (Some old) new code said says on = (on.0, on.1, asks old on.0 code (subst (AnsweredBy is_answer number_of old on.0) (sym says) on.2))
+  -- a query that has an answer as a number asks for that number
+  pub told_by : (old new : RawHandle) (code said : ℤ) → code ≡ said → AsksUser (AnswersLook is_answer number_of) ⊤ old new said → Asks told old new code
+  told_by = call_also looking_also

@@ -1,5 +1,4 @@
-pub mod UserHelds
-pub mod TrieHelds
+pub mod HeldBoxes
 pub mod Values
 pub mod Apart
 pub mod Calls

@@ -9,13 +9,11 @@ use Rattle.std.proofs.lemmas.Bool.Decides.{nat_tests}
 use Rattle.std.proofs.lemmas.List.{append-nil, take_all, take_min, take-append-le, take-append-drop, take-map, drop-map, drop_all, drop_at, drop-drop, drop-take, length-append, length-take, length-take-le, length-drop, length-map, length-reverse, reverse-append, map-append, take_more, get_or-take, get_or-drop, get_or-reverse}
 use Rattle.std.proofs.lemmas.Slice.{drop-append-drop}
 use Rattle.aug_model.specs.Keys.{SetFacts, keys_of, list_of}
-use Rattle.aug_model.specs.Queries.{rank_of}
 use Rattle.aug_model.specs.inside.Boundary.{IsBoundary}
 use Rattle.aug_model.proofs.Boundaries.{range-at_boundaries, member-IsBoundary}
 use Rattle.aug_model.proofs.Pairs.{key_at, length-keys_of}
-use Rattle.aug_model.proofs.Ranges.{Rises, AllAbove, rises_from}
-use Rattle.aug_model.proofs.Rising.{rises}
 use Rattle.aug_query.specs.Yields.{members_from, members_below}
+use Rattle.aug_query.proofs.Boundaries.{before_middle, from_middle, member_moves}
 use Rattle.aug_query.proofs.Pages.{take_both}
 use Rattle.aug_trie.specs.Snapshot.{snapshot_cut}
 use Rattle.aug_trie.proofs.Rising.{members_rise}
@@ -24,73 +22,36 @@ use Rattle.aug_c.specs.ArrayCalls.{ListsBoth, ListsKeys, ListsMembers, weights_o
 use Rattle.aug_c.specs.UserCalls.{span_of}
 use Rattle.aug_c.proofs.Reading.{asked_none, asked_on, written_more}
 
--- past a key no member is below it
-none_below : (k x : ℕ) (xs : List ℕ) → k ≤ x → AllAbove x xs → rank_of xs k ≡ 0
-none_below k x [] le above = refl
-none_below k x (y ∷ ys) le above =
-    let high : x < y = above.0 in
-    let first : filter (λ z. nat_lt z k) (y ∷ ys) ≡ filter (λ z. nat_lt z k) ys = grind (arith, nat_tests) in
-    ap length first ∙ none_below k x ys le above.1
-
--- the place of a key among members that rise
-first_above : (x k place : ℕ) (xs : List ℕ) → x < k → IsBoundary xs k place → IsBoundary (x ∷ xs) k (suc place)
-first_above x k place xs low is = record { within = let w = is.within in omega (arith, w); front = front; back = back }
-  where
-    front : (i : ℕ) → i < suc place → slice_index (x ∷ xs) i < k
-    front zero h = low
-    front (suc i) h = is.front i (omega (arith, h))
-
-    back : (i : ℕ) → suc place ≤ i → i < length (x ∷ xs) → k ≤ slice_index (x ∷ xs) i
-    back zero h l = absurd (omega (arith, h))
-    back (suc i) h l = is.back i (omega (arith, h)) (omega (arith, l))
-
-above_each : (x : ℕ) (xs : List ℕ) → AllAbove x xs → (i : ℕ) → i < length xs → x < slice_index xs i
-above_each x [] above i h = absurd (omega (arith, h))
-above_each x (y ∷ ys) above zero h = above.0
-above_each x (y ∷ ys) above (suc i) h = above_each x ys above.1 i (omega (arith, h))
-
-all_high : (k x : ℕ) (xs : List ℕ) → k ≤ x → AllAbove x xs → (i : ℕ) → i < length (x ∷ xs) → k ≤ slice_index (x ∷ xs) i
-all_high k x xs le above zero h = le
-all_high k x xs le above (suc i) h = omega (arith, le, above_each x xs above i (omega (arith, h)))
-
-boundary_of : (k : ℕ) (xs : List ℕ) → Rises xs → IsBoundary xs k (rank_of xs k)
-boundary_of k [] up = record { within = omega arith; front = λ i h. absurd (omega (arith, h)); back = λ i h l. absurd (omega (arith, l)) }
-boundary_of k (x ∷ xs) up =
-    elim (cases_lt x k) [
-      | inl low ↦
-          let counts : filter (λ z. nat_lt z k) (x ∷ xs) ≡ x ∷ filter (λ z. nat_lt z k) xs = grind (arith, nat_tests) in
-          subst (IsBoundary (x ∷ xs) k) (sym (ap length counts)) (first_above x k (rank_of xs k) xs low (boundary_of k xs up.1))
-      | inr high ↦
-          let counts : filter (λ z. nat_lt z k) (x ∷ xs) ≡ filter (λ z. nat_lt z k) xs = grind (arith, nat_tests) in
-          let none : rank_of (x ∷ xs) k ≡ 0 = ap length counts ∙ none_below k x xs high up.0 in
-          subst (IsBoundary (x ∷ xs) k) (sym none) (record { within = omega arith; front = λ i h. absurd (omega (arith, h)); back = λ i h l. all_high k x xs high up.0 i l })
+-- the place of a key among members that rise, where those before this one are below it
+place_from : (k : ℕ) (keys : List ℕ) → IsStrictlyIncreasing keys → (left place : ℕ) → place + left ≡ length keys → ((i : ℕ) → i < place → slice_index keys i < k) → (at : ℕ) × IsBoundary keys k at
+place_from k keys up zero place all front = (place, record { within = omega (arith, all); front = front; back = λ i from l. absurd (omega (arith, all, from, l)) })
+place_from k keys up (suc left) place all front =
+    elim (cases_lt (slice_index keys place) k) [
+      | inl low ↦ place_from k keys up left (suc place) (omega (arith, all)) (λ i less. before_middle keys k place up (omega (arith, all)) low i (omega (arith, less)))
+      | inr high ↦ (place, record { within = omega (arith, all); front = front; back = from_middle keys k place up (omega (arith, all)) high })
     ]
 
--- behind a member stands the next one
-behind_member : (xs : List ℕ) (k i : ℕ) → IsStrictlyIncreasing xs → i < length xs → slice_index xs i ≡ k → IsBoundary xs (k + 1) (i + 1)
-behind_member xs k i up within at = record {
-  within = omega (arith, within);
-  front = λ j h. elim (cases_lt j i) [ inl less ↦ omega (arith, rises xs up j i less within, at) | inr most ↦ let same : j ≡ i = omega (arith, most, h) in omega (arith, ap (slice_index xs) same, at) ];
-  back = λ j h l. omega (arith, rises xs up i j (omega (arith, h)) l, at);
-}
+boundary_of : (k : ℕ) (keys : List ℕ) → IsStrictlyIncreasing keys → (at : ℕ) × IsBoundary keys k at
+boundary_of k keys up = place_from k keys up (length keys) 0 (omega arith) (λ i h. absurd (omega (arith, h)))
 
 -- the members behind one of those from a key on are the rest of these
 pub from_behind : (set : SetFacts) (at k n : ℕ) → IsStrictlyIncreasing (list_of set) → n < length (members_from set at) → (get_or (members_from set at) n (0, 0)).0 ≡ k → members_from set (k + 1) ≡ drop (n + 1) (members_from set at)
 from_behind set at k n up within is =
     let keys = list_of set in
-    let a = rank_of keys at in
-    let end = rank_of keys (2 ^ set.bits) in
-    let first = boundary_of at keys (rises_from keys up) in
-    let last = boundary_of (2 ^ set.bits) keys (rises_from keys up) in
-    let whole : members_from set at ≡ take (end - a) (drop a set.pairs) = range-at_boundaries set.pairs at (2 ^ set.bits) a end first last in
+    let first = boundary_of at keys up in
+    let last = boundary_of (2 ^ set.bits) keys up in
+    let a = first.0 in
+    let end = last.0 in
+    let whole : members_from set at ≡ take (end - a) (drop a set.pairs) = range-at_boundaries set.pairs at (2 ^ set.bits) a end first.1 last.1 in
     let long = ap length whole ∙ length-take (end - a) (drop a set.pairs) in
     let few = length-drop a set.pairs in
     let stands : (get_or set.pairs (a + n) (0, 0)).0 ≡ k =
     ap (λ (p : ℕ × ℕ). p.0) (sym (get_or-drop a set.pairs n (0, 0)) ∙ sym (get_or-take (end - a) (drop a set.pairs) n (0, 0) (omega (arith, within, long))) ∙ ap (λ (ps : List (ℕ × ℕ)). get_or ps n (0, 0)) (sym whole)) ∙ is in
     let inside : a + n < length set.pairs = omega (arith, within, long, few) in
     let here : slice_index keys (a + n) ≡ k = key_at set.pairs (a + n) (0, 0) inside ∙ stands in
-    let next = behind_member keys k (a + n) up (omega (arith, inside, length-keys_of set.pairs)) here in
-    let rest : members_from set (k + 1) ≡ take (end - (a + n + 1)) (drop (a + n + 1) set.pairs) = range-at_boundaries set.pairs (k + 1) (2 ^ set.bits) (a + n + 1) end next last in
+    let stand = subst (λ (z : ℕ). IsBoundary keys z (a + n)) here (member-IsBoundary keys up (a + n) (omega (arith, inside, length-keys_of set.pairs))) in
+    let next = member_moves set.pairs k (a + n) up stand inside stands in
+    let rest : members_from set (k + 1) ≡ take (end - (a + n + 1)) (drop (a + n + 1) set.pairs) = range-at_boundaries set.pairs (k + 1) (2 ^ set.bits) (a + n + 1) end next last.1 in
     let split : end - a ≡ n + 1 + (end - (a + n + 1)) = omega (arith, within, long) in
     let place : a + (n + 1) ≡ a + n + 1 = omega arith in
     rest ∙ ap (λ (m : ℕ). take (end - (a + n + 1)) (drop m set.pairs)) (sym place) ∙ ap (take (end - (a + n + 1))) (sym (drop-drop (n + 1) a set.pairs))
@@ -117,10 +78,10 @@ drop-reverse n m xs all =
 pub below_behind : (set : SetFacts) (at k n : ℕ) → IsStrictlyIncreasing (list_of set) → n < length (members_below set at) → (get_or (reverse (members_below set at)) n (0, 0)).0 ≡ k → reverse (members_below set k) ≡ drop (n + 1) (reverse (members_below set at))
 below_behind set at k n up within is =
     let keys = list_of set in
-    let end = rank_of keys at in
-    let last = boundary_of at keys (rises_from keys up) in
+    let last = boundary_of at keys up in
+    let end = last.0 in
     let start : IsBoundary keys 0 0 = record { within = omega arith; front = λ i h. absurd (omega (arith, h)); back = λ i h l. omega arith } in
-    let whole : members_below set at ≡ take end set.pairs = range-at_boundaries set.pairs 0 at 0 end start last ∙ ap (λ (m : ℕ). take m set.pairs) (minus_none end) in
+    let whole : members_below set at ≡ take end set.pairs = range-at_boundaries set.pairs 0 at 0 end start last.1 ∙ ap (λ (m : ℕ). take m set.pairs) (minus_none end) in
     let long = ap length whole ∙ length-take end set.pairs in
     let m = length (members_below set at) - 1 - n in
     let stands : (get_or set.pairs m (0, 0)).0 ≡ k =

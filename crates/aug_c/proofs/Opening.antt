@@ -1,6 +1,6 @@
 -- What opening a trie says if it is opened, and closing one if it goes on.
-use Rattle.std.proofs.Common.{◌≡◌, inl, inr, ℕ, Option, Some, All, subst, pos, refl, arith}
-use Rattle.std.specs.Prelude.{vec_len}
+use Rattle.std.proofs.Common.{◌≡◌, inl, inr, ℕ, All, sym, subst, pos, refl, arith}
+use Rattle.std.specs.Prelude.{ℤ, vec_len}
 use Rattle.aug_core.specs.Layout.{IsOutside, IsWithin}
 use Rattle.aug_model.specs.Keys.{SetFacts}
 use Rattle.aug_live.specs.LiveHandles.{IsNew}
@@ -8,9 +8,14 @@ use Rattle.aug_live.specs.LiveTries.{IsOpenedTrie, KnowsMore}
 use Rattle.aug_live.specs.Plans.{Fits, IsGreatest, least_plan}
 use Rattle.aug_live.specs.declared.plan.Plan.{Plan}
 use Rattle.aug_c.specs.Codes as codes
-use Rattle.aug_c.specs.TrieCalls.{ClosesTrie, IsOpenedFor, OpensTrie, empty_of}
-use Rattle.aug_c.specs.declared.report.Report.{Report}
-use Rattle.aug_c.specs.declared.seat.Opened.{Opened}
+use Rattle.aug_c.specs.Handles.{state_of}
+use Rattle.aug_c.specs.Marks.{trie_mark}
+use Rattle.aug_c.specs.TrieCalls.{ClosesTrie, IsOpenedFor, OnTrie, OpensTrie, empty_of}
+use Rattle.aug_c.specs.declared.trie_calls.ClosingReport.{ClosingReport}
+use Rattle.aug_c.specs.declared.state.Opened.{Opened}
+use Rattle.aug_c.specs.declared.state.HandleState.{HandleState}
+use Rattle.aug_c.specs.declared.state.HandleState.TheVariants.{Trie}
+use Rattle.aug_c.specs.declared.raw_handle.RawHandle.{RawHandle}
 use Rattle.aug_c.proofs.Apart.{apart}
 
 not_both : (first last n : ℕ) → IsWithin first last n → IsOutside first last n → ⊥
@@ -29,9 +34,9 @@ module _ (bits users bytes : ℕ) (trie : Opened) where
     new = subst (λ (s : SetFacts). All (IsNew trie.live s new.0) trie.spare.items) empty new.2;
   }
 
-  pub opens : (new : Option Opened) → IsWithin 1 16 bits → IsWithin 1 64 users → Fits bits bytes (least_plan users) → new ≡ Some trie → IsOpenedFor bits users bytes trie → OpensTrie bits users bytes new (pos 0)
-  opens new within few fits is opened = record {
-    opened = λ _. (trie, is, opened);
+  pub opens : (old new : RawHandle) → IsWithin 1 16 bits → IsWithin 1 64 users → Fits bits bytes (least_plan users) → state_of new ≡ Trie trie → new.tag ≡ trie_mark → IsOpenedFor bits users bytes trie → OpensTrie bits users bytes old new (pos 0)
+  opens old new within few fits is mark opened = record {
+    opened = λ _. (trie, is, mark, opened);
     refused = λ n. absurd (n refl);
     bad_bits = (apart (pos 0) codes.bad_bits refl, (λ out. absurd (not_both 1 16 bits within out)));
     bad_users = (apart (pos 0) codes.bad_users refl, (λ w. absurd (not_both 1 64 users few w.1)));
@@ -40,9 +45,13 @@ module _ (bits users bytes : ℕ) (trie : Opened) where
   }
 
 -- a trie that was not closed
-pub goes_on : (old trie : Opened) (new : Option Opened) (report : Report) → new ≡ Some trie → KnowsMore old.live trie.live → trie.spare ≡ old.spare → ClosesTrie old new report report codes.again
-goes_on old trie new report is more same = record {
+pub goes_on : (old trie : Opened) (was : HandleState) (new : RawHandle) (report : ClosingReport) → was ≡ Trie old → state_of new ≡ Trie trie → new.tag ≡ trie_mark → KnowsMore old.live trie.live → trie.spare ≡ old.spare → ClosesTrie was new report report codes.again
+goes_on old trie was new report from is mark more same = subst (λ (s : HandleState). ClosesTrie s new report report codes.again) (sym from) (record {
   closed = apart codes.again (pos 0) refl;
-  goes_on = λ _. (trie, is, more, same, refl);
+  goes_on = λ _. (trie, is, mark, more, same, refl);
   others = inr refl;
-}
+})
+
+-- a call on a trie
+pub on_trie : (Does : Opened → Opened → ℤ → Type 0) (Same : Type 0) (s t : HandleState) (old new : Opened) (code said : ℤ) → s ≡ Trie old → t ≡ Trie new → code ≡ said → Does old new said → OnTrie Does Same s t code
+on_trie Does Same s t old new code said was is says done = subst (λ (z : HandleState). OnTrie Does Same z t code) (sym was) (new, is, subst (Does old new) (sym says) done)

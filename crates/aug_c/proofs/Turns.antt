@@ -5,8 +5,8 @@ use Rattle.std.proofs.lemmas.List.{append-nil, drop-drop, get_or-take, length-ap
 use Rattle.std.proofs.lemmas.Grind.{flat_map-append}
 use Rattle.aug_trie.specs.Pass.{PassFacts}
 use Rattle.aug_trie.specs.UpdateBatches.{DoesBatch, DoesPart, no_part}
-use Rattle.aug_trie.specs.declared.updates.outcome.Outcome.{Outcome}
-use Rattle.aug_trie.specs.declared.updates.outcome.Outcome.TheVariants.{Refused}
+use Rattle.aug_model.specs.declared.outcome.Outcome.{Outcome}
+use Rattle.aug_model.specs.declared.outcome.Outcome.TheVariants.{Refused}
 use Rattle.aug_trie.specs.declared.updates.request.Request.{Request}
 use Rattle.aug_trie.specs.declared.updates.request.Request.TheVariants.{Insert}
 use Rattle.aug_live.specs.LiveErrors.{IfRefused, RefusesCall}
@@ -17,7 +17,7 @@ use Rattle.aug_live.specs.declared.error.TryError.TheVariants as tried
 use Rattle.aug_c.specs.Codes as codes
 use Rattle.aug_c.specs.ArrayCalls.{AsksFrom, HasLengths, InTurn, MakesEach, MakesSome, UpdatesAllFree, change_by, changes}
 use Rattle.aug_c.specs.UserCalls.{ShowsClosed, refusal_code}
-use Rattle.aug_c.specs.declared.progress.Progress.{Progress}
+use Rattle.aug_c.specs.declared.array_updates.ArrayProgress.{ArrayProgress}
 use Rattle.aug_c.specs.inside.Refusals.{refusal_of}
 
 pub changes-more : (all : List Outcome) (done : Outcome) → changes (all ++ done ∷ []) ≡ changes all + change_by done
@@ -61,26 +61,28 @@ first_outcomes {requests} {keys} {outcomes} {now} {new} count long m = record {
   start = m.start;
   follows = m.follows;
   same_era = m.same_era;
-  done = let d = m.done in record {
-    parts = d.parts;
-    one_each = d.one_each;
-    each = λ i within. subst (λ (z : Outcome). DoesPart (get_or requests i Insert) (get_or keys i 0) z (get_or d.parts i no_part) m.start.half new.half) (sym (get_or-take count outcomes i Refused (omega (arith, within, long)))) (d.each i within);
-    accepted = d.accepted;
-    rest = d.rest;
-    steps = d.steps;
-    no_other = d.no_other;
-    few_rises = d.few_rises;
-    few_steps = d.few_steps;
-  };
-  steps = m.steps;
-  goes_on = m.goes_on;
+  done = let d = m.done.0 in (
+    record {
+      parts = d.parts;
+      one_each = d.one_each;
+      each = λ i within. subst (λ (z : Outcome). DoesPart (get_or requests i Insert) (get_or keys i 0) z (get_or d.parts i no_part) m.start.half new.half) (sym (get_or-take count outcomes i Refused (omega (arith, within, long)))) (d.each i within);
+      accepted = d.accepted;
+      rest = d.rest;
+      steps = d.steps;
+      no_other = d.no_other;
+      few_rises = d.few_rises;
+      few_steps = d.few_steps;
+    },
+    m.done.1,
+    m.done.2,
+  );
   who = m.who;
   made = m.made;
 }
 
-module _ (asked : ℕ → Request) (keys : List ℕ) (before : Progress) (old : HandleFacts) where
+module _ (asked : ℕ → Request) (keys : List ℕ) (before : ArrayProgress) (old : HandleFacts) where
   -- updates were made in turn, as many as the progress says
-  pub record Came (so_far : Progress) (now : HandleFacts) : Type 0 where
+  pub record Came (so_far : ArrayProgress) (now : HandleFacts) : Type 0 where
     pub batches : List (List Outcome)
     pub in_turn : InTurn (MakesSome asked) before.made (drop before.made keys) batches old now
     pub made : so_far.made ≡ before.made + length (outcomes_in batches)
@@ -92,7 +94,7 @@ module _ (asked : ℕ → Request) (keys : List ℕ) (before : Progress) (old : 
   pub came_none : before.changed ≤ before.made → before.made ≤ length keys → Came before old
   came_none few within = record { batches = []; in_turn = refl; made = omega arith; changed = omega arith; few = few; within = within; bits = refl }
 
-  pub came_more : {requests : List Request} {outcomes : List Outcome} {now new : HandleFacts} (so_far : Progress) (count change : ℕ) → Came so_far now → so_far.made + count ≤ length keys → count ≤ length outcomes → AsksFrom asked so_far.made count requests
+  pub came_more : {requests : List Request} {outcomes : List Outcome} {now new : HandleFacts} (so_far : ArrayProgress) (count change : ℕ) → Came so_far now → so_far.made + count ≤ length keys → count ≤ length outcomes → AsksFrom asked so_far.made count requests
       → change ≡ changes (take count outcomes) → change ≤ count → Makes count (DoesBatch requests (take count (drop so_far.made keys)) outcomes) now new → Came (record { made = so_far.made + count; changed = so_far.changed + change }) new
   came_more {requests} {outcomes} {now} {new} so_far count change came room enough asks is few makes =
       let all = came.batches in let done : List Outcome = take count outcomes in let made = came.made in let counts = came.changed in let low = came.few in
@@ -114,11 +116,11 @@ module _ (asked : ℕ → Request) (keys : List ℕ) (before : Progress) (old : 
         changed = omega (arith, counts, changed, is);
         few = omega (arith, low, few);
         within = room;
-        bits = ap (λ (z : PassFacts). z.round.bits) makes.goes_on.same ∙ makes.follows.bits ∙ came.bits;
+        bits = ap (λ (z : PassFacts). z.round.bits) makes.done.2.same ∙ makes.follows.bits ∙ came.bits;
       }
 
   -- a batch of the next keys was made
-  pub came_next : {requests : List Request} {outcomes : List Outcome} {now new : HandleFacts} (so_far : Progress) (place end few count change : ℕ) → Came so_far now → place ≤ so_far.made → so_far.made ≤ place → place < length keys → end ≡ min (length keys) (place + 32)
+  pub came_next : {requests : List Request} {outcomes : List Outcome} {now new : HandleFacts} (so_far : ArrayProgress) (place end few count change : ℕ) → Came so_far now → place ≤ so_far.made → so_far.made ≤ place → place < length keys → end ≡ min (length keys) (place + 32)
       → few ≡ min 32 (length keys - place) → AsksFrom asked place few requests → length outcomes ≡ 32 → IsSomeOf (length (take (end - place) (drop place keys))) count → change ≡ changes (take count outcomes) → change ≤ length (take count outcomes)
       → Makes count (DoesBatch requests (take count (take (end - place) (drop place keys))) outcomes) now new → Came (record { made = so_far.made + count; changed = so_far.changed + change }) new × (place + 1 ≤ so_far.made + count)
   came_next {requests} {outcomes} {now} {new} so_far place end few count change came le ge inside ends fews asks long some is low makes =
@@ -131,7 +133,7 @@ module _ (asked : ℕ → Request) (keys : List ℕ) (before : Progress) (old : 
       )
 
   -- all were made
-  pub came_all : (so_far : Progress) (now : HandleFacts) → length keys ≤ so_far.made → Came so_far now → MakesEach asked keys before so_far old now (pos 0)
+  pub came_all : (so_far : ArrayProgress) (now : HandleFacts) → length keys ≤ so_far.made → Came so_far now → MakesEach asked keys before so_far old now (pos 0)
   came_all so_far now all came = record {
     batches = came.batches;
     last = now;
@@ -142,7 +144,7 @@ module _ (asked : ℕ → Request) (keys : List ℕ) (before : Progress) (old : 
   }
 
   -- the next ones were not made
-  pub came_so_far : (so_far : Progress) (now new : HandleFacts) (code : ℤ) (cause : TryError Busy) → so_far.made < length keys → code ≡ refusal_code (refusal_of cause) → Follows now new → IfRefused (RefusesCall new) cause → Came so_far now → MakesEach asked keys before so_far old new code
+  pub came_so_far : (so_far : ArrayProgress) (now new : HandleFacts) (code : ℤ) (cause : TryError Busy) → so_far.made < length keys → code ≡ refusal_code (refusal_of cause) → Follows now new → IfRefused (RefusesCall new) cause → Came so_far now → MakesEach asked keys before so_far old new code
   came_so_far so_far now new code cause within says follows why came = record {
     batches = came.batches;
     last = now;
@@ -152,7 +154,7 @@ module _ (asked : ℕ → Request) (keys : List ℕ) (before : Progress) (old : 
     ends = inr (subst (λ (z : ℤ). (z ≡ codes.again) ⊎ ((z ≡ codes.closed) × ShowsClosed new)) (sym says) (again_or_closed new cause why), within, follows);
   }
 
-module _ (asked : ℕ → Request) (keys : List ℕ) (weights : ℕ) (before : Progress) (old : HandleFacts) where
+module _ (asked : ℕ → Request) (keys : List ℕ) (weights : ℕ) (before : ArrayProgress) (old : HandleFacts) where
   -- what a test of the lengths says
   pub lengths_by : (universe : ℕ) → universe ≡ 2 ^ old.half.round.bits → (weights ≡ length keys) × (length keys ≤ universe) × (before.made ≤ length keys) × (before.changed ≤ before.made) → HasLengths old.half.round.bits (length keys) weights before
   lengths_by universe is has = (has.0, omega (arith, is, has.1), has.2, has.3)
@@ -166,5 +168,5 @@ module _ (asked : ℕ → Request) (keys : List ℕ) (weights : ℕ) (before : P
   pub bad_keys : HasLengths old.half.round.bits (length keys) weights before → (¬ All (λ k. k < 2 ^ old.half.round.bits) keys) → UpdatesAllFree asked keys weights before before old old codes.bad_key
   bad_keys has none = record { bad_length = λ no. absurd (no has); bad_key = λ _ _. (refl, refl, refl); makes = λ _ all. absurd (none all) }
 
-  pub makes_all : (after : Progress) (new : HandleFacts) (code said : ℤ) → HasLengths old.half.round.bits (length keys) weights before → All (λ k. k < 2 ^ old.half.round.bits) keys → said ≡ code → MakesEach asked keys before after old new code → UpdatesAllFree asked keys weights before after old new said
+  pub makes_all : (after : ArrayProgress) (new : HandleFacts) (code said : ℤ) → HasLengths old.half.round.bits (length keys) weights before → All (λ k. k < 2 ^ old.half.round.bits) keys → said ≡ code → MakesEach asked keys before after old new code → UpdatesAllFree asked keys weights before after old new said
   makes_all after new code said has all says makes = record { bad_length = λ no. absurd (no has); bad_key = λ _ none. absurd (none all); makes = λ _ _. subst (MakesEach asked keys before after old new) (sym says) makes }

@@ -6,16 +6,16 @@
 use Rattle.std.specs.Prelude.{◌≡◌, ◌≢◌, ◌⊎◌, ℕ, ◌+◌, ◌^◌, ◌<◌, ◌≤◌, ℤ, pos, Bool, true, false, List, [], ◌∷◌, ◌++◌, All, length, map, take, drop, min, get_or, flat_map}
 use Rattle.aug_model.specs.Keys.{SetFacts, keys_of}
 use Rattle.aug_trie.specs.UpdateBatches.{DoesBatch}
-use Rattle.aug_trie.specs.declared.updates.outcome.Outcome.{Outcome}
-use Rattle.aug_trie.specs.declared.updates.outcome.Outcome.TheVariants.{Accepted, Replaced}
+use Rattle.aug_model.specs.declared.outcome.Outcome.{Outcome}
+use Rattle.aug_model.specs.declared.outcome.Outcome.TheVariants.{Accepted, Replaced}
 use Rattle.aug_trie.specs.declared.updates.request.Request.{Request}
 use Rattle.aug_trie.specs.declared.updates.request.Request.TheVariants.{Insert}
 use Rattle.aug_live.specs.LiveHandles.{HandleFacts, LookFacts, Follows, Makes, IsAsked, set_of_look}
-use Rattle.aug_c.specs.declared.progress.Progress.{Progress}
-use Rattle.aug_c.specs.declared.seat.Seat.{Seat}
-use Rattle.aug_c.specs.declared.seat.Seat.TheVariants.{Free, Looking}
+use Rattle.aug_c.specs.declared.array_updates.ArrayProgress.{ArrayProgress}
+use Rattle.aug_c.specs.declared.raw_handle.RawHandle.{RawHandle}
 use Rattle.aug_c.specs.UserCalls.{ShowsClosed, span_of}
 use Rattle.aug_c.specs.Codes as codes
+use Rattle.aug_c.specs.Handles.{AsksUser, UpdatesUser}
 
 -- 1 if the set was changed
 abbrev pub change_by : Outcome → ℕ
@@ -48,7 +48,7 @@ abbrev pub EndsAt : ℕ → ℕ → HandleFacts → HandleFacts → ℤ → Type
 EndsAt all made last new code = ((code ≡ pos 0) × (made ≡ all) × (new ≡ last)) ⊎ (((code ≡ codes.again) ⊎ ((code ≡ codes.closed) × ShowsClosed new)) × (made < all) × Follows last new)
 
 -- updates for the keys from the index on that the progress had come to, in batches: how far they came, what they came to, and why they ended
-pub record MakesEach (asked : ℕ → Request) (keys : List ℕ) (before after : Progress) (old new : HandleFacts) (code : ℤ) : Type 0 where
+pub record MakesEach (asked : ℕ → Request) (keys : List ℕ) (before after : ArrayProgress) (old new : HandleFacts) (code : ℤ) : Type 0 where
   pub batches : List (List Outcome)
   pub last : HandleFacts
   pub in_turn : InTurn (MakesSome asked) before.made (drop before.made keys) batches old last
@@ -57,19 +57,18 @@ pub record MakesEach (asked : ℕ → Request) (keys : List ℕ) (before after :
   pub ends : EndsAt (length keys) after.made last new code
 
 -- there are as many weights as keys, no more of them than there are keys of so many bits, and the progress is one over them
-abbrev pub HasLengths : ℕ → ℕ → ℕ → Progress → Type 0
+abbrev pub HasLengths : ℕ → ℕ → ℕ → ArrayProgress → Type 0
 HasLengths bits keys weights progress = (weights ≡ keys) × (keys ≤ 2 ^ bits) × (progress.made ≤ keys) × (progress.changed ≤ progress.made)
 
 -- updates for an array by a user that holds no look: which lengths and keys are refused, so that nothing changes, and what is made otherwise
-pub record UpdatesAllFree (asked : ℕ → Request) (keys : List ℕ) (weights : ℕ) (before after : Progress) (old new : HandleFacts) (code : ℤ) : Type 0 where
+pub record UpdatesAllFree (asked : ℕ → Request) (keys : List ℕ) (weights : ℕ) (before after : ArrayProgress) (old new : HandleFacts) (code : ℤ) : Type 0 where
   pub bad_length : (¬ HasLengths old.half.round.bits (length keys) weights before) → (code ≡ codes.bad_length) × (new ≡ old) × (after ≡ before)
   pub bad_key : HasLengths old.half.round.bits (length keys) weights before → (¬ All (λ k. k < 2 ^ old.half.round.bits) keys) → (code ≡ codes.bad_key) × (new ≡ old) × (after ≡ before)
   pub makes : HasLengths old.half.round.bits (length keys) weights before → All (λ k. k < 2 ^ old.half.round.bits) keys → MakesEach asked keys before after old new code
 
--- updates for an array by a user, which are refused while it holds a look
-abbrev pub UpdatesAll : (ℕ → Request) → List ℕ → ℕ → Progress → Progress → Seat → Seat → ℤ → Type 0
-UpdatesAll asked keys weights before after (Free old) new code = (access : HandleFacts) × (new ≡ Free access) × UpdatesAllFree asked keys weights before after old access code
-UpdatesAll asked keys weights before after (Looking look) new code = (new ≡ Looking look) × (code ≡ codes.looking) × (after ≡ before)
+-- updates for an array by a user that holds no look
+abbrev pub UpdatesAll : (ℕ → Request) → List ℕ → ℕ → ArrayProgress → ArrayProgress → RawHandle → RawHandle → ℤ → Type 0
+UpdatesAll asked keys weights before after = UpdatesUser (UpdatesAllFree asked keys weights before after) (after ≡ before)
 
 -- 1 or 0
 abbrev pub bit_of : Bool → ℕ
@@ -88,10 +87,9 @@ pub record AnswersArray {X : Type 0} (told : SetFacts → ℕ → X) (keys : Lis
   pub bad_length : length before < length keys → (code ≡ codes.bad_length) × (new ≡ old) × (after ≡ before)
   pub answers : length keys ≤ length before → (code ≡ pos 0) × AnswersEach told keys before after old new
 
--- the same of a user, which holds a look
-abbrev pub AsksAll : {X : Type 0} → (SetFacts → ℕ → X) → List ℕ → List X → List X → Seat → Seat → ℤ → Type 0
-AsksAll told keys before after (Free access) new code = (new ≡ Free access) × (code ≡ codes.not_looking) × (after ≡ before)
-AsksAll told keys before after (Looking old) new code = (look : LookFacts) × (new ≡ Looking look) × AnswersArray told keys before after old look code
+-- the same of a user that holds a look
+abbrev pub AsksAll : {X : Type 0} → (SetFacts → ℕ → X) → List ℕ → List X → List X → RawHandle → RawHandle → ℤ → Type 0
+AsksAll told keys before after = AsksUser (AnswersArray told keys before after) (after ≡ before)
 
 -- the weights of pairs
 abbrev pub weights_of : List (ℕ × ℕ) → List ℕ
@@ -110,17 +108,11 @@ pub record ListsKeys (members : SetFacts → List (ℕ × ℕ)) (before after : 
   pub most : ℕ
   pub asked : IsAsked span_of most old new
 
--- the same of a user, which holds a look
-abbrev pub ListsAll : (SetFacts → List (ℕ × ℕ)) → List ℕ → List ℕ → Seat → Seat → ℤ → Type 0
-ListsAll members before after (Free access) new code = (new ≡ Free access) × (code ≡ codes.not_looking) × (after ≡ before)
-ListsAll members before after (Looking old) new code = (look : LookFacts) × (new ≡ Looking look) × ListsKeys members before after old look code
-
 -- and their weights as well, which is refused if there is not as much room for them
 pub record ListsBoth (members : SetFacts → List (ℕ × ℕ)) (keys keys_after weights weights_after : List ℕ) (old new : LookFacts) (code : ℤ) : Type 0 where
   pub bad_length : length weights ≢ length keys → (code ≡ codes.bad_length) × (new ≡ old) × (keys_after ≡ keys) × (weights_after ≡ weights)
   pub lists : length weights ≡ length keys → (listed : ListsKeys members keys keys_after old new code) × ListsMembers (weights_of (members (set_of_look old))) weights weights_after listed.count
 
--- the same of a user, which holds a look
-abbrev pub ListsAllBoth : (SetFacts → List (ℕ × ℕ)) → List ℕ → List ℕ → List ℕ → List ℕ → Seat → Seat → ℤ → Type 0
-ListsAllBoth members keys keys_after weights weights_after (Free access) new code = (new ≡ Free access) × (code ≡ codes.not_looking) × (keys_after ≡ keys) × (weights_after ≡ weights)
-ListsAllBoth members keys keys_after weights weights_after (Looking old) new code = (look : LookFacts) × (new ≡ Looking look) × ListsBoth members keys keys_after weights weights_after old look code
+-- the same of a user that holds a look
+abbrev pub ListsAllBoth : (SetFacts → List (ℕ × ℕ)) → List ℕ → List ℕ → List ℕ → List ℕ → RawHandle → RawHandle → ℤ → Type 0
+ListsAllBoth members keys keys_after weights weights_after = AsksUser (ListsBoth members keys keys_after weights weights_after) ((keys_after ≡ keys) × (weights_after ≡ weights))

@@ -9,21 +9,19 @@ use Rattle.aug_model.specs.Keys.{SetFacts}
 use Rattle.aug_model.specs.declared.difference.Difference.{Difference}
 use Rattle.aug_live.specs.LiveHandles.{LookFacts, IsAsked, set_before, set_of_look}
 use Rattle.aug_c.specs.UserCalls.{found, span_of}
-use Rattle.aug_c.specs.declared.changes.Change.{Change}
-use Rattle.aug_c.specs.declared.seat.Seat.{Seat}
-use Rattle.aug_c.specs.declared.seat.Seat.TheVariants.{Free, Looking}
+use Rattle.aug_c.specs.declared.changes.WeightChange.{WeightChange}
 use Rattle.aug_c.specs.Codes as codes
 
 -- a change with -1 in the place of a weight that there is not
-abbrev pub change_of : Difference → Change
+abbrev pub change_of : Difference → WeightChange
 change_of one = record { key = one.key; before = found one.before; now = found one.after }
 
 -- the changes with keys from this one on, at most 32
-abbrev pub page_from : SetFacts → SetFacts → ℕ → List Change
+abbrev pub page_from : SetFacts → SetFacts → ℕ → List WeightChange
 page_from earlier later from = map change_of (take 32 (changes_from earlier later from))
 
 -- the first of a page are written, as many as there is room for, and the answer is how many
-pub record ListsPage (page before after : List Change) (old new : LookFacts) (code : ℤ) : Type 0 where
+pub record ListsPage (page before after : List WeightChange) (old new : LookFacts) (code : ℤ) : Type 0 where
   pub count : ℕ
   pub says : code ≡ pos count
   pub counts : count ≡ min (length before) (length page)
@@ -32,7 +30,7 @@ pub record ListsPage (page before after : List Change) (old new : LookFacts) (co
   pub asked : IsAsked span_of most old new
 
 -- those between the snapshot before and the one that is shown
-abbrev pub ListsChanges : ℕ → List Change → List Change → LookFacts → LookFacts → ℤ → Type 0
+abbrev pub ListsChanges : ℕ → List WeightChange → List WeightChange → LookFacts → LookFacts → ℤ → Type 0
 ListsChanges from before after old new code = ListsPage (page_from (set_before old) (set_of_look old) from) before after old new code
 
 -- the set whose members are in one array, and their weights in the other
@@ -40,17 +38,7 @@ abbrev pub set_of_arrays : List ℕ → List ℕ → SetFacts
 set_of_arrays keys weights = record { bits = 32; pairs = zip keys weights }
 
 -- those between such a set and the snapshot that is shown: which arrays are refused, so that nothing is written, and what is listed otherwise
-pub record ListsSince (keys weights : List ℕ) (from : ℕ) (before after : List Change) (old new : LookFacts) (code : ℤ) : Type 0 where
+pub record ListsSince (keys weights : List ℕ) (from : ℕ) (before after : List WeightChange) (old new : LookFacts) (code : ℤ) : Type 0 where
   pub bad_length : length weights ≢ length keys → (code ≡ codes.bad_length) × (new ≡ old) × (after ≡ before)
   pub bad_key : length weights ≡ length keys → (¬ IsStrictlyIncreasing keys) → (code ≡ codes.bad_key) × (new ≡ old) × (after ≡ before)
   pub lists : length weights ≡ length keys → IsStrictlyIncreasing keys → ListsPage (page_from (set_of_arrays keys weights) (set_of_look old) from) before after old new code
-
--- the same of a user, which holds a look
-abbrev pub ListsAllChanges : ℕ → List Change → List Change → Seat → Seat → ℤ → Type 0
-ListsAllChanges from before after (Free access) new code = (new ≡ Free access) × (code ≡ codes.not_looking) × (after ≡ before)
-ListsAllChanges from before after (Looking old) new code = (look : LookFacts) × (new ≡ Looking look) × ListsChanges from before after old look code
-
--- and so for arrays
-abbrev pub ListsAllSince : List ℕ → List ℕ → ℕ → List Change → List Change → Seat → Seat → ℤ → Type 0
-ListsAllSince keys weights from before after (Free access) new code = (new ≡ Free access) × (code ≡ codes.not_looking) × (after ≡ before)
-ListsAllSince keys weights from before after (Looking old) new code = (look : LookFacts) × (new ≡ Looking look) × ListsSince keys weights from before after old look code

@@ -1,6 +1,5 @@
 pub mod Marks
-pub mod UserHolding
-pub mod TrieHolding
+pub mod Holding
 pub mod Codes
 pub mod Handles
 pub mod UserCalls

@@ -8,21 +8,21 @@ use Rattle.aug_trie.specs.declared.rounds.pop.Side.{Side}
 use Rattle.aug_live.specs.LiveHandles.{HandleFacts, Follows, Makes}
 use Rattle.aug_c.specs.UserCalls.{ShowsClosed, refusal_code, span_of}
 use Rattle.aug_c.specs.declared.pops.Member.{Member}
-use Rattle.aug_c.specs.declared.refusal.Refusal.{Refusal}
-use Rattle.aug_c.specs.declared.refusal.Refusal.TheVariants.{Closed}
-use Rattle.aug_c.specs.declared.seat.Seat.{Seat}
-use Rattle.aug_c.specs.declared.seat.Seat.TheVariants.{Free, Looking}
+use Rattle.aug_c.specs.declared.refusal.CallRefusal.{CallRefusal}
+use Rattle.aug_c.specs.declared.refusal.CallRefusal.TheVariants.{Closed}
+use Rattle.aug_c.specs.declared.raw_handle.RawHandle.{RawHandle}
 use Rattle.aug_c.specs.Codes as codes
+use Rattle.aug_c.specs.Handles.{UpdatesUser}
 
 -- what a pop answers: 1 if it took a member out, `none` if there was none, and 0 if it was refused
-abbrev pub pop_code : Result Pop Refusal → ℤ
+abbrev pub pop_code : Result Pop CallRefusal → ℤ
 pop_code (Ok (pop.Member key weight)) = pos 1
 pop_code (Ok pop.Empty) = codes.none
 pop_code (Ok pop.Refused) = pos 0
 pop_code (Err cause) = refusal_code cause
 
 -- the member that was taken out is written, and else nothing
-abbrev pub written_by : Result Pop Refusal → Member → Member → Type 0
+abbrev pub written_by : Result Pop CallRefusal → Member → Member → Type 0
 written_by (Ok (pop.Member key weight)) before after = (after.key ≡ key) × (after.weight ≡ weight)
 written_by (Ok pop.Empty) before after = after ≡ before
 written_by (Ok pop.Refused) before after = after ≡ before
@@ -30,14 +30,13 @@ written_by (Err cause) before after = after ≡ before
 
 -- a user that holds no look takes the member out, or follows on what it knew
 pub record PopsFree (side : Side) (before after : Member) (old new : HandleFacts) (code : ℤ) : Type 0 where
-  pub answer : Result Pop Refusal
+  pub answer : Result Pop CallRefusal
   pub says : code ≡ pop_code answer
   pub tells : written_by answer before after
   pub popped : IfOk answer (λ done. Makes (pop_updates done) (Pops span_of side done) old new)
   pub not_made : IfErr answer (λ _. Follows old new)
   pub closed : IsErrOf answer Closed → ShowsClosed new
 
--- a pop by a user, which is refused while it holds a look
-abbrev pub PopsMember : Side → Member → Member → Seat → Seat → ℤ → Type 0
-PopsMember side before after (Free old) new code = (access : HandleFacts) × (new ≡ Free access) × PopsFree side before after old access code
-PopsMember side before after (Looking look) new code = (new ≡ Looking look) × (code ≡ codes.looking) × (after ≡ before)
+-- a pop by a user that holds no look
+abbrev pub PopsMember : Side → Member → Member → RawHandle → RawHandle → ℤ → Type 0
+PopsMember side before after = UpdatesUser (PopsFree side before after) (after ≡ before)

@@ -2,38 +2,41 @@
 -- as it was. A query answers by the snapshot that the look shows (`Asks`) and changes nothing that a later one could see. In the example an insertion
 -- of 0 answers 1, one of 1 answers 0, and one of 4 answers -3; in a look a rank of 3 answers 1, `aug_select` of 5 answers -1, and `aug_range` from 1 to
 -- 4 answers 2 and writes the sum 4 and the bounds 1 and 3; an insertion answers -12 until the look is done, and a rank -13 after that.
-use Rattle.std.specs.Prelude.{◌≡◌, ◌≢◌, ◌⊎◌, ℕ, ◌^◌, ◌≤◌, ◌↔◌, ℤ, pos, Bool, true, false, Option, Some, None, Result, Ok, Err, IfOk, IfErr, IsErrOf, List}
+use Rattle.std.specs.Prelude.{◌≡◌, ◌≢◌, ◌⊎◌, ℕ, ◌^◌, ◌≤◌, ◌↔◌, ℤ, pos, Bool, true, false, Option, Some, None, Result, Ok, Err, IfOk, IfErr, IsErrOf, List, length, ⊤}
 use Rattle.aug_monoid.specs.Sum.{sum_parts}
 use Rattle.aug_monoid.specs.Extent.{extent_parts}
 use Rattle.aug_monoid.specs.declared.sum.Sum.{Sum}
 use Rattle.aug_monoid.specs.declared.extent.Extent.{Extent}
 use Rattle.aug_model.specs.Folds.{summary_of}
 use Rattle.aug_model.specs.Keys.{SetFacts}
+use Rattle.aug_model.specs.Queries.{weighted_range_of}
 use Rattle.aug_model.specs.declared.summary.Summary.{Summary}
 use Rattle.aug_trie.specs.Snapshot.{snapshot_cut}
 use Rattle.aug_trie.specs.Updates.{TakesSnapshot, Updates}
-use Rattle.aug_trie.specs.declared.updates.outcome.Outcome.{Outcome}
-use Rattle.aug_trie.specs.declared.updates.outcome.Outcome.TheVariants.{Accepted, Replaced, Refused, Unchanged, TooGreat, TooLittle}
+use Rattle.aug_model.specs.declared.outcome.Outcome.{Outcome}
+use Rattle.aug_model.specs.declared.outcome.Outcome.TheVariants.{Accepted, Replaced, Refused, Unchanged, TooGreat, TooLittle}
 use Rattle.aug_trie.specs.declared.updates.request.Request.{Request}
 use Rattle.aug_trie.specs.declared.updates.request.Request.TheVariants.{Insert}
 use Rattle.aug_trie.specs.declared.updates.told.Told.{Told}
 use Rattle.aug_live.specs.LiveHandles.{HandleFacts, LookFacts, Follows, Makes, IsAsked, LooksAgain, handle_of, set_of_look}
 use Rattle.aug_live.specs.LiveErrors.{RefusesCall}
 use Rattle.aug_live.specs.declared.error.LiveError.{LiveError}
-use Rattle.aug_c.specs.declared.refusal.Refusal.{Refusal}
-use Rattle.aug_c.specs.declared.refusal.Refusal.TheVariants.{BadKey, Again, Closed}
-use Rattle.aug_c.specs.declared.seat.Seat.{Seat}
-use Rattle.aug_c.specs.declared.seat.Seat.TheVariants.{Free, Looking}
-use Rattle.aug_c.specs.declared.span.Span.{Span}
+use Rattle.aug_c.specs.declared.refusal.CallRefusal.{CallRefusal}
+use Rattle.aug_c.specs.declared.refusal.CallRefusal.TheVariants.{BadKey, Again, Closed}
+use Rattle.aug_c.specs.declared.state.HandleState.{HandleState}
+use Rattle.aug_c.specs.declared.state.HandleState.TheVariants.{Free, Looking}
+use Rattle.aug_c.specs.declared.raw_handle.RawHandle.{RawHandle}
+use Rattle.aug_c.specs.declared.queries.Span.{Span}
 use Rattle.aug_c.specs.declared.updates.WeightsTold.{WeightsTold}
 use Rattle.aug_c.specs.Codes as codes
+use Rattle.aug_c.specs.Handles.{AsksUser, HandleCall, OnLooking, UpdatesUser}
 
 -- the number of the keys, the sum of their weights, and the least and the greatest of them
 abbrev pub span_of : List (ℕ × ℕ) → Summary Sum Extent
 span_of pairs = summary_of sum_parts extent_parts pairs
 
 -- the code of a refusal
-abbrev pub refusal_code : Refusal → ℤ
+abbrev pub refusal_code : CallRefusal → ℤ
 refusal_code BadKey = codes.bad_key
 refusal_code Again = codes.again
 refusal_code Closed = codes.closed
@@ -47,7 +50,7 @@ outcome_code Unchanged = pos 3
 outcome_code TooGreat = codes.too_great
 outcome_code TooLittle = codes.too_little
 
-abbrev pub update_code : Result Told Refusal → ℤ
+abbrev pub update_code : Result Told CallRefusal → ℤ
 update_code (Ok told) = outcome_code told.outcome
 update_code (Err cause) = refusal_code cause
 
@@ -57,7 +60,7 @@ found (Some n) = pos n
 found None = codes.none
 
 -- what an update that was made tells of its key is written, with -1 where it is no member, and else nothing
-abbrev pub told_in : Result Told Refusal → WeightsTold → WeightsTold → Type 0
+abbrev pub told_in : Result Told CallRefusal → WeightsTold → WeightsTold → Type 0
 told_in (Ok told) before after = (after.before ≡ found told.before) × (after.now ≡ found told.now)
 told_in (Err cause) before after = after ≡ before
 
@@ -73,7 +76,7 @@ ShowsClosed access = (cause : LiveError) × RefusesCall access cause
 -- an update of a key by a user that holds no look: if the key is none of the trie, nothing changes; and else it is made, or the user follows on what it
 -- knew. What it tells is written to a place with these weights before and after the call
 pub record UpdatesFree (asked : Request) (key : ℕ) (before after : WeightsTold) (old new : HandleFacts) (code : ℤ) : Type 0 where
-  pub answer : Result Told Refusal
+  pub answer : Result Told CallRefusal
   pub says : code ≡ update_code answer
   pub tells : told_in answer before after
   pub bad_key : IsErrOf answer BadKey ↔ (2 ^ old.half.round.bits ≤ key)
@@ -82,34 +85,27 @@ pub record UpdatesFree (asked : Request) (key : ℕ) (before after : WeightsTold
   pub not_made : IfErr answer (λ _. Follows old new)
   pub closed : IsErrOf answer Closed → ShowsClosed new
 
--- an update of a key by a user, which is refused while it holds a look
-abbrev pub UpdatesKey : Request → ℕ → WeightsTold → WeightsTold → Seat → Seat → ℤ → Type 0
-UpdatesKey asked key before after (Free old) new code = (access : HandleFacts) × (new ≡ Free access) × UpdatesFree asked key before after old access code
-UpdatesKey asked key before after (Looking look) new code = (new ≡ Looking look) × (code ≡ codes.looking) × (after ≡ before)
+-- an update of a key by a user that holds no look
+abbrev pub UpdatesKey : Request → ℕ → WeightsTold → WeightsTold → RawHandle → RawHandle → ℤ → Type 0
+UpdatesKey asked key before after = UpdatesUser (UpdatesFree asked key before after) (after ≡ before)
 
 -- an insertion, which does not tell what its key weighed
-abbrev pub InsertsKey : ℕ → Seat → Seat → ℤ → Type 0
-InsertsKey key old new code = (told : WeightsTold × WeightsTold) × UpdatesKey Insert key told.0 told.1 old new code
+abbrev pub InsertsKey : ℕ → RawHandle → RawHandle → ℤ → Type 0
+InsertsKey key = UpdatesUser (λ old new code. (told : WeightsTold × WeightsTold) × UpdatesFree Insert key told.0 told.1 old new code) ⊤
 
 -- a user that holds no look takes one, of which nothing has changed yet, or follows on what it knew
-pub record TakesFree (old : HandleFacts) (new : Seat) (code : ℤ) : Type 0 where
+pub record TakesFree (old : HandleFacts) (new : HandleState) (code : ℤ) : Type 0 where
   pub looks : code ≡ pos 0 → (look : LookFacts) × (new ≡ Looking look) × (look.before ≡ look.snapshot) × Makes 0 (λ a b. TakesSnapshot a.knows b.knows (snapshot_cut b look.snapshot.number)) old (handle_of look)
   pub refused : code ≢ pos 0 → (access : HandleFacts) × (new ≡ Free access) × Follows old access × (code ≡ codes.closed → ShowsClosed access)
   pub others : (code ≡ pos 0) ⊎ (code ≡ codes.again) ⊎ (code ≡ codes.closed)
 
-abbrev pub TakesLook : Seat → Seat → ℤ → Type 0
-TakesLook (Free old) new code = TakesFree old new code
-TakesLook (Looking look) new code = (new ≡ Looking look) × (code ≡ codes.looking)
-
 -- a newer snapshot in the same look
-abbrev pub LooksAnew : Seat → Seat → ℤ → Type 0
-LooksAnew (Free access) new code = (new ≡ Free access) × (code ≡ codes.not_looking)
-LooksAnew (Looking old) new code = (look : LookFacts) × (new ≡ Looking look) × LooksAgain old look × (code ≡ pos 0)
+abbrev pub LooksAnew : RawHandle → RawHandle → ℤ → Type 0
+LooksAnew = AsksUser (λ old new code. LooksAgain old new × (code ≡ pos 0)) ⊤
 
 -- the look is over
-abbrev pub EndsLook : Seat → Seat → ℤ → Type 0
-EndsLook (Free access) new code = (new ≡ Free access) × (code ≡ codes.not_looking)
-EndsLook (Looking look) new code = (new ≡ Free (handle_of look)) × (code ≡ pos 0)
+abbrev pub EndsFree : LookFacts → HandleState → ℤ → Type 0
+EndsFree look new code = (new ≡ Free (handle_of look)) × (code ≡ pos 0)
 
 -- a query of a look answers only by its snapshot, and changes nothing that a later one could see
 pub record AsksLook (told : SetFacts → ℤ) (old new : LookFacts) (code : ℤ) : Type 0 where
@@ -117,10 +113,9 @@ pub record AsksLook (told : SetFacts → ℤ) (old new : LookFacts) (code : ℤ)
   pub most : ℕ
   pub asked : IsAsked span_of most old new
 
--- a query of a user, which holds a look
-abbrev pub Asks : (SetFacts → ℤ) → Seat → Seat → ℤ → Type 0
-Asks told (Free access) new code = (new ≡ Free access) × (code ≡ codes.not_looking)
-Asks told (Looking old) new code = (look : LookFacts) × (new ≡ Looking look) × AsksLook told old look code
+-- a query of a user that holds a look
+abbrev pub Asks : (SetFacts → ℤ) → RawHandle → RawHandle → ℤ → Type 0
+Asks told = AsksUser (AsksLook told) ⊤
 
 -- the bounds of some keys: 0 if there are none
 abbrev pub least_of : Option (ℕ × ℕ) → ℕ
@@ -137,3 +132,8 @@ pub record IsSpan (told : Summary Sum Extent) (span : Span) : Type 0 where
   pub sum : span.sum ≡ told.a
   pub least : span.least ≡ least_of told.b
   pub greatest : span.greatest ≡ greatest_of told.b
+
+-- a query of a range, whose summary is written
+pub record AsksRange (from to : ℕ) (span : Span) (old new : LookFacts) (code : ℤ) : Type 0 where
+  pub asks : AsksLook (λ set. pos (length (weighted_range_of set.pairs from to))) old new code
+  pub is : IsSpan (span_of (weighted_range_of (set_of_look old).pairs from to)) span

@@ -2,6 +2,5 @@
 pub mod Answered
 pub mod Refusals
 pub mod KeyRequests
-pub mod UserContent
-pub mod TrieContent
+pub mod ContentCode
 pub mod SlotLends

@@ -1,15 +1,16 @@
 //! The members of a look's snapshot, many of them in one call, a page after the other.
-ghost use Rattle.std.specs.Prelude.{◌≡◌, ℕ, ◌+◌, ◌-◌, ◌^◌, ◌<◌, ◌≤◌, ◌++◌, ◌==◌, if◌then◌else◌, List, Some, None, IfSome, IfNone, IsNone, length, map, take, drop, reverse, min, pos, slice_index_or};
+ghost use Rattle.std.specs.Prelude.{◌≡◌, ℕ, ◌+◌, ◌-◌, ◌^◌, ◌<◌, ◌≤◌, ◌++◌, ◌==◌, if◌then◌else◌, List, Some, None, IfSome, IfNone, length, map, take, drop, reverse, min, pos, slice_index_or};
 ghost use Rattle.aug_model.specs.Keys.{SetFacts};
 ghost use Rattle.aug_query.specs.Yields.{members_from, members_below};
 ghost use Rattle.aug_live.specs.LiveHandles.{IsAsked, set_of_look};
-ghost use Rattle.aug_c.specs.Handles.{user_of, On};
+ghost use Rattle.aug_c.specs.Handles.{AsksUser};
 ghost use Rattle.aug_c.specs.UserCalls.{span_of};
-ghost use Rattle.aug_c.specs.ArrayCalls.{ListsAll, ListsAllBoth, ListsBoth, ListsKeys, ListsMembers, weights_of};
+ghost use Rattle.aug_c.specs.inside.KeyRequests.{member_part};
+ghost use Rattle.aug_c.specs.ArrayCalls.{ListsAllBoth, ListsBoth, ListsKeys, ListsMembers, weights_of};
 
 use crate::codes::{BAD_LENGTH, CLOSED, NOT_LOOKING};
-use crate::seat::{LookOf, Seat};
-use crate::user_handle::UserHandle;
+use crate::raw_handle::RawHandle;
+use crate::state::{HandleState, SummedLook};
 use aug_query::descent::{MembersBelow, MembersFrom, Page};
 
 // In which order members are listed.
@@ -18,7 +19,7 @@ trait Order {
     ghost members: { SetFacts → ℕ → List (ℕ × ℕ) };
 
     // The first page of them, and the key of the next page if this one is full.
-    fn page(look: &mut LookOf, key: u32) -> (Page, Option<u32>)
+    fn page(look: &mut SummedLook, key: u32) -> (Page, Option<u32>)
         ensures page { result.0.items ≡ take 32 (members (set_of_look look.old) key) }
         ensures full { IfSome result.1 (λ next. length result.0.items ≡ 32) }
         ensures more { IfSome result.1 (λ next. members (set_of_look look.old) next ≡ drop 32 (members (set_of_look look.old) key)) }
@@ -41,7 +42,7 @@ struct Rising;
 impl Order for Rising {
     ghost members = { λ set key. members_from set key };
 
-    fn page(look: &mut LookOf, key: u32) -> (Page, Option<u32>) {
+    fn page(look: &mut SummedLook, key: u32) -> (Page, Option<u32>) {
         let page = look.ask(MembersFrom(key));
         match last_key(&page) {
             Some(last) => (page, Some(last + 1)),
@@ -55,57 +56,31 @@ struct Falling;
 impl Order for Falling {
     ghost members = { λ set key. reverse (members_below set key) };
 
-    fn page(look: &mut LookOf, key: u32) -> (Page, Option<u32>) {
+    fn page(look: &mut SummedLook, key: u32) -> (Page, Option<u32>) {
         let page = look.ask(MembersBelow(key));
         let next = last_key(&page);
         (page, next)
     }
 }
 
-// What is written of a member.
-trait Part {
-    ghost part_of: { ℕ × ℕ → ℕ };
-
-    fn of(member: (u32, u32)) -> u32
-        ensures { result ≡ part_of member };
-}
-
-struct Key;
-
-impl Part for Key {
-    ghost part_of = { λ p. p.0 };
-
-    fn of(member: (u32, u32)) -> u32 {
-        member.0
-    }
-}
-
-struct Weight;
-
-impl Part for Weight {
-    ghost part_of = { λ p. p.1 };
-
-    fn of(member: (u32, u32)) -> u32 {
-        member.1
-    }
-}
-
-// Writes a part of each member of a page to the places from `at` on, as many as there are.
-fn put<P: Part>(page: &[(u32, u32)], at: usize, out: &mut [u32])
-    ensures { out.new ≡ take at out.old ++ (take (length out.old - at) (map P.part_of page.now) ++ drop (at + length page.now) out.old) }
+// Writes the key of each member of a page, or its weight, to the places from `at` on, as many as there are.
+#[inline(always)]
+fn put(page: &[(u32, u32)], weights: bool, at: usize, out: &mut [u32])
+    ensures { out.new ≡ take at out.old ++ (take (length out.old - at) (map (member_part weights) page.now) ++ drop (at + length page.now) out.old) }
 {
     if out.len() <= at {
         return;
     }
     let count = page.len().min(out.len() - at);
     for i in 0..count {
-        out[at + i] = P::of(page[i]);
+        let (key, weight) = page[i];
+        out[at + i] = if weights { weight } else { key };
     }
 }
 
 // Writes the first members on the side of a key that is listed, as many as there are places for keys, and answers how many. There may be fewer
 // places for weights.
-fn list<O: Order>(look: &mut LookOf, key: u32, keys: &mut [u32], weights: &mut [u32]) -> i64
+fn list<O: Order>(look: &mut SummedLook, key: u32, keys: &mut [u32], weights: &mut [u32]) -> i64
     requires { length weights.old ≤ length keys.old }
     ensures keys { ListsKeys (λ set. O.members set key) keys.old keys.new look.old look.new result }
     ensures weights { ListsMembers (weights_of (O.members (set_of_look look.old) key)) weights.old weights.new (min (length weights.old) (length (O.members (set_of_look look.old) key))) }
@@ -114,8 +89,8 @@ fn list<O: Order>(look: &mut LookOf, key: u32, keys: &mut [u32], weights: &mut [
     let mut listed = 0;
     while listed < keys.len() {
         let (page, next) = O::page(look, from);
-        put::<Key>(page.as_slice(), listed, keys);
-        put::<Weight>(page.as_slice(), listed, weights);
+        put(page.as_slice(), false, listed, keys);
+        put(page.as_slice(), true, listed, weights);
         listed += page.len();
         let Some(next) = next else {
             return listed.min(keys.len()) as i64;
@@ -125,32 +100,28 @@ fn list<O: Order>(look: &mut LookOf, key: u32, keys: &mut [u32], weights: &mut [
     keys.len() as i64
 }
 
-fn keys_in(user: &mut Option<Seat>, from: u32, out: &mut [u32]) -> i64
-    ensures lists { On (ListsAll (λ set. members_from set from) out.old out.new) user.old user.new result }
-    ensures closed { IsNone user.old → out.new ≡ out.old }
-{
-    match user {
-        None => CLOSED,
-        Some(Seat::Free(_)) => NOT_LOOKING,
-        Some(Seat::Looking(held)) => list::<Rising>(&mut held.look, from, out, &mut []),
-    }
-}
-
 /// Writes the least members of the snapshot from `from` on, rising, as many as `out` has places for. Answers how many.
 #[unsafe(no_mangle)]
-pub extern "C" fn aug_try_keys(user: &mut UserHandle, from: u32, out: &mut [u32]) -> i64
-    ensures lists { On (ListsAll (λ set. members_from set from) out.old out.new) (user_of user.old) (user_of user.new) result }
-    ensures closed { IsNone (user_of user.old) → out.new ≡ out.old }
-    ensures foreign { IsNone user.old.held.value → user.new ≡ user.old }
+pub extern "C" fn aug_try_keys(user: &mut RawHandle, from: u32, out: &mut [u32]) -> i64
+    ensures { AsksUser (ListsKeys (λ set. members_from set from) out.old out.new) (out.new ≡ out.old) user.old user.new result }
 {
     if !user.is_open() {
         return CLOSED;
     }
-    keys_in(&mut user.held.as_slot().seat, from, out)
+    match &mut user.held.as_slot().state {
+        HandleState::Looking(held) => list::<Rising>(&mut held.look, from, out, &mut []),
+        HandleState::Free(_) => NOT_LOOKING,
+        _ => CLOSED,
+    }
 }
 
 // Lists members with their weights, in two arrays of the same length.
-fn list_both<O: Order>(look: &mut LookOf, key: u32, keys: &mut [u32], weights: &mut [u32]) -> i64
+fn list_both<O: Order>(
+    look: &mut SummedLook,
+    key: u32,
+    keys: &mut [u32],
+    weights: &mut [u32],
+) -> i64
     ensures { ListsBoth (λ set. O.members set key) keys.old keys.new weights.old weights.new look.old look.new result }
 {
     if weights.len() != keys.len() {
@@ -159,46 +130,30 @@ fn list_both<O: Order>(look: &mut LookOf, key: u32, keys: &mut [u32], weights: &
     list::<O>(look, key, keys, weights)
 }
 
-fn both_in<O: Order>(
-    user: &mut Option<Seat>,
-    key: u32,
-    keys: &mut [u32],
-    weights: &mut [u32],
-) -> i64
-    ensures lists { On (ListsAllBoth (λ set. O.members set key) keys.old keys.new weights.old weights.new) user.old user.new result }
-    ensures closed { IsNone user.old → (keys.new ≡ keys.old) × (weights.new ≡ weights.old) }
-{
-    match user {
-        None => CLOSED,
-        Some(Seat::Free(_)) => NOT_LOOKING,
-        Some(Seat::Looking(held)) => list_both::<O>(&mut held.look, key, keys, weights),
-    }
-}
-
 // The same of a handle's user.
-fn both_of<O: Order>(user: &mut UserHandle, key: u32, keys: &mut [u32], weights: &mut [u32]) -> i64
-    ensures lists { On (ListsAllBoth (λ set. O.members set key) keys.old keys.new weights.old weights.new) (user_of user.old) (user_of user.new) result }
-    ensures closed { IsNone (user_of user.old) → (keys.new ≡ keys.old) × (weights.new ≡ weights.old) }
-    ensures foreign { IsNone user.old.held.value → user.new ≡ user.old }
+fn both_of<O: Order>(user: &mut RawHandle, key: u32, keys: &mut [u32], weights: &mut [u32]) -> i64
+    ensures { ListsAllBoth (λ set. O.members set key) keys.old keys.new weights.old weights.new user.old user.new result }
 {
     if !user.is_open() {
         return CLOSED;
     }
-    both_in::<O>(&mut user.held.as_slot().seat, key, keys, weights)
+    match &mut user.held.as_slot().state {
+        HandleState::Looking(held) => list_both::<O>(&mut held.look, key, keys, weights),
+        HandleState::Free(_) => NOT_LOOKING,
+        _ => CLOSED,
+    }
 }
 
 /// Writes the least members of the snapshot from `from` on, rising, as many as `keys` has places for, and the weight of each. Answers how
 /// many, or `BAD_LENGTH` if there are not as many places for weights.
 #[unsafe(no_mangle)]
 pub extern "C" fn aug_try_list(
-    user: &mut UserHandle,
+    user: &mut RawHandle,
     from: u32,
     keys: &mut [u32],
     weights: &mut [u32],
 ) -> i64
-    ensures lists { On (ListsAllBoth (λ set. members_from set from) keys.old keys.new weights.old weights.new) (user_of user.old) (user_of user.new) result }
-    ensures closed { IsNone (user_of user.old) → (keys.new ≡ keys.old) × (weights.new ≡ weights.old) }
-    ensures foreign { IsNone user.old.held.value → user.new ≡ user.old }
+    ensures { ListsAllBoth (λ set. members_from set from) keys.old keys.new weights.old weights.new user.old user.new result }
 {
     both_of::<Rising>(user, from, keys, weights)
 }
@@ -206,14 +161,12 @@ pub extern "C" fn aug_try_list(
 /// Writes the greatest members of the snapshot below `below`, falling, as `aug_try_list`.
 #[unsafe(no_mangle)]
 pub extern "C" fn aug_try_list_back(
-    user: &mut UserHandle,
+    user: &mut RawHandle,
     below: u32,
     keys: &mut [u32],
     weights: &mut [u32],
 ) -> i64
-    ensures lists { On (ListsAllBoth (λ set. reverse (members_below set below)) keys.old keys.new weights.old weights.new) (user_of user.old) (user_of user.new) result }
-    ensures closed { IsNone (user_of user.old) → (keys.new ≡ keys.old) × (weights.new ≡ weights.old) }
-    ensures foreign { IsNone user.old.held.value → user.new ≡ user.old }
+    ensures { ListsAllBoth (λ set. reverse (members_below set below)) keys.old keys.new weights.old weights.new user.old user.new result }
 {
     both_of::<Falling>(user, below, keys, weights)
 }

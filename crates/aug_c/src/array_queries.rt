@@ -1,27 +1,27 @@
 //! The queries of a user for arrays of keys, answered from the snapshot of its look.
-ghost use Rattle.std.specs.Prelude.{◌≡◌, ℕ, IsNone};
+ghost use Rattle.std.specs.Prelude.{◌≡◌, ℕ};
 ghost use Rattle.aug_model.specs.Keys.{SetFacts, is_member, list_of};
 ghost use Rattle.aug_model.specs.Queries.{rank_of, weight_of};
-ghost use Rattle.aug_c.specs.Handles.{user_of, On};
 ghost use Rattle.aug_live.specs.LiveHandles.{IsAsked, set_of_look};
 ghost use Rattle.aug_c.specs.UserCalls.{found, span_of};
 ghost use Rattle.aug_c.specs.ArrayCalls.{bit_of, AnswersArray, AsksAll};
 
-use crate::codes::{BAD_LENGTH, CLOSED, NONE, NOT_LOOKING};
-use crate::seat::{LookOf, Seat};
-use crate::user_handle::UserHandle;
+use crate::codes::{BAD_LENGTH, CLOSED, NOT_LOOKING};
+use crate::queries::Number;
+use crate::raw_handle::RawHandle;
+use crate::state::{HandleState, SummedLook};
 use aug_query::descent::{Four, Has, Rank, Weight};
 
 // What is asked for each key of an array, and what is written of the answer.
 trait KeyQuery<T> {
     ghost answer_of: { SetFacts → ℕ → T };
 
-    fn ask(look: &mut LookOf, key: u32) -> T
+    fn ask(look: &mut SummedLook, key: u32) -> T
         ensures answer { result ≡ answer_of (set_of_look look.old) key }
         ensures asked { (most : ℕ) × IsAsked span_of most look.old look.new };
 
     // The same for four keys, which go down together.
-    fn ask_four(look: &mut LookOf, p: u32, q: u32, r: u32, s: u32) -> (T, T, T, T)
+    fn ask_four(look: &mut SummedLook, p: u32, q: u32, r: u32, s: u32) -> (T, T, T, T)
         ensures p { result.0 ≡ answer_of (set_of_look look.old) p }
         ensures q { result.1 ≡ answer_of (set_of_look look.old) q }
         ensures r { result.2 ≡ answer_of (set_of_look look.old) r }
@@ -37,69 +37,52 @@ fn bit(answer: bool) -> u8
     if answer { 1 } else { 0 }
 }
 
-// The weight of a member, or `NONE`.
-#[inline(always)]
-fn weight(answer: Option<u32>) -> i64
-    ensures { result ≡ found answer }
-{
-    match answer {
-        Some(weight) => i64::from(weight),
-        None => NONE,
-    }
-}
-
-struct Ranked;
-
-impl KeyQuery<u32> for Ranked {
+impl KeyQuery<u32> for Rank {
     ghost answer_of = { λ set k. rank_of (list_of set) k };
 
     #[inline(always)]
-    fn ask(look: &mut LookOf, key: u32) -> u32 {
+    fn ask(look: &mut SummedLook, key: u32) -> u32 {
         look.ask(Rank(key))
     }
 
     #[inline(always)]
-    fn ask_four(look: &mut LookOf, p: u32, q: u32, r: u32, s: u32) -> (u32, u32, u32, u32) {
+    fn ask_four(look: &mut SummedLook, p: u32, q: u32, r: u32, s: u32) -> (u32, u32, u32, u32) {
         look.ask(Four(Rank(p), Rank(q), Rank(r), Rank(s)))
     }
 }
 
-struct Found;
-
-impl KeyQuery<u8> for Found {
+impl KeyQuery<u8> for Has {
     ghost answer_of = { λ set k. bit_of (is_member (list_of set) k) };
 
     #[inline(always)]
-    fn ask(look: &mut LookOf, key: u32) -> u8 {
+    fn ask(look: &mut SummedLook, key: u32) -> u8 {
         bit(look.ask(Has(key)))
     }
 
     #[inline(always)]
-    fn ask_four(look: &mut LookOf, p: u32, q: u32, r: u32, s: u32) -> (u8, u8, u8, u8) {
+    fn ask_four(look: &mut SummedLook, p: u32, q: u32, r: u32, s: u32) -> (u8, u8, u8, u8) {
         let (p, q, r, s) = look.ask(Four(Has(p), Has(q), Has(r), Has(s)));
         (bit(p), bit(q), bit(r), bit(s))
     }
 }
 
-struct Weighed;
-
-impl KeyQuery<i64> for Weighed {
+impl KeyQuery<i64> for Weight {
     ghost answer_of = { λ set k. found (weight_of set.pairs k) };
 
     #[inline(always)]
-    fn ask(look: &mut LookOf, key: u32) -> i64 {
-        weight(look.ask(Weight(key)))
+    fn ask(look: &mut SummedLook, key: u32) -> i64 {
+        look.ask(Weight(key)).number()
     }
 
     #[inline(always)]
-    fn ask_four(look: &mut LookOf, p: u32, q: u32, r: u32, s: u32) -> (i64, i64, i64, i64) {
+    fn ask_four(look: &mut SummedLook, p: u32, q: u32, r: u32, s: u32) -> (i64, i64, i64, i64) {
         let (p, q, r, s) = look.ask(Four(Weight(p), Weight(q), Weight(r), Weight(s)));
-        (weight(p), weight(q), weight(r), weight(s))
+        (p.number(), q.number(), r.number(), s.number())
     }
 }
 
 // Asks a look for each key, for four at a time while there are as many.
-fn ask_each<T: Copy, E: KeyQuery<T>>(look: &mut LookOf, keys: &[u32], out: &mut [T]) -> i64
+fn ask_each<T: Copy, E: KeyQuery<T>>(look: &mut SummedLook, keys: &[u32], out: &mut [T]) -> i64
     ensures { AnswersArray E.answer_of keys.now out.old out.new look.old look.new result }
 {
     if out.len() < keys.len() {
@@ -128,48 +111,40 @@ fn ask_each<T: Copy, E: KeyQuery<T>>(look: &mut LookOf, keys: &[u32], out: &mut 
 }
 
 // Asks the look of a handle's user for each key.
-fn ask_all<T: Copy, E: KeyQuery<T>>(user: &mut UserHandle, keys: &[u32], out: &mut [T]) -> i64
-    ensures asks { On (AsksAll E.answer_of keys.now out.old out.new) (user_of user.old) (user_of user.new) result }
-    ensures closed { IsNone (user_of user.old) → out.new ≡ out.old }
-    ensures foreign { IsNone user.old.held.value → user.new ≡ user.old }
+fn ask_all<T: Copy, E: KeyQuery<T>>(user: &mut RawHandle, keys: &[u32], out: &mut [T]) -> i64
+    ensures { AsksAll E.answer_of keys.now out.old out.new user.old user.new result }
 {
     if !user.is_open() {
         return CLOSED;
     }
-    match &mut user.held.as_slot().seat {
-        None => CLOSED,
-        Some(Seat::Free(_)) => NOT_LOOKING,
-        Some(Seat::Looking(held)) => ask_each::<T, E>(&mut held.look, keys, out),
+    match &mut user.held.as_slot().state {
+        HandleState::Looking(held) => ask_each::<T, E>(&mut held.look, keys, out),
+        HandleState::Free(_) => NOT_LOOKING,
+        _ => CLOSED,
     }
 }
 
 /// Writes how many members of the snapshot are below each key to the place with its index. The keys stand in any order. Answers 0, or
 /// `BAD_LENGTH` if there are fewer places than keys.
 #[unsafe(no_mangle)]
-pub extern "C" fn aug_try_rank_all(user: &mut UserHandle, keys: &[u32], out: &mut [u32]) -> i64
-    ensures asks { On (AsksAll (λ set k. rank_of (list_of set) k) keys.now out.old out.new) (user_of user.old) (user_of user.new) result }
-    ensures closed { IsNone (user_of user.old) → out.new ≡ out.old }
-    ensures foreign { IsNone user.old.held.value → user.new ≡ user.old }
+pub extern "C" fn aug_try_rank_all(user: &mut RawHandle, keys: &[u32], out: &mut [u32]) -> i64
+    ensures { AsksAll (λ set k. rank_of (list_of set) k) keys.now out.old out.new user.old user.new result }
 {
-    ask_all::<u32, Ranked>(user, keys, out)
+    ask_all::<u32, Rank>(user, keys, out)
 }
 
 /// Writes whether the snapshot has each key, 1 or 0, as `aug_try_rank_all`.
 #[unsafe(no_mangle)]
-pub extern "C" fn aug_try_has_all(user: &mut UserHandle, keys: &[u32], out: &mut [u8]) -> i64
-    ensures asks { On (AsksAll (λ set k. bit_of (is_member (list_of set) k)) keys.now out.old out.new) (user_of user.old) (user_of user.new) result }
-    ensures closed { IsNone (user_of user.old) → out.new ≡ out.old }
-    ensures foreign { IsNone user.old.held.value → user.new ≡ user.old }
+pub extern "C" fn aug_try_has_all(user: &mut RawHandle, keys: &[u32], out: &mut [u8]) -> i64
+    ensures { AsksAll (λ set k. bit_of (is_member (list_of set) k)) keys.now out.old out.new user.old user.new result }
 {
-    ask_all::<u8, Found>(user, keys, out)
+    ask_all::<u8, Has>(user, keys, out)
 }
 
 /// Writes the weight of each key that is a member of the snapshot, and `NONE` for each other, as `aug_try_rank_all`.
 #[unsafe(no_mangle)]
-pub extern "C" fn aug_try_weight_all(user: &mut UserHandle, keys: &[u32], out: &mut [i64]) -> i64
-    ensures asks { On (AsksAll (λ set k. found (weight_of set.pairs k)) keys.now out.old out.new) (user_of user.old) (user_of user.new) result }
-    ensures closed { IsNone (user_of user.old) → out.new ≡ out.old }
-    ensures foreign { IsNone user.old.held.value → user.new ≡ user.old }
+pub extern "C" fn aug_try_weight_all(user: &mut RawHandle, keys: &[u32], out: &mut [i64]) -> i64
+    ensures { AsksAll (λ set k. found (weight_of set.pairs k)) keys.now out.old out.new user.old user.new result }
 {
-    ask_all::<i64, Weighed>(user, keys, out)
+    ask_all::<i64, Weight>(user, keys, out)
 }

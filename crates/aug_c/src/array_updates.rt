@@ -1,40 +1,33 @@
 //! The updates of a user for arrays of keys.
-ghost use Rattle.std.specs.Prelude.{◌≡◌, ◌↔◌, ◌^◌, ◌<◌, ◌≤◌, ◌-◌, length, min, get_or, All, true, IsNone};
+ghost use Rattle.std.specs.Prelude.{◌≡◌, ◌↔◌, ◌^◌, ◌<◌, ◌≤◌, ◌-◌, length, min, get_or, All, true};
 ghost use Rattle.aug_trie.specs.declared.updates.request.Request.TheVariants as request;
-ghost use Rattle.aug_c.specs.Handles.{user_of, On};
 ghost use Rattle.aug_c.specs.ArrayCalls.{change_by, changes, AsksFrom, MakesEach, UpdatesAll, UpdatesAllFree};
 ghost use Rattle.aug_c.specs.inside.KeyRequests.{request_by, requests_of};
 
 use crate::codes::{BAD_KEY, BAD_LENGTH, CLOSED, LOOKING};
-use crate::progress::Progress;
-use crate::refusal::Refusal;
-use crate::seat::{AccessOf, Seat};
-use crate::user_handle::UserHandle;
+use crate::raw_handle::RawHandle;
+use crate::refusal::CallRefusal;
+use crate::state::{HandleState, SummedAccess};
 use aug_trie::{Outcome, Request};
 
-/// What is done with each key.
+/// How far a call for an array has come. C has it zeroed before the first call.
+#[repr(C)]
 #[derive(Clone, Copy)]
-pub enum Each {
-    /// It is put in, with itself as its weight.
-    Inserted,
-
-    /// It is taken out.
-    Removed,
-
-    /// It is put in with the weight that has its index.
-    Put,
+pub struct ArrayProgress {
+    /// For how many of the keys an update was made.
+    pub made: u32,
+    /// How many of these changed the set.
+    pub changed: u32,
 }
 
-impl Each {
-    #[inline(always)]
-    fn request(self, weight: u32) -> Request
-        ensures { result ≡ request_by self weight }
-    {
-        match self {
-            Each::Inserted => Request::Insert,
-            Each::Removed => Request::Remove,
-            Each::Put => Request::Put(weight),
-        }
+// What is asked of a key with this weight, where this is asked of each.
+#[inline(always)]
+fn with_weight(each: Request, weight: u32) -> Request
+    ensures { result ≡ request_by each weight }
+{
+    match each {
+        Request::Put(_) => Request::Put(weight),
+        other => other,
     }
 }
 
@@ -79,25 +72,25 @@ fn changed_in(outcomes: &[Outcome]) -> u32
 }
 
 // What is asked of the keys of a batch, whose first weight has this index.
-fn requests_from(each: Each, weights: &[u32], first: usize) -> [Request; BATCH]
+fn requests_from(each: Request, weights: &[u32], first: usize) -> [Request; BATCH]
     requires { first < length weights.now }
     ensures { AsksFrom (requests_of each weights.now) first (min 32 (length weights.now - first)) result }
 {
-    let mut requests = [each.request(0); BATCH];
+    let mut requests = [with_weight(each, 0); BATCH];
     for place in 0..BATCH.min(weights.len() - first) {
-        requests[place] = each.request(weights[first + place]);
+        requests[place] = with_weight(each, weights[first + place]);
     }
     requests
 }
 
 // Makes an update for each key from the index on that the progress has come to, in batches, until one is not made.
 fn update_each(
-    access: &mut AccessOf,
-    each: Each,
+    access: &mut SummedAccess,
+    each: Request,
     keys: &[u32],
     weights: &[u32],
-    before: Progress,
-) -> (Progress, i64)
+    before: ArrayProgress,
+) -> (ArrayProgress, i64)
     requires below { All (λ k. k < 2 ^ access.old.half.round.bits) keys.now }
     requires weights { length weights.now ≡ length keys.now }
     requires few { length keys.now ≤ 4294967295 }
@@ -119,14 +112,14 @@ fn update_each(
                 so_far.made += count as u32;
                 so_far.changed += changed_in(&outcomes[..count]);
             }
-            Err(cause) => return (so_far, Refusal::of(cause).code()),
+            Err(cause) => return (so_far, CallRefusal::of(cause).code()),
         }
     }
     (so_far, 0)
 }
 
 // Whether the lengths and the progress are those of a call for so many keys.
-fn has_lengths(universe: u32, keys: usize, weights: usize, progress: Progress) -> bool
+fn has_lengths(universe: u32, keys: usize, weights: usize, progress: ArrayProgress) -> bool
     ensures { (result ≡ true) ↔ ((weights ≡ keys) × (keys ≤ universe) × (progress.made ≤ keys) × (progress.changed ≤ progress.made)) }
 {
     weights == keys
@@ -137,11 +130,11 @@ fn has_lengths(universe: u32, keys: usize, weights: usize, progress: Progress) -
 
 // Makes updates by a user that holds no look.
 fn update_all_by(
-    access: &mut AccessOf,
-    each: Each,
+    access: &mut SummedAccess,
+    each: Request,
     keys: &[u32],
     weights: &[u32],
-    progress: &mut Progress,
+    progress: &mut ArrayProgress,
 ) -> i64
     ensures { UpdatesAllFree (requests_of each weights.now) keys.now (length weights.now) progress.old progress.new access.old access.new result }
 {
@@ -157,81 +150,60 @@ fn update_all_by(
     code
 }
 
-fn update_all_in(
-    user: &mut Option<Seat>,
-    each: Each,
-    keys: &[u32],
-    weights: &[u32],
-    progress: &mut Progress,
-) -> i64
-    ensures updates { On (UpdatesAll (requests_of each weights.now) keys.now (length weights.now) progress.old progress.new) user.old user.new result }
-    ensures closed { IsNone user.old → progress.new ≡ progress.old }
-{
-    match user {
-        None => CLOSED,
-        Some(Seat::Looking(_)) => LOOKING,
-        Some(Seat::Free(access)) => update_all_by(access, each, keys, weights, progress),
-    }
-}
-
 // Makes updates by a handle's user.
 fn update_all(
-    user: &mut UserHandle,
-    each: Each,
+    user: &mut RawHandle,
+    each: Request,
     keys: &[u32],
     weights: &[u32],
-    progress: &mut Progress,
+    progress: &mut ArrayProgress,
 ) -> i64
-    ensures updates { On (UpdatesAll (requests_of each weights.now) keys.now (length weights.now) progress.old progress.new) (user_of user.old) (user_of user.new) result }
-    ensures closed { IsNone (user_of user.old) → progress.new ≡ progress.old }
-    ensures foreign { IsNone user.old.held.value → user.new ≡ user.old }
+    ensures { UpdatesAll (requests_of each weights.now) keys.now (length weights.now) progress.old progress.new user.old user.new result }
 {
     if !user.is_open() {
         return CLOSED;
     }
-    update_all_in(&mut user.held.as_slot().seat, each, keys, weights, progress)
+    match &mut user.held.as_slot().state {
+        HandleState::Free(access) => update_all_by(access, each, keys, weights, progress),
+        HandleState::Looking(_) => LOOKING,
+        _ => CLOSED,
+    }
 }
 
 /// Puts each key in, with itself as its weight, from the index on that the progress has come to. Answers 0 once an update was made for
 /// each, and `BAD_LENGTH` or `BAD_KEY` if none is made. After `AGAIN` the same call goes on.
 #[unsafe(no_mangle)]
 pub extern "C" fn aug_try_insert_all(
-    user: &mut UserHandle,
+    user: &mut RawHandle,
     keys: &[u32],
-    progress: &mut Progress,
+    progress: &mut ArrayProgress,
 ) -> i64
-    ensures updates { On (UpdatesAll (λ _. request.Insert) keys.now (length keys.now) progress.old progress.new) (user_of user.old) (user_of user.new) result }
-    ensures closed { IsNone (user_of user.old) → progress.new ≡ progress.old }
-    ensures foreign { IsNone user.old.held.value → user.new ≡ user.old }
+    ensures { UpdatesAll (λ _. request.Insert) keys.now (length keys.now) progress.old progress.new user.old user.new result }
 {
-    update_all(user, Each::Inserted, keys, keys, progress)
+    update_all(user, Request::Insert, keys, keys, progress)
 }
 
 /// Takes each key out, as `aug_try_insert_all` puts it in.
 #[unsafe(no_mangle)]
 pub extern "C" fn aug_try_remove_all(
-    user: &mut UserHandle,
+    user: &mut RawHandle,
     keys: &[u32],
-    progress: &mut Progress,
+    progress: &mut ArrayProgress,
 ) -> i64
-    ensures updates { On (UpdatesAll (λ _. request.Remove) keys.now (length keys.now) progress.old progress.new) (user_of user.old) (user_of user.new) result }
-    ensures closed { IsNone (user_of user.old) → progress.new ≡ progress.old }
-    ensures foreign { IsNone user.old.held.value → user.new ≡ user.old }
+    ensures { UpdatesAll (λ _. request.Remove) keys.now (length keys.now) progress.old progress.new user.old user.new result }
 {
-    update_all(user, Each::Removed, keys, keys, progress)
+    update_all(user, Request::Remove, keys, keys, progress)
 }
 
 /// Puts each key in with the weight that has its index, or gives a member this weight, as `aug_try_insert_all`.
 #[unsafe(no_mangle)]
 pub extern "C" fn aug_try_put_all(
-    user: &mut UserHandle,
+    user: &mut RawHandle,
     keys: &[u32],
     weights: &[u32],
-    progress: &mut Progress,
+    progress: &mut ArrayProgress,
 ) -> i64
-    ensures updates { On (UpdatesAll (λ place. request.Put (get_or weights.now place 0)) keys.now (length weights.now) progress.old progress.new) (user_of user.old) (user_of user.new) result }
-    ensures closed { IsNone (user_of user.old) → progress.new ≡ progress.old }
-    ensures foreign { IsNone user.old.held.value → user.new ≡ user.old }
+    ensures { UpdatesAll (λ place. request.Put (get_or weights.now place 0)) keys.now (length weights.now) progress.old progress.new user.old user.new result }
 {
-    update_all(user, Each::Put, keys, weights, progress)
+    update_all(user, Request::Put(0), keys, weights, progress)
 }

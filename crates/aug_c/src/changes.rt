@@ -1,20 +1,20 @@
 //! What changed between the snapshot that a look showed before, or a list of the caller's, and the snapshot that it shows.
-ghost use Rattle.std.specs.Prelude.{◌≡◌, ◌<◌, ◌++◌, ◌↔◌, Some, IsNone, true, length, map, take, drop, min, get_or};
+ghost use Rattle.std.specs.Prelude.{◌≡◌, ◌<◌, ◌++◌, ◌↔◌, true, length, map, take, drop, min, get_or};
 ghost use Rattle.std.specs.List.Sorted.{IsStrictlyIncreasing};
-ghost use Rattle.aug_c.specs.ChangeCalls.{ListsAllChanges, ListsAllSince, ListsChanges, ListsSince, change_of, set_of_arrays};
-ghost use Rattle.aug_c.specs.Handles.{user_of, On};
+ghost use Rattle.aug_c.specs.ChangeCalls.{ListsChanges, ListsSince, change_of, set_of_arrays};
+ghost use Rattle.aug_c.specs.Handles.{AsksUser};
 
 use crate::codes::{BAD_KEY, BAD_LENGTH, CLOSED, NOT_LOOKING};
 use crate::queries::Number;
-use crate::seat::{LookOf, Seat};
-use crate::user_handle::UserHandle;
+use crate::raw_handle::RawHandle;
+use crate::state::{HandleState, SummedLook};
 use aug_model::Difference;
 use aug_query::MemberList;
 
 /// A key whose weight differs between two snapshots.
 #[repr(C)]
 #[derive(Clone, Copy)]
-pub struct Change {
+pub struct WeightChange {
     /// The key.
     pub key: u32,
     /// What it weighed in the earlier snapshot, or -1 if it was no member.
@@ -23,10 +23,10 @@ pub struct Change {
     pub now: i64,
 }
 
-fn as_change(one: Difference) -> Change
+fn as_change(one: Difference) -> WeightChange
     ensures { result ≡ change_of one }
 {
-    Change {
+    WeightChange {
         key: one.key,
         before: one.before.number(),
         now: one.after.number(),
@@ -34,7 +34,7 @@ fn as_change(one: Difference) -> Change
 }
 
 // Writes the first changes of a page, as many as there are places for, and tells how many these are.
-fn put(page: &[Difference], out: &mut [Change]) -> usize
+fn put(page: &[Difference], out: &mut [WeightChange]) -> usize
     ensures written { out.new ≡ take result (map change_of page.now) ++ drop result out.old }
     ensures counts { result ≡ min (length out.old) (length page.now) }
 {
@@ -45,36 +45,27 @@ fn put(page: &[Difference], out: &mut [Change]) -> usize
     count
 }
 
-fn page_of(look: &mut LookOf, from: u32, out: &mut [Change]) -> i64
+fn page_of(look: &mut SummedLook, from: u32, out: &mut [WeightChange]) -> i64
     ensures { ListsChanges from out.old out.new look.old look.new result }
 {
     let page = look.changes(from);
     put(page.as_slice(), out) as i64
 }
 
-fn changes_in(user: &mut Option<Seat>, from: u32, out: &mut [Change]) -> i64
-    ensures lists { On (ListsAllChanges from out.old out.new) user.old user.new result }
-    ensures closed { IsNone user.old → out.new ≡ out.old }
-{
-    match user {
-        None => CLOSED,
-        Some(Seat::Free(_)) => NOT_LOOKING,
-        Some(Seat::Looking(held)) => page_of(&mut held.look, from, out),
-    }
-}
-
 /// Writes a page of what changed between the snapshot that the user's look showed before and the one that it shows: the first changes with rising keys
 /// from `from` on, at most 32, and as many as `out` has places for. Answers how many.
 #[unsafe(no_mangle)]
-pub extern "C" fn aug_try_changes(user: &mut UserHandle, from: u32, out: &mut [Change]) -> i64
-    ensures lists { On (ListsAllChanges from out.old out.new) (user_of user.old) (user_of user.new) result }
-    ensures closed { IsNone (user_of user.old) → out.new ≡ out.old }
-    ensures foreign { IsNone user.old.held.value → user.new ≡ user.old }
+pub extern "C" fn aug_try_changes(user: &mut RawHandle, from: u32, out: &mut [WeightChange]) -> i64
+    ensures { AsksUser (ListsChanges from out.old out.new) (out.new ≡ out.old) user.old user.new result }
 {
     if !user.is_open() {
         return CLOSED;
     }
-    changes_in(&mut user.held.as_slot().seat, from, out)
+    match &mut user.held.as_slot().state {
+        HandleState::Looking(held) => page_of(&mut held.look, from, out),
+        HandleState::Free(_) => NOT_LOOKING,
+        _ => CLOSED,
+    }
 }
 
 // Members that rise in one array, and their weights in another.
@@ -123,11 +114,11 @@ fn is_rising(keys: &[u32]) -> bool
 }
 
 fn page_since(
-    look: &mut LookOf,
+    look: &mut SummedLook,
     keys: &[u32],
     weights: &[u32],
     from: u32,
-    out: &mut [Change],
+    out: &mut [WeightChange],
 ) -> i64
     ensures { ListsSince keys.now weights.now from out.old out.new look.old look.new result }
 {
@@ -142,40 +133,25 @@ fn page_since(
     put(page.as_slice(), out) as i64
 }
 
-fn changes_since_in(
-    user: &mut Option<Seat>,
-    keys: &[u32],
-    weights: &[u32],
-    from: u32,
-    out: &mut [Change],
-) -> i64
-    ensures lists { On (ListsAllSince keys.now weights.now from out.old out.new) user.old user.new result }
-    ensures closed { IsNone user.old → out.new ≡ out.old }
-{
-    match user {
-        None => CLOSED,
-        Some(Seat::Free(_)) => NOT_LOOKING,
-        Some(Seat::Looking(held)) => page_since(&mut held.look, keys, weights, from, out),
-    }
-}
-
 /// Writes a page of what changed between a set that the caller kept and the snapshot that the user's look shows, as `aug_try_changes`. The set's members
 /// are `keys`, and each weighs what stands in `weights` at its place. Answers `BAD_LENGTH` if there are not as many weights as keys, and `BAD_KEY` if the
 /// keys do not rise.
 #[unsafe(no_mangle)]
 pub extern "C" fn aug_try_changes_since(
-    user: &mut UserHandle,
+    user: &mut RawHandle,
     keys: &[u32],
     weights: &[u32],
     from: u32,
-    out: &mut [Change],
+    out: &mut [WeightChange],
 ) -> i64
-    ensures lists { On (ListsAllSince keys.now weights.now from out.old out.new) (user_of user.old) (user_of user.new) result }
-    ensures closed { IsNone (user_of user.old) → out.new ≡ out.old }
-    ensures foreign { IsNone user.old.held.value → user.new ≡ user.old }
+    ensures { AsksUser (ListsSince keys.now weights.now from out.old out.new) (out.new ≡ out.old) user.old user.new result }
 {
     if !user.is_open() {
         return CLOSED;
     }
-    changes_since_in(&mut user.held.as_slot().seat, keys, weights, from, out)
+    match &mut user.held.as_slot().state {
+        HandleState::Looking(held) => page_since(&mut held.look, keys, weights, from, out),
+        HandleState::Free(_) => NOT_LOOKING,
+        _ => CLOSED,
+    }
 }

@@ -8,7 +8,7 @@ use aug_live::{Busy, TryError};
 
 /// Why an update or a look was not made.
 #[derive(Clone, Copy)]
-pub enum Refusal {
+pub enum CallRefusal {
     /// The key is none of the trie.
     BadKey,
 
@@ -19,15 +19,15 @@ pub enum Refusal {
     Closed,
 }
 
-impl Refusal {
+impl CallRefusal {
     // A user's lane is given to nobody else, and no machine exhausts a trie: what is not busy is closed.
     #[inline(always)]
-    pub(crate) fn of(cause: TryError<Busy>) -> Refusal
+    pub(crate) fn of(cause: TryError<Busy>) -> CallRefusal
         ensures { result ≡ refusal_of cause }
     {
         match cause {
-            TryError::Again(_) => Refusal::Again,
-            TryError::Refused(_) => Refusal::Closed,
+            TryError::Again(_) => CallRefusal::Again,
+            TryError::Refused(_) => CallRefusal::Closed,
         }
     }
 
@@ -36,9 +36,9 @@ impl Refusal {
         ensures { result ≡ refusal_code self }
     {
         match self {
-            Refusal::BadKey => BAD_KEY,
-            Refusal::Again => AGAIN,
-            Refusal::Closed => CLOSED,
+            CallRefusal::BadKey => BAD_KEY,
+            CallRefusal::Again => AGAIN,
+            CallRefusal::Closed => CLOSED,
         }
     }
 }

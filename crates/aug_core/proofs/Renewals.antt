@@ -18,7 +18,8 @@ use Rattle.aug_core.specs.Kinds.{load_node}
 use Rattle.aug_core.specs.Effects.{Sat, opening_of, seeing}
 use Rattle.aug_core.specs.Pasts.{IsEarlier}
 use Rattle.aug_core.specs.Eras.{IsAtWork, seen_in, table_in, opening_with, Remembers, Works, IsPast, Renews, Ruled}
-use Rattle.aug_core.specs.Renewals.{HoldsAll, renewing, rewriting, rewrote, reread, EndWith, began_renewal, IsOpened, reopening, reopened}
+use Rattle.aug_core.specs.Renewals.{HoldsAll, renewing, rewriting, rewrote, reread, EndWith, surveyed, began_renewal, IsOpened, reopening, reopened}
+use Rattle.aug_core.specs.inside.EraSteps.{WithEra}
 use Rattle.aug_core.specs.declared.view.Held.{Held}
 use Rattle.aug_core.specs.declared.view.PastEra.{PastEra}
 use Rattle.aug_core.specs.declared.view.SeatView.{SeatView}
@@ -32,7 +33,7 @@ use Rattle.aug_core.proofs.Loads.{shows_node}
 use Rattle.aug_core.proofs.Stores.{alone}
 use Rattle.aug_core.proofs.Views.{now_there}
 use Rattle.aug_core.proofs.Openings.{IsAlone, opens}
-use Rattle.aug_core.proofs.Eras.{seen_now, seen_past, hands_out, none_renews, stands_now}
+use Rattle.aug_core.proofs.Eras.{seen_now, seen_past, hands_out, none_renews, stands_now, in_its_era}
 
 -- ---- words open a table over one set alone
 
@@ -146,6 +147,41 @@ module _ (face : ℕ → ℕ → List (ℕ × ℕ) → List ℕ) (shape : Shape)
     inr (renews_on s id v at l (set s.words i (get_or s.words i 0)) v refl refl does l.no_work refl (same ∙ l.words_are) (ap length same ∙ l.wide)),
     (empty, refl, ap (λ (z : List ℕ). get_or z i 0) l.words_are),
   )
+
+  -- ---- a survey
+
+  -- a load under the rule of an opening, with which the table then meets that rule
+  surveys_under : (o : Opening) (n id i : ℕ) (me : Sat) → me.0.live ≡ true → me.1 ≡ [] → Allows (Kept face o) n id me i (λ z. z) (WithEra me (surveyed face (step n i 0 0 none) me))
+  surveys_under o n id i me live empty s r _ at _ =
+      let v : SeatView = me.0 in let found : ℕ = get_or s.words i 0 in let w : SeatView = seeing v r.book (load_node i found) in let kn = r.each_view id v at in
+      let kept = watches face o s r id v at v.began (load_node i found) i in (
+        w,
+        keeps,
+        tt,
+        kept,
+        (
+          (
+            empty,
+            λ inner. record {
+              loaded = shows_node face o s r id v at live i inner;
+              words = s.words;
+              wide = r.tree.wide ∙ ap word_count (sym (kn.shaped live));
+              ends = subst (λ (z : Opening). EndWith face z w s.words) (λ k. record { shape = sym (kn.shaped live) k; members = sym (kn.same_members live) k }) record {
+                state = record { words = set s.words i found; homes = s.homes; views = set s.views id w };
+                kept = kept;
+                words_are = set-get_or s.words i 0;
+                seat = id;
+                view_is = now_there s.views id v w at;
+              };
+            },
+          ),
+          record { live = refl; era = refl; past = refl; shape = refl; members = refl; told = refl; renews = refl },
+        ),
+      )
+
+  -- who is at work may survey its table
+  pub surveys : (n id i : ℕ) (me : Sat) → IsAtWork me.0 → me.0.live ≡ true → me.1 ≡ [] → Allows (Ruled face shape) n id me i (λ z. z) (surveyed face (step n i 0 0 none) me)
+  surveys n id i me work live empty = in_its_era face shape n id i me (λ z. z) (surveyed face (step n i 0 0 none) me) work (λ o. surveys_under o n id i me live empty)
 
   -- ---- the beginning
 

@@ -67,6 +67,17 @@ module _ (face : ℕ → ℕ → List (ℕ × ℕ) → List ℕ) where
     pub wide : length w.words ≡ word_count v.shape
     pub ends : EndWith (opening_of v) last w.words
 
+  -- a load of a node's word by a seat that stays at work shows it the book, and the table met the rule then, with its view and these words. If the seat
+  -- is a lead that holds all lanes which it handed out, this is the last book of the round, and its account can be closed while its table is still there
+  pub record Surveys (v : SeatView) (q r : ℕ) (w : SeatView) : Type 0 where
+    pub loaded : LoadsNode face v q r w
+    pub words : List ℕ
+    pub wide : length words ≡ word_count v.shape
+    pub ends : EndWith (opening_of w) w words
+
+  abbrev pub surveyed : Step (Unit {0}) → Sat → ℕ → Sat → Type 0
+  surveyed st m r m' = (m'.1 ≡ []) × (IsInner m.0.shape st.word → Surveys m.0 st.word r m'.0)
+
   abbrev pub began_renewal : Step (Unit {0}) → Sat → ℕ → Sat → Type 0
   began_renewal st m r m' = (m'.1 ≡ []) × (IsInner m.0.shape st.word → BeginsRenewal m.0 st.word r m'.0)
 

@@ -1,7 +1,7 @@
 //! What each step shows. These types are only for the proofs.
 ghost use Rattle.aug_core.specs.Effects.{read_record, stored_record, took_lane, finished_lane, handing_out, handed_out, taking_back, noting, noted, spent, loaded_leaf, began_at_leaf, tried_leaf, loaded_node, tried_node};
 ghost use Rattle.aug_core.specs.Learning.{learning, loaded_after_note};
-ghost use Rattle.aug_core.specs.Renewals.{rewrote, reread, began_renewal, reopened};
+ghost use Rattle.aug_core.specs.Renewals.{rewrote, reread, surveyed, began_renewal, reopened};
 ghost use Rattle.aug_core.specs.Faces.{face};
 
 use crate::view::SeatView;
@@ -125,6 +125,15 @@ pub struct TryAnyNode<A, B> {
 
 impl<A: Monoid, B: Monoid> Play<(), SeatView> for TryAnyNode<A, B> {
     ghost then = { tried_node (face A.parts B.parts) };
+}
+
+/// A load of a node's word by a seat that stays at work, which shows that its table meets the rule with its view.
+pub struct Survey<A, B> {
+    sums: PhantomData<(A, B)>,
+}
+
+impl<A: Monoid, B: Monoid> Play<(), SeatView> for Survey<A, B> {
+    ghost then = { surveyed (face A.parts B.parts) };
 }
 
 /// A load of a node's word, by which a lead that holds all lanes begins to renew its table.

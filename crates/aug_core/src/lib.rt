@@ -12,8 +12,8 @@ mod view;
 
 pub use effects::{
     BeginAtLeaf, BeginRenewal, FinishOwnLane, HandOut, LoadAfterNote, LoadAnyLeaf, LoadAnyNode,
-    LoadAnyRecord, LoadAnyWord, MakeNote, OpenAgain, StoreAnyWord, StoreOwnRecord, TakeBack,
-    TakeNote, TakeOwnLane, TryAnyLeaf, TryAnyNode,
+    LoadAnyRecord, LoadAnyWord, MakeNote, OpenAgain, StoreAnyWord, StoreOwnRecord, Survey,
+    TakeBack, TakeNote, TakeOwnLane, TryAnyLeaf, TryAnyNode,
 };
 pub use field::{RECORD_WORDS, RecordField};
 pub use lane::{LANE_ENDED, LANE_FREE, LANE_TAKEN};

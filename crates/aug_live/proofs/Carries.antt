@@ -2,12 +2,11 @@
 use Rattle.std.proofs.Common.{◌≡◌, ◌⊎◌, inl, inr, ℕ, ◌+◌, List, [], ◌∷◌, ◌++◌, true, false, sym, refl, ap, ◌∙◌, subst, arith}
 use Rattle.std.specs.Prelude.{Bool, Option, None, Some, Result, Ok, Err, IfOk, IfErr}
 use Rattle.std.proofs.lemmas.Bool.{false≢true}
-use Rattle.std.proofs.lemmas.List.{append-nil}
 use mathlib.Core.Logic.{dite}
 use native.Mathlib.Decide.{ℕ_discrete}
 use Rattle.aug_core.specs.Cuts.{Cut, pairs_of_cut}
 use Rattle.aug_core.specs.Prefixes.{IsPrefix}
-use Rattle.aug_core.proofs.PrefixLemmas.{prefix_trans}
+use Rattle.aug_core.proofs.PrefixLemmas.{prefix_refl, prefix_trans}
 use Rattle.aug_trie.specs.Chains.{Chapter, BeginsWith, IsPart}
 use Rattle.aug_trie.specs.History.{IsHistory, last_cut}
 use Rattle.aug_trie.specs.Knowledge.{Knowledge}
@@ -15,8 +14,8 @@ use Rattle.aug_trie.specs.Updates.{ComesTo, Updates}
 use Rattle.aug_trie.specs.declared.updates.told.Told.{Told}
 use Rattle.aug_trie.specs.declared.updates.request.Request.{Request}
 use Rattle.aug_trie.specs.declared.updates.request.Request.TheVariants as asked
-use Rattle.aug_trie.specs.declared.updates.outcome.Outcome.{Outcome}
-use Rattle.aug_trie.specs.declared.updates.outcome.Outcome.TheVariants as outcome
+use Rattle.aug_model.specs.declared.outcome.Outcome.{Outcome}
+use Rattle.aug_model.specs.declared.outcome.Outcome.TheVariants as outcome
 use Rattle.atomic_table.specs.Seated.{TableId}
 use Rattle.aug_trie.specs.Pass.{PassFacts, GoesOn, chain_of}
 use Rattle.aug_trie.specs.Round.{RoundFacts, TableFacts, table_of}
@@ -31,9 +30,9 @@ use Rattle.aug_live.specs.declared.lane.Obstacle.{Obstacle}
 use Rattle.aug_live.specs.declared.lane.Obstacle.TheVariants.{Held, Round, Replaced}
 use Rattle.aug_live.specs.declared.error.TryError.{TryError}
 use Rattle.aug_live.specs.declared.error.TryError.TheVariants.{Again, Refused}
-use Rattle.aug_live.specs.LiveHandles.{HandleFacts, IsSuccessor, Follows, Makes, SameHandle, WhoFacts, added}
+use Rattle.aug_live.specs.LiveHandles.{HandleFacts, IsSuccessor, Follows, Makes, Runs, SameHandle, Spends, WhoFacts, added}
 use Rattle.aug_live.specs.LiveTries.{KnowsMore, TrieFacts}
-use Rattle.aug_live.specs.inside.LaneKnowledge.{EndFacts, KnownFacts, LaneFacts, EndStays, OutFacts, Seen, Worked, WorksHere, handle_by, rounds_at, who_by, worked}
+use Rattle.aug_live.specs.inside.LaneKnowledge.{EndFacts, KnownFacts, LaneFacts, EndStays, MakesNothing, OutFacts, RunsHere, Seen, Worked, handle_by, rounds_at, who_by, worked}
 use Rattle.aug_live.proofs.Adding.{same_made}
 use Rattle.aug_live.proofs.Lanes.{ids_more, more_on, more_self}
 
@@ -131,31 +130,44 @@ follows_by : (who who' : WhoFacts) (made made' : List Made) (a b : HandleFacts) 
 follows_by who who' made made' a b is same f = record { not_later = f.not_later; same = f.same; goes_on = f.goes_on; led = f.led; table = f.table; bits = f.bits; same_handle = is; made = same }
 
 -- an update from where the lane stands, and where that follows
-pub makes_on : (updates : ℕ) (does : PassFacts → PassFacts → Type 0) (a b c : HandleFacts) → Follows a b → Makes updates does b c → Makes updates does a c
-makes_on updates does a b c x m = record { start = m.start; follows = follows_on a b m.start x m.follows; same_era = m.same_era; done = m.done; steps = m.steps; goes_on = m.goes_on; who = m.who; made = m.made }
+pub runs_on : (does : PassFacts → PassFacts → Type 0) (a b c : HandleFacts) → Follows a b → Runs does b c → Runs does a c
+runs_on does a b c x r = record { start = r.start; follows = follows_on a b r.start x r.follows; same_era = r.same_era; done = r.done; who = r.who; made = r.made }
+
+-- after an operation that made nothing it is where it may run another one
+pub runs_follow : (does : PassFacts → PassFacts → Type 0) (a b : HandleFacts) (r : Runs does a b) → MakesNothing r.start.half b.half → Follows a b
+runs_follow does a b r none = let s : HandleFacts = r.start in let succ = none.0 in
+    follows_on a s b r.follows record {
+      not_later = let e = r.same_era in omega arith;
+      same = λ _. inr succ;
+      goes_on = successor_part s.half b.half succ;
+      led = λ less. let e = r.same_era in absurd (omega arith);
+      table = ap (λ (z : RoundFacts). z.table) succ.round;
+      bits = ap (λ (z : RoundFacts). z.bits) succ.round;
+      same_handle = who_kept s.who b.who r.who;
+      made = r.made ∙ same_made s.made b.era s.half b.half none.1;
+    }
+
+-- what an operation did, told otherwise
+pub runs_map : {T E : Type 0} (r : Result T E) (runs does : T → PassFacts → PassFacts → Type 0) (a b : HandleFacts) → ((t : T) (x y : PassFacts) → runs t x y → does t x y) → IfOk r (λ t. Runs (runs t) a b) → IfOk r (λ t. Runs (does t) a b)
+runs_map (Ok t) runs does a b is r = record { start = r.start; follows = r.follows; same_era = r.same_era; done = is t r.start.half b.half r.done; who = r.who; made = r.made }
+runs_map (Err e) runs does a b is r = r
+
+-- one that makes nothing
+pub nothing_made : {T E : Type 0} (r : Result T E) (runs : T → PassFacts → PassFacts → Type 0) (a b : HandleFacts) → ((t : T) (x y : PassFacts) → runs t x y → MakesNothing x y) → IfOk r (λ t. Runs (runs t) a b) → IfErr r (λ _. Follows a b) → Follows a b
+nothing_made (Ok t) runs a b none m not = runs_follow (runs t) a b m (none t m.start.half b.half m.done)
+nothing_made (Err e) runs a b none m not = not
+
+pub same_nothing : (a b : PassFacts) → b ≡ a → MakesNothing a b
+same_nothing a b is = subst (MakesNothing a) (sym is) (record { round = refl; past = refl; goes_on = prefix_refl a.knows.history }, refl)
 
 -- after updates that changed nothing it is where it may make another one
 pub none_follows : (updates : ℕ) (does : PassFacts → PassFacts → Type 0) (a b : HandleFacts) (m : Makes updates does a b) → IsPrefix m.start.half.knows.history b.half.knows.history × (b.half.knows.accepted ≡ m.start.half.knows.accepted) → Follows a b
-none_follows updates does a b m none = let s : HandleFacts = m.start in let on = m.goes_on.same in
-    let succ : IsSuccessor s.half b.half = record { round = ap (λ (z : PassFacts). z.round) on; past = ap (λ (z : PassFacts). z.past) on; goes_on = none.0 } in
-    follows_on a s b m.follows record {
-      not_later = let e = m.same_era in omega arith;
-      same = λ _. inr succ;
-      goes_on = successor_part s.half b.half succ;
-      led = λ less. let e = m.same_era in absurd (omega arith);
-      table = ap (λ (z : RoundFacts). z.table) succ.round;
-      bits = ap (λ (z : RoundFacts). z.bits) succ.round;
-      same_handle = who_kept s.who b.who m.who;
-      made = m.made ∙ same_made s.made b.era s.half b.half none.1;
-    }
+none_follows updates does a b m none = let on = m.done.2.same in
+    runs_follow (Spends updates does) a b m (record { round = ap (λ (z : PassFacts). z.round) on; past = ap (λ (z : PassFacts). z.past) on; goes_on = none.0 }, none.1)
 
 -- as after one that was refused
 pub refused_follows : (request : Request) (key : ℕ) (told : Told) (a b : HandleFacts) → told.outcome ≡ outcome.Refused → Makes 1 (λ x y. Updates request key told x.knows y.knows) a b → Follows a b
-refused_follows request key told a b refused m = none_follows 1 _ a b m (refused_same request key m.start.half.knows b.half.knows (subst (λ (z : Outcome). ComesTo request key z m.start.half.knows b.half.knows) refused m.done.0))
-
--- a call of a handle leaves it at its trie
-pub makes_table : (updates : ℕ) (does : PassFacts → PassFacts → Type 0) (a b : HandleFacts) → Makes updates does a b → b.half.round.table ≡ a.half.round.table
-makes_table updates does a b m = ap (λ (z : PassFacts). z.round.table) m.goes_on.same ∙ m.follows.table
+refused_follows request key told a b refused m = none_follows 1 _ a b m (refused_same request key m.start.half.knows b.half.knows (subst (λ (z : Outcome). ComesTo request key z m.start.half.knows b.half.knows) refused m.done.0.0))
 
 -- a handle's end of a lane, before a call and after it
 module _ (trie : TrieFacts) (place : ℕ) (lock lock' : TableId) (v : KnownFacts) (old new : LaneFacts) (follows : Follows v.at old.at) where
@@ -168,15 +180,13 @@ module _ (trie : TrieFacts) (place : ℕ) (lock lock' : TableId) (v : KnownFacts
   abbrev who : WhoFacts
   who = who_by trie place v
 
-  -- its pass made an update, or learned something
-  pub works_make : (updates : ℕ) (does : PassFacts → PassFacts → Type 0) → WorksHere updates does old.at new.at → Makes updates does before after
-  works_make updates does w = record {
+  -- its pass ran an operation, or learned something
+  pub works_run : (does : PassFacts → PassFacts → Type 0) → RunsHere does old.at new.at → Runs does before after
+  works_run does w = record {
     start = record old.at { who = who; made = v.made };
     follows = follows_by who who v.made v.made v.at old.at (same_who who) refl follows;
     same_era = w.same_era;
     done = w.done;
-    steps = w.steps;
-    goes_on = w.goes_on;
     who = refl;
     made = refl;
   }
@@ -203,9 +213,7 @@ module _ (trie : TrieFacts) (place : ℕ) (now : HandleFacts) (inside : Option E
         start = record lane.at { who = who; made = end.known.made };
         follows = follows_by who who end.known.made end.known.made end.known.at lane.at (same_who who) refl follows;
         same_era = refl;
-        done = subst (λ (z : PassFacts). does z looks) work did;
-        steps = steps;
-        goes_on = subst (λ (z : PassFacts). GoesOn 0 steps z looks) work on;
+        done = subst (λ (z : PassFacts). Spends 0 does z looks) work (did, steps, on);
         who = refl;
         made = sym (same_made end.known.made lane.at.era lane.at.half looks (none ∙ ap (λ (z : PassFacts). z.knows.accepted) work));
       } in
@@ -216,9 +224,9 @@ module _ (trie : TrieFacts) (place : ℕ) (now : HandleFacts) (inside : Option E
     both P p = let put : record { lock = out.lock; known = worked end.known lane new } ≡ result = λ i. sym (is ∙ (λ j. record { lock = out.lock; known = worked (known j) (taken j) new })) i in
         subst (λ (z : HandleFacts × EndFacts). P z.0 (handle_by trie place (Some z.1))) (λ i. (own i, put i)) p
 
-    pub made_end : {T E : Type 0} (r : Result T E) (updates : T → ℕ) (does : T → PassFacts → PassFacts → Type 0) → IfOk r (λ done. WorksHere (updates done) (does done) lane.at new.at) → IfOk r (λ done. Makes (updates done) (does done) now (handle_by trie place (Some result)))
-    made_end (Ok done) updates does w = both (Makes (updates done) (does done)) (works_make trie place end.lock out.lock end.known lane new follows (updates done) (does done) w)
-    made_end (Err e) updates does w = w
+    pub ran_end : {T E : Type 0} (r : Result T E) (does : T → PassFacts → PassFacts → Type 0) → IfOk r (λ done. RunsHere (does done) lane.at new.at) → IfOk r (λ done. Runs (does done) now (handle_by trie place (Some result)))
+    ran_end (Ok done) does w = both (Runs (does done)) (works_run trie place end.lock out.lock end.known lane new follows (does done) w)
+    ran_end (Err e) does w = w
 
     pub follow_end : new.at.half.knows.accepted ≡ lane.at.half.knows.accepted → Follows lane.at new.at → Follows now (handle_by trie place (Some result))
     follow_end same more = both Follows (works_follow trie place end.lock out.lock end.known lane new follows same more)
@@ -283,10 +291,7 @@ refused_map P Q (Ok t) f p = p
 refused_map P Q (Err (Again missed)) f p = p
 refused_map P Q (Err (Refused cause)) f p = f cause p
 
--- a lane whose pass made an update
-pub works_here : (updates steps : ℕ) (does : PassFacts → PassFacts → Type 0) (a : HandleFacts) (b : PassFacts) → does a.half b → GoesOn updates steps a.half b → WorksHere updates does a (record a { half = b })
-works_here updates steps does a b did on = record { same_era = refl; done = did; steps = steps; goes_on = on }
-
+-- a lane whose pass did something
 pub worked_here : (lane : LaneFacts) (b : PassFacts) → lane.works ≡ true → rounds_at b ≡ rounds_at lane.at.half → IsPrefix lane.at.half.knows.accepted b.knows.accepted → Worked lane (record lane { works = true; at = record lane.at { half = b } })
 worked_here lane b works rounds accepts = record {
   era = refl;
@@ -298,14 +303,6 @@ worked_here lane b works rounds accepts = record {
   accepts = accepts;
 }
 
--- one whose pass learned something
-pub learnt_follows : (steps : ℕ) (a : HandleFacts) (b : PassFacts) → IsPrefix a.half.knows.history b.knows.history → GoesOn 0 steps a.half b → Follows a (record a { half = b })
-learnt_follows steps a b more on = follows_pass a b record {
-  round = ap (λ (z : PassFacts). z.round) on.same;
-  past = ap (λ (z : PassFacts). z.past) on.same;
-  goes_on = more;
-}
-
 -- a lane whose pass was made of the half that lay there, and then a half again
 module _ (lane rest new : LaneFacts) (work pass after half : PassFacts) (works : lane.works ≡ true) (is : work ≡ lane.at.half) (left : rest ≡ record lane { works = false }) (of : pass ≡ work) (ends : half ≡ after)
     (put : new ≡ record rest { works = true; at = record rest.at { half = half } }) where
@@ -315,14 +312,11 @@ module _ (lane rest new : LaneFacts) (work pass after half : PassFacts) (works :
   now : new ≡ record lane { works = true; at = record lane.at { half = after } }
   now = put ∙ (λ i. record (left i) { works = true; at = record (left i).at { half = ends i } })
 
-  pub makes_by : (updates steps : ℕ) (does : PassFacts → PassFacts → Type 0) → does pass after → GoesOn updates steps pass after → WorksHere updates does lane.at new.at
-  makes_by updates steps does did on = subst (λ (z : PassFacts × LaneFacts). WorksHere updates does (record lane.at { half = z.0 }) z.1.at) (λ i. (was i, sym now i)) (works_here updates steps does (record lane.at { half = pass }) after did on)
+  pub runs_by : (does : PassFacts → PassFacts → Type 0) → does pass after → RunsHere does lane.at new.at
+  runs_by does did = record { same_era = ap (λ (z : LaneFacts). z.at.era) now; done = subst (λ (z : PassFacts × LaneFacts). does z.0 z.1.at.half) (λ i. (was i, sym now i)) did }
 
   pub worked_by : rounds_at after ≡ rounds_at pass → IsPrefix pass.knows.accepted after.knows.accepted → Worked lane new
   worked_by rounds accepts = subst (Worked lane) (sym now) (worked_here lane after works (rounds ∙ ap rounds_at was) (subst (λ (z : PassFacts). IsPrefix z.knows.accepted after.knows.accepted) was accepts))
-
-  pub learns_by : (steps : ℕ) → IsPrefix pass.knows.history after.knows.history → GoesOn 0 steps pass after → Follows lane.at new.at
-  learns_by steps more on = subst (λ (z : PassFacts × LaneFacts). Follows (record lane.at { half = z.0 }) z.1.at) (λ i. (was i, sym now i)) (learnt_follows steps (record lane.at { half = pass }) after more on)
 
 -- one that got the next pass of its round in the place of one that went back to their crew
 pub replaced_follows : (a : HandleFacts) (b : PassFacts) (history : List Cut) → rounds_at b ≡ rounds_at a.half → IsPrefix a.half.knows.history history → IsPrefix history b.knows.history → Follows a (record a { half = b })

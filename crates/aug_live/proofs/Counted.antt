@@ -5,6 +5,7 @@ use Rattle.std.proofs.Common.{◌≡◌, ◌⊎◌, ℕ, ◌+◌, ◌^◌, ◌<�
 use Rattle.std.proofs.lemmas.List.{append-nil}
 use Rattle.aug_core.specs.Cuts.{opening_cut}
 use Rattle.aug_core.specs.Prefixes.{IsPrefix}
+use Rattle.aug_core.proofs.PrefixLemmas.{prefix_trans}
 use Rattle.aug_core.specs.declared.view.Change.{Change}
 use Rattle.aug_model.specs.Keys.{SetFacts}
 use Rattle.aug_trie.specs.Chains.{Chapter, Chain, BeginsWith, IsPart, chapters}
@@ -18,8 +19,7 @@ use Rattle.aug_trie.proofs.Chaining.{begins_alike, begins_longer, part_trans}
 use Rattle.aug_live.specs.Carrying.{Leads}
 use Rattle.aug_live.specs.Ledgers.{Made, made_in}
 use Rattle.aug_live.specs.LiveErrors.{IsExhausted}
-use Rattle.aug_live.specs.LiveTries.{TrieFacts, KnowsMore, AreChangesOf, AreCountsOf, AreMadeIn, CameBack, Closes, LaneKnown, LanesGoOn, in_all, lost_of, made_through}
-use Rattle.aug_live.specs.inside.Desks.{TakesEnd}
+use Rattle.aug_live.specs.LiveTries.{TrieFacts, KeepsHandles, KnowsMore, AreChangesOf, AreCountsOf, AreMadeIn, CameBack, Closes, LaneKnown, LanesGoOn, in_all, lost_of, made_through}
 use Rattle.aug_live.specs.inside.SameChanges.{SameChanges}
 use Rattle.aug_live.proofs.Ledgers.{changes_by, inserts_by, removals_by}
 use Rattle.aug_live.proofs.Lanes.{known_before, lanes_trans}
@@ -29,8 +29,8 @@ use Rattle.aug_live.proofs.Carries.{leads_on}
 use Rattle.aug_live.proofs.Moving.{next_past}
 
 -- whoever knew less can say the same of how a trie was closed, and of a handle that came back
-pub closes_from : (a b : TrieFacts) (set : SetFacts) (counts : LiveCounts) → KnowsMore a b → b.given ≡ a.given → Closes b set counts → Closes a set counts
-closes_from a b set counts m given c = record {
+pub closes_from : (a b : TrieFacts) (set : SetFacts) (counts : LiveCounts) → KeepsHandles a b → Closes b set counts → Closes a set counts
+closes_from a b set counts k c = let m = k.more in record {
   rounds = c.rounds;
   part = part_trans a.rounds b.rounds c.rounds m.part c.part;
   bits = c.bits ∙ m.bits;
@@ -39,14 +39,14 @@ closes_from a b set counts m given c = record {
   lanes = c.lanes;
   lanes_go_on = lanes_trans a.lanes b.lanes c.lanes m.lanes c.lanes_go_on;
   counted = subst (λ (n : ℕ). AreCountsOf n (chapters c.rounds) (flat_map (λ (lane : LaneKnown). made_through lane.done) c.lanes) counts.inserts counts.removals) m.bits c.counted;
-  given_are = c.given_are ∙ given;
+  given_are = c.given_are ∙ k.given;
   handles_are = c.handles_are;
   missing_are = c.missing_are;
 }
 
-pub came_from : (a b c : TrieFacts) (number : ℕ) (made : List Made) → KnowsMore a b → TakesEnd number made b c → CameBack made a c
-came_from a b c number made m t = let was = known_before a.lanes b.lanes m.lanes number t.lane t.was in
-    record { number = number; lane = was.0; later = t.later; was = was.1; is = t.is; before = t.lane.done; goes_on = was.2.done; done = t.done }
+pub came_from : (a b c : TrieFacts) (made : List Made) → KnowsMore a b → CameBack made b c → CameBack made a c
+came_from a b c made m t = let was = known_before a.lanes b.lanes m.lanes t.number t.lane t.was in
+    record { number = t.number; lane = was.0; later = t.later; was = was.1; is = t.is; before = t.before; goes_on = prefix_trans was.0.done t.lane.done t.before was.2.done t.goes_on; done = t.done }
 
 -- what a crew knows of its rounds, where it learned more of the last one
 pub crew_part : (a b : CrewFacts) → rounds_in b ≡ rounds_in a → IsPrefix a.knows.history b.knows.history → IsPart (crew_chain a) (crew_chain b)
@@ -105,6 +105,10 @@ pub desk_on : (t : TrieFacts) {h h' n n' : ℕ} (table : TableFacts) (crew crew'
     → LanesGoOn xs ys → IsPart (crew_chain crew) (crew_chain crew') → KnowsMore t (record { closed = false; table = table.table; bits = table.bits; lanes = ys; held = h'; given = n'; rounds = crew_chain crew' })
 desk_on t {h} {h'} {n} {n'} table crew crew' xs ys is lanes part = subst (λ (z : TrieFacts). KnowsMore z (record { closed = false; table = table.table; bits = table.bits; lanes = ys; held = h'; given = n'; rounds = crew_chain crew' })) is
     (record { closed = λ c. c; table = refl; bits = refl; lanes = lanes; part = part })
+
+pub desk_keeps : (t : TrieFacts) {h h' n : ℕ} (table : TableFacts) (crew crew' : CrewFacts) (xs ys : List LaneKnown) → record { closed = false; table = table.table; bits = table.bits; lanes = xs; held = h; given = n; rounds = crew_chain crew } ≡ t
+    → LanesGoOn xs ys → IsPart (crew_chain crew) (crew_chain crew') → KeepsHandles t (record { closed = false; table = table.table; bits = table.bits; lanes = ys; held = h'; given = n; rounds = crew_chain crew' })
+desk_keeps t table crew crew' xs ys is lanes part = record { more = desk_on t table crew crew' xs ys is lanes part; given = ap (λ (z : TrieFacts). z.given) is }
 
 -- all that a crew knew of its rounds is known to that of the next round
 pub rolled_part : (crew first : CrewFacts) (list : List (ℕ × ℕ)) (inserts removals : ℕ) → RollsOver crew first list inserts removals → IsPart (crew_chain crew) (crew_chain first)

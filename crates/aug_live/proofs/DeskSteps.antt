@@ -1,5 +1,5 @@
 -- Each step on the lock of the desk keeps its rule.
-use Rattle.std.proofs.Common.{◌≡◌, ◌≢◌, ◌⊎◌, inl, inr, ℕ, zero, suc, ◌<◌, List, [], ◌∷◌, set, true, false, sym, refl, ap, ◌∙◌, subst, ⊎_elim, arith}
+use Rattle.std.proofs.Common.{◌≡◌, ◌≢◌, inl, inr, ℕ, zero, suc, ◌<◌, List, [], ◌∷◌, set, true, false, sym, refl, ap, ◌∙◌, subst, ⊎_elim, arith}
 use Rattle.std.specs.Prelude.{Option, Some, None, IfSome, IsSome}
 use Rattle.std.specs.Option.{is_some}
 use Rattle.std.proofs.lemmas.Bool.{false≢true, cases_Bool}
@@ -7,11 +7,11 @@ use mathlib.Core.Option.{some, some-injective, some-ne-none}
 use lib.ListN.{get_elem?}
 use Rattle.atomic_table.proofs.Lists.{at_set}
 use Rattle.atomic_table.specs.declared.shared.Seat.{Seat}
-use Rattle.ruled_lock.specs.Locks.{Forks, Holds, IsSameKey, Learns, client_of}
+use Rattle.ruled_lock.specs.Locks.{Forks, Holds, Learns, client_of}
 use Rattle.ruled_lock.specs.declared.holding.Holding.{Holding}
-use Rattle.aug_live.specs.LiveTries.{TrieFacts, KnowsMore}
+use Rattle.aug_live.specs.LiveTries.{KeepsHandles, KnowsMore, TrieFacts}
 use Rattle.aug_live.specs.declared.desk_end.Desk.{Desk}
-use Rattle.aug_live.specs.inside.DeskKnowledge.{EndKnows, GoesOnFrom, IsOwner, KnowsDesk, KnowsOwn, Moves, OnDesk, is_known, known_after}
+use Rattle.aug_live.specs.inside.DeskKnowledge.{EndKnows, GoesOnFrom, KnowsDesk, KnowsOwn, Moves, OnDesk, is_known, known_after}
 use Rattle.aug_live.specs.inside.LaneKnowledge.{no_trie}
 use Rattle.aug_live.proofs.Lanes.{more_on, more_self}
 use Rattle.aug_live.proofs.Tied.{snoc_at}
@@ -170,19 +170,22 @@ pub closed_more : (v : TrieFacts) → KnowsMore v (record v { closed = true })
 closed_more v = record { closed = λ _. refl; table = refl; bits = refl; lanes = (more_self v).lanes; part = (more_self v).part }
 
 -- an end that took a round off the desk, and lays there what became of it
-module _ {A B : Type 0} (before pass : Seat (Option (Desk A B)) (Holding (Desk A B) TrieFacts)) where
-  pub owner_still : IsSameKey before pass → client_of pass ≡ client_of before → IsOwner before.id (client_of before) → IsOwner pass.id (client_of pass)
-  owner_still same view owner = subst (λ (z : ℕ × TrieFacts). IsOwner z.0 z.1) (λ i. (sym same.1 i, sym view i)) owner
+module _ {A B : Type 0} (pass : Seat (Option (Desk A B)) (Holding (Desk A B) TrieFacts)) where
+  pub took_from : (v : TrieFacts) (desk : Desk A B) (was : TrieFacts) → client_of pass ≡ v → Holds desk None pass → desk.working ≡ Some was → KnowsDesk v desk → GoesOnFrom pass was
+  took_from v desk was view holds is k = let there : desk.opened ≡ true = k.there (subst (λ (z : Option TrieFacts). IsSome z) (sym is) refl) in record {
+    was = was;
+    holds = subst (λ (z : Desk A B). Holds z None pass) (λ i. record { working = is i; opened = there i }) holds;
+    knows = subst (λ (z : TrieFacts). KnowsMore z was) (sym view) (subst (λ (z : Option TrieFacts). IfSome z (KnowsMore v)) is k.knows);
+    more = more_self was;
+    given = inr refl;
+  }
 
-  module _ (was now : TrieFacts) (view : client_of pass ≡ client_of before) (holds : Holds (record { working = Some was; opened = true }) None pass) (knows : KnowsMore (client_of before) was) (more : KnowsMore was now) where
-    goes_on : (pass.id ≡ 0) ⊎ (now.given ≡ was.given) → GoesOnFrom pass now
-    goes_on given = record { was = was; holds = holds; knows = subst (λ (z : TrieFacts). KnowsMore z was) (sym view) knows; more = more; given = given }
+  module _ (was now : TrieFacts) (from : GoesOnFrom pass was) where
+    pub keeps_from : KeepsHandles was now → GoesOnFrom pass now
+    keeps_from k = record { was = from.was; holds = from.holds; knows = from.knows; more = more_on from.was was now from.more k.more; given = ⊎_elim (λ own. inl own) (λ same. inr (k.given ∙ same)) from.given }
 
-    pub owner_lays : IsSameKey before pass → IsOwner before.id (client_of before) → GoesOnFrom pass now
-    owner_lays same owner = goes_on (inl (same.1 ∙ owner.first))
-
-    pub handle_lays : now.given ≡ was.given → GoesOnFrom pass now
-    handle_lays same = goes_on (inr same)
+    pub owner_from : pass.id ≡ 0 → KnowsMore was now → GoesOnFrom pass now
+    owner_from own more = record { was = from.was; holds = from.holds; knows = from.knows; more = more_on from.was was now from.more more; given = inl own }
 
 -- what is known then, by what was known
 pub knows_on_from : (own mine new : TrieFacts) → mine ≡ own → KnowsMore mine new → KnowsMore own new

@@ -5,7 +5,7 @@ use mathlib.Core.Option.{some, some-injective, some-ne-none}
 use lib.ListN.{get_elem?}
 use Rattle.aug_core.proofs.PrefixLemmas.{prefix_refl, prefix_trans}
 use Rattle.aug_trie.proofs.Chaining.{part_refl, part_trans}
-use Rattle.aug_live.specs.LiveTries.{KnowsMore, LaneGoesOn, LaneKnown, LanesGoOn, TrieFacts, ids_of}
+use Rattle.aug_live.specs.LiveTries.{KeepsHandles, KnowsMore, LaneGoesOn, LaneKnown, LanesGoOn, TrieFacts, ids_of}
 use Rattle.aug_live.specs.inside.LaneKnowledge.{EndFacts, lane_by}
 use Rattle.aug_live.specs.inside.Rolls.{given_all, kept_of}
 
@@ -81,6 +81,16 @@ more_self t = record { closed = λ c. c; table = refl; bits = refl; lanes = lane
 
 pub more_on : (a b c : TrieFacts) → KnowsMore a b → KnowsMore b c → KnowsMore a c
 more_on a b c x y = record { closed = λ d. y.closed (x.closed d); table = y.table ∙ x.table; bits = y.bits ∙ x.bits; lanes = lanes_trans a.lanes b.lanes c.lanes x.lanes y.lanes; part = part_trans a.rounds b.rounds c.rounds x.part y.part }
+
+pub keeps_self : (t : TrieFacts) → KeepsHandles t t
+keeps_self t = record { more = more_self t; given = refl }
+
+pub keeps_on : (a b c : TrieFacts) → KeepsHandles a b → KeepsHandles b c → KeepsHandles a c
+keeps_on a b c x y = record { more = more_on a b c x.more y.more; given = y.given ∙ x.given }
+
+-- the same by equal states
+pub keeps_by : (own mine was new : TrieFacts) → mine ≡ own → KeepsHandles mine was → new ≡ was → KeepsHandles own new
+keeps_by own mine was new same k is = subst (λ (z : TrieFacts × TrieFacts). KeepsHandles z.0 z.1) (λ i. (same i, sym is i)) k
 
 pub ids_more : (a b : TrieFacts) → KnowsMore a b → ids_of b ≡ ids_of a
 ids_more a b more = ids_same a.lanes b.lanes more.lanes

@@ -1,8 +1,6 @@
 -- What a pop is for a handle: what it accepted, and that one that was refused changes nothing.
-use Rattle.std.proofs.Common.{◌≡◌, ℕ, List, [], Option, Some, None, sym, ap, ◌∙◌, subst}
-use Rattle.std.proofs.lemmas.List.{append-nil}
+use Rattle.std.proofs.Common.{◌≡◌, ℕ, List, Option, Some, None, sym, ap, ◌∙◌, subst}
 use Rattle.aug_core.specs.Prefixes.{IsPrefix}
-use Rattle.aug_core.specs.declared.view.Change.{Change}
 use Rattle.aug_core.proofs.PrefixLemmas.{prefix_trans}
 use Rattle.aug_model.specs.Keys.{list_of}
 use Rattle.aug_model.specs.declared.summary.Summary.{Summary}
@@ -13,7 +11,6 @@ use Rattle.aug_trie.specs.Snapshot.{set_at}
 use Rattle.aug_trie.specs.declared.rounds.pop.Pop.{Pop}
 use Rattle.aug_trie.specs.declared.rounds.pop.Pop.TheVariants as pop
 use Rattle.aug_trie.specs.declared.rounds.pop.Side.{Side}
-use Rattle.aug_trie.specs.declared.updates.outcome.Outcome.TheVariants as outcome
 use Rattle.aug_trie.specs.declared.updates.request.Request.TheVariants as asked
 use Rattle.aug_live.specs.LiveHandles.{HandleFacts, Follows, Makes}
 use Rattle.aug_live.proofs.Carries.{refused_same, none_follows}
@@ -34,21 +31,6 @@ module _ {A B : Type 0} (summary_of : List (ℕ × ℕ) → Summary A B) (side :
       by_found (Some k) is = let same = refused_same (asked.Take is.0) k p.asked.knows new.knows is.2.comes_to in
           (prefix_trans old.knows.history p.asked.knows.history new.knows.history before.0 same.0, same.1 ∙ before.1)
 
-  -- what it accepted stands behind what was accepted before
-  pub pop_accepts : (done : Pop) (old new : PassFacts) → Pops summary_of side done old new → IsPrefix old.knows.accepted new.knows.accepted
-  pop_accepts done old new p = by_found (member_at side (list_of (set_at p.looked p.snapshot))) done p.pops_to
-    where
-      before : p.asked.knows.accepted ≡ old.knows.accepted
-      before = (asked_same done old new p).1
-
-      by_found : (found : Option ℕ) (done : Pop) → PopsTo summary_of (set_at p.looked p.snapshot) found done p.asked new → IsPrefix old.knows.accepted new.knows.accepted
-      by_found None pop.Empty is = ([], ap (λ (z : PassFacts). z.knows.accepted) is ∙ before ∙ sym (append-nil old.knows.accepted))
-      by_found None (pop.Member key weight) is = absurd is
-      by_found None pop.Refused is = absurd is
-      by_found (Some k) pop.Empty is = absurd is
-      by_found (Some k) (pop.Member key weight) is = subst (λ (z : List Change). IsPrefix z new.knows.accepted) before (_, is.2.steps.stored)
-      by_found (Some k) pop.Refused is = subst (λ (z : List Change). IsPrefix z new.knows.accepted) before (_, is.2.steps.stored)
-
   -- after a pop that was refused a handle is where it may make another one
   pub refused_pop_follows : (a b : HandleFacts) → Makes 1 (Pops summary_of side pop.Refused) a b → Follows a b
-  refused_pop_follows a b m = none_follows 1 (Pops summary_of side pop.Refused) a b m (refused_pop m.start.half b.half m.done)
+  refused_pop_follows a b m = none_follows 1 (Pops summary_of side pop.Refused) a b m (refused_pop m.start.half b.half m.done.0)

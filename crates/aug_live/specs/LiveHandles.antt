@@ -68,16 +68,22 @@ pub record Follows (old new : HandleFacts) : Type 0 where
   pub same_handle : SameHandle old.who new.who
   pub made : new.made ≡ old.made
 
--- a handle makes `updates` updates: rounds may roll over first, and then its pass does what `does` says. What its pass accepted with that is made through it
-pub record Makes (updates : ℕ) (does : PassFacts → PassFacts → Type 0) (old new : HandleFacts) : Type 0 where
+-- a handle runs an operation: rounds may roll over first, and then its pass does what `does` says. What its pass accepted with that is made through it
+pub record Runs (does : PassFacts → PassFacts → Type 0) (old new : HandleFacts) : Type 0 where
   pub start : HandleFacts
   pub follows : Follows old start
   pub same_era : new.era ≡ start.era
   pub done : does start.half new.half
-  pub steps : ℕ
-  pub goes_on : GoesOn updates steps start.half new.half
   pub who : new.who ≡ start.who
   pub made : new.made ≡ start.made ++ dated new.era (added start.half new.half)
+
+-- a pass does this with so many updates
+abbrev pub Spends : ℕ → (PassFacts → PassFacts → Type 0) → PassFacts → PassFacts → Type 0
+Spends updates does old new = does old new × (steps : ℕ) × GoesOn updates steps old new
+
+-- a handle makes so many updates
+abbrev pub Makes : ℕ → (PassFacts → PassFacts → Type 0) → HandleFacts → HandleFacts → Type 0
+Makes updates does = Runs (Spends updates does)
 
 -- so many of some, and not none if there are some
 abbrev pub IsSomeOf : ℕ → ℕ → Type 0

@@ -65,6 +65,11 @@ pub record KnowsMore (old new : TrieFacts) : Type 0 where
   pub lanes : LanesGoOn old.lanes new.lanes
   pub part : IsPart old.rounds new.rounds
 
+-- and no handle was made of it
+pub record KeepsHandles (old new : TrieFacts) : Type 0 where
+  pub more : KnowsMore old new
+  pub given : new.given ≡ old.given
+
 -- a trie that was just opened over a set
 pub record IsOpenedTrie (set : SetFacts) (handles : ℕ) (trie : TrieFacts) : Type 0 where
   pub given : trie.given ≡ handles

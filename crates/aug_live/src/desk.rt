@@ -1,5 +1,5 @@
 //! The desk: the round that goes on, and the roller's ends of all lanes.
-ghost use Rattle.std.specs.Prelude.{◌≡◌, ◌+◌, ◌<◌, ◌≤◌, IfOk, IfErr, IsErr, length, vec_len, vec_capacity};
+ghost use Rattle.std.specs.Prelude.{◌≡◌, ◌+◌, ◌<◌, ◌≤◌, IfOk, IfErr, length, vec_len, vec_capacity};
 ghost use Rattle.std.specs.Arc.{arc_value};
 ghost use Rattle.std.specs.List.{insert};
 ghost use mathlib.Core.Option.{some};
@@ -8,13 +8,15 @@ ghost use Rattle.atomic_table.specs.Seated.{TableId};
 ghost use Rattle.aug_trie.specs.Note.{chain_of_note};
 ghost use Rattle.aug_trie.specs.Chains.{IsPart};
 ghost use Rattle.aug_live.specs.LiveErrors.{IfRefused, RefusesBack, RefusesLane, RefusesRoll};
-ghost use Rattle.aug_live.specs.LiveTries.{Closes, KnowsMore, ids_of};
-ghost use Rattle.aug_live.specs.inside.Desks.{GivesLane, TakesEnd};
-ghost use Rattle.aug_live.specs.declared.known.Whose.TheVariants.{Handle};
+ghost use Rattle.aug_live.specs.LiveHandles.{IsHandleOf};
+ghost use Rattle.aug_live.specs.LiveTries.{CameBack, Closes, KeepsHandles, KnowsMore, ids_of};
+ghost use Rattle.aug_live.specs.declared.known.Whose.TheVariants as whose;
 
 use crate::counts::LiveCounts;
+use crate::desk_end::DeskEnd;
 use crate::end::End;
 use crate::error::{LiveError, TryError};
+use crate::handle::Handle;
 use crate::held::{Emptied, Held};
 use crate::plan::Plan;
 use crate::rolling::{deal_all, finish, give_all, take_all};
@@ -70,8 +72,7 @@ impl<A: Monoid, B: Monoid> Working<A, B> {
     ) -> Result<(Members, LiveCounts), (Working<A, B>, W::GaveUp)>
         ensures closes { IfOk result (λ t. Closes self t.0 t.1) }
         ensures sizes { IfOk result (λ t. length t.0.pairs + t.1.removals ≡ t.1.opened + t.1.inserts) }
-        ensures more { IfErr result (λ e. KnowsMore self e.0) }
-        ensures given { IfErr result (λ e. e.0.given ≡ self.given) }
+        ensures goes_on { IfErr result (λ e. KeepsHandles self e.0) }
     {
         let mut working = self;
         if let Err(missed) = take_all(how, &mut working.ports, &mut working.held) {
@@ -103,8 +104,7 @@ impl<A: Monoid, B: Monoid> Working<A, B> {
         self,
         how: &W,
     ) -> (Working<A, B>, Result<(), TryError<W::GaveUp>>)
-        ensures more { KnowsMore self result.0 }
-        ensures given { result.0.given ≡ self.given }
+        ensures goes_on { KeepsHandles self result.0 }
         ensures rolls { IfOk result.1 (λ _. length self.rounds.past < length result.0.rounds.past) }
         ensures settled { IfOk result.1 (λ _. result.0.held ≡ 0) }
         ensures refused { IfErr result.1 (IfRefused (RefusesRoll result.0)) }
@@ -159,8 +159,7 @@ impl<A: Monoid, B: Monoid> Working<A, B> {
         self,
         how: &W,
     ) -> (Working<A, B>, Result<(), TryError<W::GaveUp>>)
-        ensures more { KnowsMore self result.0 }
-        ensures given { result.0.given ≡ self.given }
+        ensures goes_on { KeepsHandles self result.0 }
         ensures settled { IfOk result.1 (λ _. result.0.held ≡ 0) }
         ensures refused { IfErr result.1 (IfRefused (RefusesRoll result.0)) }
     {
@@ -171,22 +170,23 @@ impl<A: Monoid, B: Monoid> Working<A, B> {
         }
     }
 
-    /// Sees to it that a lane which was spent in this era has a pass: that of a newer round, a spare lane of the same, or one of the next, which
-    /// then begins.
+    /// Rolls the round over if that was begun, and then sees to it that a lane has a pass, if it was spent in this era: that of a newer round, a spare
+    /// lane of the same, or one of the next, which then begins.
     pub(crate) fn past<W: Patience>(
         self,
         how: &W,
-        era: u64,
-        lane: usize,
+        spent: Option<(u64, usize)>,
     ) -> (Working<A, B>, Result<(), TryError<W::GaveUp>>)
-        ensures more { KnowsMore self result.0 }
-        ensures given { result.0.given ≡ self.given }
+        ensures goes_on { KeepsHandles self result.0 }
         ensures refused { IfErr result.1 (IfRefused (RefusesRoll result.0)) }
     {
         let (mut working, settled) = self.settle(how);
         if let Err(cause) = settled {
             return (working, Err(cause));
         }
+        let Some((era, lane)) = spent else {
+            return (working, Ok(()));
+        };
         match working.goes_on(how, era, lane) {
             Ok(true) => (working, Ok(())),
             Ok(false) => working.roll(how),
@@ -197,8 +197,7 @@ impl<A: Monoid, B: Monoid> Working<A, B> {
     /// Whether the round of this era is over, or goes on with a spare lane in the place of the one with this number.
     fn goes_on<W: Patience>(&mut self, how: &W, era: u64, lane: usize) -> Result<bool, W::GaveUp>
         requires settled { self.old.held ≡ 0 }
-        ensures more { KnowsMore self.old self.new }
-        ensures given { self.new.given ≡ self.old.given }
+        ensures goes_on { KeepsHandles self.old self.new }
     {
         if self.counts.rounds != era {
             return Ok(true);
@@ -225,9 +224,8 @@ impl<A: Monoid, B: Monoid> Working<A, B> {
     /// Has the crew know what a note of this trie tells.
     pub(crate) fn learn(self, note: Note<A, B>) -> Working<A, B>
         requires { note.round.table ≡ self.table }
-        ensures more { KnowsMore self result }
+        ensures goes_on { KeepsHandles self result }
         ensures held { result.held ≡ self.held }
-        ensures given { result.given ≡ self.given }
         ensures learns { IsPart (chain_of_note note) result.rounds }
     {
         let mut working = self;
@@ -244,14 +242,13 @@ impl<A: Monoid, B: Monoid> Working<A, B> {
         end: End<A, B>,
     ) -> Result<(), (End<A, B>, TryError<W::GaveUp>)>
         requires settled { self.old.held ≡ 0 }
-        requires handle { end.known.whose ≡ Handle }
+        requires handle { end.known.whose ≡ whose.Handle }
         requires some { 0 < end.known.at.era }
         requires number { end.known.number ≡ number }
         requires lane { lane < length self.old.lanes }
         requires lock { (id : TableId) → get_elem? (ids_of self.old) lane ≡ some id → end.lock ≡ id }
-        ensures more { KnowsMore self.old self.new }
-        ensures given { self.new.given ≡ self.old.given }
-        ensures takes { IfOk result (λ _. TakesEnd lane end.known.made self.old self.new) }
+        ensures goes_on { KeepsHandles self.old self.new }
+        ensures takes { IfOk result (λ _. CameBack end.known.made self.old self.new) }
         ensures same { IfErr result (λ e. e.0 ≡ end) }
         ensures refused { IfErr result (λ e. IfRefused (RefusesBack lane number self.new) e.1) }
     {
@@ -268,22 +265,23 @@ impl<A: Monoid, B: Monoid> Working<A, B> {
         }
     }
 
-    /// Gives a lane to a new handle, whose end it answers with an owner of the round, the bits of its keys and its number. The handle knows all that the
-    /// crew does.
+    /// Gives a lane to a new handle with this end of the desk. The handle knows all that the crew does.
     ///
     /// Refused with `NoLane`, with `Exhausted` if the handles cannot be counted further, and with `TooMany`.
-    pub(crate) fn renew<W: Patience>(
+    pub(crate) fn give<W: Patience>(
         &mut self,
         how: &W,
         lane: usize,
-    ) -> Result<(End<A, B>, SharedRound<A, B>, u32, u64), TryError<W::GaveUp>>
+        desk: DeskEnd<A, B>,
+    ) -> Result<Handle<A, B>, TryError<W::GaveUp>>
         requires settled { self.old.held ≡ 0 }
+        requires desk { ids_of desk ≡ ids_of self.old }
         ensures more { KnowsMore self.old self.new }
         ensures given { IfOk result (λ _. self.new.given ≡ self.old.given + 1) }
         ensures none_given { IfErr result (λ _. self.new.given ≡ self.old.given) }
-        ensures handle { IfOk result (λ h. GivesLane lane self.new h.0 (arc_value h.1) h.2 h.3) }
+        ensures bits { IfOk result (λ h. h.half.round.bits ≤ 16) }
+        ensures of_trie { IfOk result (IsHandleOf lane self.new) }
         ensures refused { IfErr result (IfRefused (RefusesLane lane self.new)) }
-        ensures past { length self.old.lanes ≤ lane → IsErr result }
     {
         if lane >= self.ports.len() {
             return Err(TryError::Refused(LiveError::NoLane));
@@ -304,7 +302,14 @@ impl<A: Monoid, B: Monoid> Working<A, B> {
                 put_in(&mut self.ports, lane, port);
                 self.counts.handles = number;
                 self.counts.missing += 1;
-                Ok((end, round, self.bits, number))
+                Ok(Handle {
+                    end: Some(end),
+                    bits: self.bits,
+                    lane,
+                    number,
+                    round,
+                    desk,
+                })
             }
             Err((port, missed)) => {
                 put_in(&mut self.ports, lane, port);

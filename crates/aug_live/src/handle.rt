@@ -1,5 +1,5 @@
 //! The end of a lane that a thread works with.
-ghost use Rattle.std.specs.Prelude.{◌≡◌, ◌≢◌, ℕ, ◌^◌, ◌<◌, ◌≤◌, All, length, take, IfOk, IfErr};
+ghost use Rattle.std.specs.Prelude.{◌≡◌, ◌≢◌, ◌^◌, ◌<◌, ◌≤◌, All, length, take, IfOk, IfErr};
 ghost use Rattle.std.specs.Bool.{OnTrue, OnFalse};
 ghost use Rattle.aug_trie.specs.Knowledge.{insertion, removal};
 ghost use Rattle.aug_trie.specs.declared.updates.request.Request.TheVariants as asked;
@@ -14,13 +14,14 @@ ghost use Rattle.aug_model.specs.Folds.{summary_of};
 ghost use Rattle.aug_monoid.specs.Extent.{extent_parts};
 ghost use Rattle.aug_live.specs.LiveErrors.{IfRefused, RefusesCall};
 ghost use Rattle.aug_live.specs.inside.LaneKnowledge.{Seen};
-ghost use Rattle.aug_live.specs.LiveHandles.{AllOrSpent, Follows, IsSomeOf, Makes, handle_of, note_at};
+ghost use Rattle.aug_live.specs.LiveHandles.{AllOrSpent, Follows, IsSomeOf, Makes, Runs, handle_of, note_at};
 
 use crate::desk_end::DeskEnd;
 use crate::end::End;
 use crate::error::{Busy, LiveError, TryError};
 use crate::lane::{Lane, Obstacle};
 use crate::look::Look;
+use crate::operation::{Batch, LearnNote, MakeNote, OneUpdate, Operation, PopAt};
 use crate::work::SharedRound;
 use aug_monoid::{Extent, Monoid};
 use aug_trie::{Note, Outcome, Pop, Request, Side, Told};
@@ -150,16 +151,7 @@ impl<A: Monoid, B: Monoid> Handle<A, B> {
         ensures not_made { IfErr result (λ _. Follows self.old self.new) }
         ensures refused { IfErr result (RefusesCall self.new) }
     {
-        for _ in rt.forever() {
-            let obstacle = match self.attempt(k, request) {
-                Ok(told) => return Ok(told),
-                Err(obstacle) => obstacle,
-            };
-            if let Err(cause) = self.wait_past(rt, obstacle) {
-                return Err(cause);
-            }
-        }
-        unreachable!()
+        self.make(rt, &mut OneUpdate(k, request))
     }
 
     /// The same, and waits for nobody. `Again` if the lane is spent and somebody has the desk, or if a roll-over is due and another handle is in a
@@ -171,32 +163,10 @@ impl<A: Monoid, B: Monoid> Handle<A, B> {
         ensures not_made { IfErr result (λ _. Follows self.old self.new) }
         ensures refused { IfErr result (IfRefused (RefusesCall self.new)) }
     {
-        match self.attempt(k, request) {
+        // Each has a value of its own, so that the first one need not lie in memory.
+        match self.attempt(&mut OneUpdate(k, request)) {
             Ok(told) => Ok(told),
-            Err(obstacle) => self.try_again(k, request, obstacle),
-        }
-    }
-
-    // Sees to it that the lane can go on, and makes the update then, unless it would have to wait. That is seldom, so it stands out of line.
-    #[inline(never)]
-    fn try_again(
-        &mut self,
-        k: u32,
-        request: Request,
-        obstacle: Obstacle,
-    ) -> Result<Told, TryError<Busy>>
-        requires key { k < 2 ^ self.old.half.round.bits }
-        requires seen { Seen obstacle self.old.who.replaced }
-        ensures made { IfOk result (λ told. Makes 1 (λ a b. Updates request k told a.knows b.knows) self.old self.new) }
-        ensures not_made { IfErr result (λ _. Follows self.old self.new) }
-        ensures refused { IfErr result (IfRefused (RefusesCall self.new)) }
-    {
-        if let Err(cause) = self.try_past(obstacle) {
-            return Err(cause);
-        }
-        match self.attempt(k, request) {
-            Ok(told) => Ok(told),
-            Err(obstacle) => Err(self.still(obstacle)),
+            Err(obstacle) => self.try_again(&mut OneUpdate(k, request), obstacle),
         }
     }
 
@@ -219,16 +189,12 @@ impl<A: Monoid, B: Monoid> Handle<A, B> {
         ensures not_made { IfErr result (λ _. Follows self.old self.new) }
         ensures refused { IfErr result (RefusesCall self.new) }
     {
-        for _ in rt.forever() {
-            let obstacle = match self.attempt_all(keys, requests, outcomes) {
-                Ok(count) => return Ok(count),
-                Err(obstacle) => obstacle,
-            };
-            if let Err(cause) = self.wait_past(rt, obstacle) {
-                return Err(cause);
-            }
-        }
-        unreachable!()
+        let mut batch = Batch {
+            keys,
+            requests,
+            outcomes,
+        };
+        self.make(rt, &mut batch)
     }
 
     /// The same, and waits for nobody, as `try_update`.
@@ -247,17 +213,12 @@ impl<A: Monoid, B: Monoid> Handle<A, B> {
         ensures not_made { IfErr result (λ _. Follows self.old self.new) }
         ensures refused { IfErr result (IfRefused (RefusesCall self.new)) }
     {
-        let obstacle = match self.attempt_all(keys, requests, outcomes) {
-            Ok(count) => return Ok(count),
-            Err(obstacle) => obstacle,
+        let mut batch = Batch {
+            keys,
+            requests,
+            outcomes,
         };
-        if let Err(cause) = self.try_past(obstacle) {
-            return Err(cause);
-        }
-        match self.attempt_all(keys, requests, outcomes) {
-            Ok(count) => Ok(count),
-            Err(obstacle) => Err(self.still(obstacle)),
-        }
+        self.try_make(&mut batch)
     }
 
     /// Takes a snapshot to query. The look owns the handle, and `Look::done` gives it back; after a refusal it comes back at once. As
@@ -315,16 +276,7 @@ impl<A: Monoid, B: Monoid> Handle<A, B> {
         ensures follows { Follows self.old self.new }
         ensures refused { IfErr result (RefusesCall self.new) }
     {
-        for _ in rt.forever() {
-            let obstacle = match self.attempt_note() {
-                Ok(note) => return Ok(note),
-                Err(obstacle) => obstacle,
-            };
-            if let Err(cause) = self.wait_past(rt, obstacle) {
-                return Err(cause);
-            }
-        }
-        unreachable!()
+        self.make(rt, &mut MakeNote)
     }
 
     /// Learns a note of this trie: what the note says shows in each look of this handle from then on, whatever rounds came between. After a refusal
@@ -340,20 +292,14 @@ impl<A: Monoid, B: Monoid> Handle<A, B> {
         ensures kept { IfErr result (λ e. e.0 ≡ note) }
         ensures refused { IfErr result (λ e. RefusesCall self.new e.1) }
     {
-        let mut note = note;
-        for _ in rt.forever() {
-            let obstacle = match self.attempt_learn(note) {
-                Ok(()) => return Ok(()),
-                Err((same, obstacle)) => {
-                    note = same;
-                    obstacle
-                }
-            };
-            if let Err(cause) = self.wait_past(rt, obstacle) {
-                return Err((note, cause));
-            }
+        let mut learn = LearnNote(Some(note));
+        match self.make(rt, &mut learn) {
+            Ok(()) => Ok(()),
+            Err(cause) => match learn.0 {
+                Some(note) => Err((note, cause)),
+                None => unreachable!(),
+            },
         }
-        unreachable!()
     }
 
     /// How many keys there are: `2^bits`. The keys are the numbers below it.
@@ -364,43 +310,73 @@ impl<A: Monoid, B: Monoid> Handle<A, B> {
         1 << self.bits
     }
 
-    // Makes an update, unless the lane is held, the round has to roll over first, or a newer handle has the lane.
+    // Runs an operation, and waits until nothing is in its way any more.
     #[inline(always)]
-    fn attempt(&mut self, k: u32, request: Request) -> Result<Told, Obstacle>
-        requires key { k < 2 ^ self.old.half.round.bits }
-        ensures made { IfOk result (λ told. Makes 1 (λ a b. Updates request k told a.knows b.knows) self.old self.new) }
+    fn make<R: Wait, O: Operation<A, B>>(
+        &mut self,
+        rt: &R,
+        op: &mut O,
+    ) -> Result<O::Answer, LiveError>
+        requires needs { O.Needs op.old self.old.half.round.table self.old.half.round.bits }
+        ensures made { IfOk result (λ answer. Runs (O.Does op.old op.new answer) self.old self.new) }
         ensures not_made { IfErr result (λ _. Follows self.old self.new) }
-        ensures seen { IfErr result (λ obstacle. Seen obstacle self.new.who.replaced) }
+        ensures kept { IfErr result (λ _. op.new ≡ op.old) }
+        ensures refused { IfErr result (RefusesCall self.new) }
     {
-        let Some(end) = self.end.take() else {
-            unreachable!()
-        };
-        let (out, lane) = match end.take_to_work(self.number) {
-            Ok(taken) => taken,
-            Err((same, obstacle)) => {
-                self.end = Some(same);
-                return Err(obstacle);
+        for _ in rt.forever() {
+            let obstacle = match self.attempt(op) {
+                Ok(answer) => return Ok(answer),
+                Err(obstacle) => obstacle,
+            };
+            if let Err(cause) = self.wait_past(rt, obstacle) {
+                return Err(cause);
             }
-        };
-        let (lane, told) = lane.update(&self.round, k, request);
-        self.end = Some(out.put(lane));
-        told
+        }
+        unreachable!()
     }
 
-    // Makes updates of the first keys, with the same exceptions.
-    fn attempt_all(
-        &mut self,
-        keys: &[u32],
-        requests: &[Request],
-        outcomes: &mut [Outcome],
-    ) -> Result<usize, Obstacle>
-        requires keys { All (λ k. k < 2 ^ self.old.half.round.bits) keys.now }
-        requires requests { length keys.now ≤ length requests.now }
-        requires outcomes { length keys.now ≤ length outcomes.old }
-        ensures made { IfOk result (λ count. Makes count (DoesBatch requests.now (take count keys.now) outcomes.new) self.old self.new) }
-        ensures some { IfOk result (λ count. IsSomeOf (length keys.now) count) }
-        ensures all { IfOk result (λ count. AllOrSpent (length keys.now) count self.new.half) }
+    // Runs an operation, and waits for nobody.
+    fn try_make<O: Operation<A, B>>(&mut self, op: &mut O) -> Result<O::Answer, TryError<Busy>>
+        requires needs { O.Needs op.old self.old.half.round.table self.old.half.round.bits }
+        ensures made { IfOk result (λ answer. Runs (O.Does op.old op.new answer) self.old self.new) }
         ensures not_made { IfErr result (λ _. Follows self.old self.new) }
+        ensures refused { IfErr result (IfRefused (RefusesCall self.new)) }
+    {
+        match self.attempt(op) {
+            Ok(answer) => Ok(answer),
+            Err(obstacle) => self.try_again(op, obstacle),
+        }
+    }
+
+    // Sees to it that the lane can go on, and runs the operation then, unless it would have to wait. That is seldom, so it stands out of line.
+    #[inline(never)]
+    fn try_again<O: Operation<A, B>>(
+        &mut self,
+        op: &mut O,
+        obstacle: Obstacle,
+    ) -> Result<O::Answer, TryError<Busy>>
+        requires needs { O.Needs op.old self.old.half.round.table self.old.half.round.bits }
+        requires seen { Seen obstacle self.old.who.replaced }
+        ensures made { IfOk result (λ answer. Runs (O.Does op.old op.new answer) self.old self.new) }
+        ensures not_made { IfErr result (λ _. Follows self.old self.new) }
+        ensures refused { IfErr result (IfRefused (RefusesCall self.new)) }
+    {
+        if let Err(cause) = self.try_past(obstacle) {
+            return Err(cause);
+        }
+        match self.attempt(op) {
+            Ok(answer) => Ok(answer),
+            Err(obstacle) => Err(self.still(obstacle)),
+        }
+    }
+
+    // Runs an operation, unless the lane is held, the round has to roll over first, or a newer handle has the lane.
+    #[inline(always)]
+    fn attempt<O: Operation<A, B>>(&mut self, op: &mut O) -> Result<O::Answer, Obstacle>
+        requires needs { O.Needs op.old self.old.half.round.table self.old.half.round.bits }
+        ensures made { IfOk result (λ answer. Runs (O.Does op.old op.new answer) self.old self.new) }
+        ensures not_made { IfErr result (λ _. Follows self.old self.new) }
+        ensures kept { IfErr result (λ _. op.new ≡ op.old) }
         ensures seen { IfErr result (λ obstacle. Seen obstacle self.new.who.replaced) }
     {
         let Some(end) = self.end.take() else {
@@ -413,7 +389,7 @@ impl<A: Monoid, B: Monoid> Handle<A, B> {
                 return Err(obstacle);
             }
         };
-        let (lane, done) = lane.update_all(&self.round, keys, requests, outcomes);
+        let (lane, done) = lane.run(&self.round, op);
         self.end = Some(out.put(lane));
         done
     }
@@ -463,50 +439,6 @@ impl<A: Monoid, B: Monoid> Handle<A, B> {
         })
     }
 
-    // Makes a note, unless the lane is held, the next round has to begin first, or a newer handle has the lane.
-    fn attempt_note(&mut self) -> Result<Note<A, B>, Obstacle>
-        ensures note { IfOk result (λ note. note ≡ note_at self.new.half) }
-        ensures follows { Follows self.old self.new }
-        ensures seen { IfErr result (λ obstacle. Seen obstacle self.new.who.replaced) }
-    {
-        let Some(end) = self.end.take() else {
-            unreachable!()
-        };
-        let (out, lane) = match end.take_to_work(self.number) {
-            Ok(taken) => taken,
-            Err((same, obstacle)) => {
-                self.end = Some(same);
-                return Err(obstacle);
-            }
-        };
-        let (lane, noted) = lane.note(&self.round);
-        self.end = Some(out.put(lane));
-        noted
-    }
-
-    // Learns a note, unless the lane is held, the next round has to begin first, or a newer handle has the lane.
-    fn attempt_learn(&mut self, note: Note<A, B>) -> Result<(), (Note<A, B>, Obstacle)>
-        requires trie { note.round.table ≡ self.old.half.round.table }
-        ensures learns { IfOk result (λ _. IsPart (chain_of_note note) (chain_of self.new.half)) }
-        ensures follows { Follows self.old self.new }
-        ensures kept { IfErr result (λ e. e.0 ≡ note) }
-        ensures seen { IfErr result (λ e. Seen e.1 self.new.who.replaced) }
-    {
-        let Some(end) = self.end.take() else {
-            unreachable!()
-        };
-        let (out, lane) = match end.take_to_work(self.number) {
-            Ok(taken) => taken,
-            Err((same, obstacle)) => {
-                self.end = Some(same);
-                return Err((note, obstacle));
-            }
-        };
-        let (lane, learnt) = lane.learn(&self.round, note);
-        self.end = Some(out.put(lane));
-        learnt
-    }
-
     // Goes past what is in the way: to the next round, or to a spare lane of this one.
     fn past<W: Patience>(&mut self, how: &W, obstacle: Obstacle) -> Result<(), TryError<W::GaveUp>>
         requires seen { Seen obstacle self.old.who.replaced }
@@ -514,8 +446,8 @@ impl<A: Monoid, B: Monoid> Handle<A, B> {
         ensures refused { IfErr result (IfRefused (RefusesCall self.new)) }
     {
         match obstacle {
-            Obstacle::Held(_) => self.desk.settle(how),
-            Obstacle::Round(era) => self.desk.past(how, era, self.lane),
+            Obstacle::Held(_) => self.desk.past(how, None),
+            Obstacle::Round(era) => self.desk.past(how, Some((era, self.lane))),
             Obstacle::Replaced => Err(TryError::Refused(LiveError::Replaced)),
         }
     }
@@ -586,7 +518,7 @@ impl<A: Monoid> Handle<A, Extent> {
         ensures not_made { IfErr result (λ _. Follows self.old self.new) }
         ensures refused { IfErr result (IfRefused (RefusesCall self.new)) }
     {
-        self.try_pop(Side::First)
+        self.try_make(&mut PopAt(Side::First))
     }
 
     /// The same of `pop_last`.
@@ -595,7 +527,7 @@ impl<A: Monoid> Handle<A, Extent> {
         ensures not_made { IfErr result (λ _. Follows self.old self.new) }
         ensures refused { IfErr result (IfRefused (RefusesCall self.new)) }
     {
-        self.try_pop(Side::Last)
+        self.try_make(&mut PopAt(Side::Last))
     }
 
     // Takes out the member at one end, and tries again while another call changes that first.
@@ -605,7 +537,7 @@ impl<A: Monoid> Handle<A, Extent> {
         ensures refused { IfErr result (RefusesCall self.new) }
     {
         for _ in rt.forever() {
-            let done = self.pop_once(rt, side)?;
+            let done = self.make(rt, &mut PopAt(side))?;
             match done {
                 Pop::Member(key, weight) => return Ok(Some((key, weight))),
                 Pop::Empty => return Ok(None),
@@ -613,63 +545,5 @@ impl<A: Monoid> Handle<A, Extent> {
             }
         }
         unreachable!()
-    }
-
-    // Tries it once.
-    fn pop_once<R: Wait>(&mut self, rt: &R, side: Side) -> Result<Pop, LiveError>
-        ensures popped { IfOk result (λ done. Makes (pop_updates done) (Pops (summary_of A.parts extent_parts) side done) self.old self.new) }
-        ensures not_made { IfErr result (λ _. Follows self.old self.new) }
-        ensures refused { IfErr result (RefusesCall self.new) }
-    {
-        for _ in rt.forever() {
-            let obstacle = match self.attempt_pop(side) {
-                Ok(done) => return Ok(done),
-                Err(obstacle) => obstacle,
-            };
-            if let Err(cause) = self.wait_past(rt, obstacle) {
-                return Err(cause);
-            }
-        }
-        unreachable!()
-    }
-
-    // The same, and waits for nobody.
-    fn try_pop(&mut self, side: Side) -> Result<Pop, TryError<Busy>>
-        ensures popped { IfOk result (λ done. Makes (pop_updates done) (Pops (summary_of A.parts extent_parts) side done) self.old self.new) }
-        ensures not_made { IfErr result (λ _. Follows self.old self.new) }
-        ensures refused { IfErr result (IfRefused (RefusesCall self.new)) }
-    {
-        let obstacle = match self.attempt_pop(side) {
-            Ok(done) => return Ok(done),
-            Err(obstacle) => obstacle,
-        };
-        if let Err(cause) = self.try_past(obstacle) {
-            return Err(cause);
-        }
-        match self.attempt_pop(side) {
-            Ok(done) => Ok(done),
-            Err(obstacle) => Err(self.still(obstacle)),
-        }
-    }
-
-    // Pops, unless the lane is held, the round has to roll over first, or a newer handle has the lane.
-    fn attempt_pop(&mut self, side: Side) -> Result<Pop, Obstacle>
-        ensures popped { IfOk result (λ done. Makes (pop_updates done) (Pops (summary_of A.parts extent_parts) side done) self.old self.new) }
-        ensures not_made { IfErr result (λ _. Follows self.old self.new) }
-        ensures seen { IfErr result (λ obstacle. Seen obstacle self.new.who.replaced) }
-    {
-        let Some(end) = self.end.take() else {
-            unreachable!()
-        };
-        let (out, lane) = match end.take_to_work(self.number) {
-            Ok(taken) => taken,
-            Err((same, obstacle)) => {
-                self.end = Some(same);
-                return Err(obstacle);
-            }
-        };
-        let (lane, done) = lane.pop(&self.round, side);
-        self.end = Some(out.put(lane));
-        done
     }
 }

@@ -1,23 +1,16 @@
 //! What lies in a lane.
-ghost use Rattle.std.specs.Prelude.{◌≡◌, ℕ, ◌+◌, ◌^◌, ◌<◌, ◌≤◌, All, length, take, IfOk, IfErr, IsSome, Some, None, true, false};
+ghost use Rattle.std.specs.Prelude.{◌≡◌, ◌+◌, ◌^◌, ◌<◌, IfOk, IfErr, IsSome, Some, None, true, false};
 ghost use Rattle.std.specs.Option.{is_some};
-ghost use Rattle.aug_trie.specs.Updates.{Updates};
-ghost use Rattle.aug_trie.specs.UpdateBatches.{DoesBatch};
-ghost use Rattle.aug_trie.specs.Chains.{IsPart};
 ghost use Rattle.aug_trie.specs.Node.{Keeps};
-ghost use Rattle.aug_trie.specs.Note.{chain_of_note};
-ghost use Rattle.aug_trie.specs.Pass.{chain_of};
-ghost use Rattle.aug_trie.specs.Pops.{pop_updates, Pops};
 ghost use Rattle.aug_trie.specs.Round.{table_of};
 ghost use Rattle.aug_model.specs.Folds.{summary_of};
-ghost use Rattle.aug_monoid.specs.Extent.{extent_parts};
-ghost use Rattle.aug_live.specs.LiveHandles.{AllOrSpent, Follows, IsSomeOf, note_at};
-ghost use Rattle.aug_live.specs.inside.LaneKnowledge.{IsSpent, Seen, Worked, WorksHere, half_in, stands};
+ghost use Rattle.aug_live.specs.inside.LaneKnowledge.{LacksUpdates, RunsHere, Seen, Worked, half_in, stands};
 ghost use Rattle.aug_live.specs.inside.Looks.{LooksIn};
 
 use crate::ghost_value::GhostValue;
-use aug_monoid::{Extent, Monoid};
-use aug_trie::{Note, Outcome, PassHalf, Pop, Request, Round, Side, Snapshot, Told};
+use crate::operation::Operation;
+use aug_monoid::Monoid;
+use aug_trie::{PassHalf, Round, Snapshot};
 use ruled_lock::WasOut;
 use std::alloc::{AllocError, Global};
 use std::marker::Model;
@@ -184,19 +177,19 @@ impl<A: Monoid, B: Monoid> Lane<A, B> {
         Lane::of(parts)
     }
 
-    /// Makes an update of a key, unless the updates are spent or no pass lies in the lane.
+    /// Does this with its pass, unless no pass lies in the lane, or one that has too few updates left for it.
     #[inline(always)]
-    pub(crate) fn update(
+    pub(crate) fn run<O: Operation<A, B>>(
         self,
         round: &Round<A, B>,
-        k: u32,
-        request: Request,
-    ) -> (Lane<A, B>, Result<Told, Obstacle>)
+        op: &mut O,
+    ) -> (Lane<A, B>, Result<O::Answer, Obstacle>)
         requires together { table_of self.at.half.round ≡ round.now }
-        requires key { k < 2 ^ self.at.half.round.bits }
-        ensures made { IfOk result.1 (λ told. WorksHere 1 (λ a b. Updates request k told a.knows b.knows) self.at result.0.at) }
+        requires needs { O.Needs op.old self.at.half.round.table self.at.half.round.bits }
+        ensures made { IfOk result.1 (λ answer. RunsHere (O.Does op.old op.new answer) self.at result.0.at) }
         ensures same { IfErr result.1 (λ _. result.0.at ≡ self.at) }
-        ensures spent { IfErr result.1 (λ _. IsSpent self) }
+        ensures kept { IfErr result.1 (λ _. op.new ≡ op.old) }
+        ensures spent { IfErr result.1 (λ _. LacksUpdates O.least self) }
         ensures seen { IfErr result.1 (λ obstacle. Seen obstacle false) }
         ensures worked { Worked self result.0 }
     {
@@ -205,122 +198,12 @@ impl<A: Monoid, B: Monoid> Lane<A, B> {
             return (self, Err(obstacle));
         }
         let (work, rest) = self.into_work();
-        if work.budget() == 0 {
+        if work.budget() < op.least() {
             let era = rest.parts.era;
             return (rest.with(work), Err(Obstacle::Round(era)));
         }
         let mut pass = round.pass(work);
-        let told = pass.update(k, request);
-        (rest.with(pass.into_half()), Ok(told))
-    }
-
-    /// Makes an update of each of the first keys, of as many as are left, unless none is left or no pass lies in the lane.
-    #[inline(always)]
-    pub(crate) fn update_all(
-        self,
-        round: &Round<A, B>,
-        keys: &[u32],
-        requests: &[Request],
-        outcomes: &mut [Outcome],
-    ) -> (Lane<A, B>, Result<usize, Obstacle>)
-        requires together { table_of self.at.half.round ≡ round.now }
-        requires keys { All (λ k. k < 2 ^ self.at.half.round.bits) keys.now }
-        requires requests { length keys.now ≤ length requests.now }
-        requires outcomes { length keys.now ≤ length outcomes.old }
-        ensures made { IfOk result.1 (λ count. WorksHere count (DoesBatch requests.now (take count keys.now) outcomes.new) self.at result.0.at) }
-        ensures some { IfOk result.1 (λ count. IsSomeOf (length keys.now) count) }
-        ensures all { IfOk result.1 (λ count. AllOrSpent (length keys.now) count result.0.at.half) }
-        ensures same { IfErr result.1 (λ _. result.0.at ≡ self.at) }
-        ensures spent { IfErr result.1 (λ _. IsSpent self) }
-        ensures seen { IfErr result.1 (λ obstacle. Seen obstacle false) }
-        ensures worked { Worked self result.0 }
-    {
-        if self.parts.work.is_none() {
-            let obstacle = Obstacle::Round(self.parts.era);
-            return (self, Err(obstacle));
-        }
-        let (work, rest) = self.into_work();
-        if work.budget() == 0 {
-            let era = rest.parts.era;
-            return (rest.with(work), Err(Obstacle::Round(era)));
-        }
-        let count = keys.len().min(work.budget() as usize);
-        let mut pass = round.pass(work);
-        pass.update_all(&keys[..count], requests, outcomes);
-        (rest.with(pass.into_half()), Ok(count))
-    }
-
-    /// Makes a note of what the pass knows, unless no pass lies in the lane.
-    pub(crate) fn note(self, round: &Round<A, B>) -> (Lane<A, B>, Result<Note<A, B>, Obstacle>)
-        requires together { table_of self.at.half.round ≡ round.now }
-        ensures note { IfOk result.1 (λ note. note ≡ note_at self.at.half) }
-        ensures at_rest { IfErr result.1 (λ _. self.works ≡ false) }
-        ensures seen { IfErr result.1 (λ obstacle. Seen obstacle false) }
-        ensures same { result.0 ≡ self }
-    {
-        if self.parts.work.is_none() {
-            let obstacle = Obstacle::Round(self.parts.era);
-            return (self, Err(obstacle));
-        }
-        let (work, rest) = self.into_work();
-        let mut pass = round.pass(work);
-        let note = pass.note();
-        (rest.with(pass.into_half()), Ok(note))
-    }
-
-    /// Learns a note of the lane's table, unless no pass lies in the lane; then the note comes back.
-    pub(crate) fn learn(
-        self,
-        round: &Round<A, B>,
-        note: Note<A, B>,
-    ) -> (Lane<A, B>, Result<(), (Note<A, B>, Obstacle)>)
-        requires together { table_of self.at.half.round ≡ round.now }
-        requires table { note.round.table ≡ self.at.half.round.table }
-        ensures learns { IfOk result.1 (λ _. IsPart (chain_of_note note) (chain_of result.0.at.half)) }
-        ensures follows { Follows self.at result.0.at }
-        ensures same_changes { result.0.at.half.knows.accepted ≡ self.at.half.knows.accepted }
-        ensures kept { IfErr result.1 (λ e. e.0 ≡ note) }
-        ensures at_rest { IfErr result.1 (λ _. self.works ≡ false) }
-        ensures seen { IfErr result.1 (λ e. Seen e.1 false) }
-        ensures worked { Worked self result.0 }
-    {
-        if self.parts.work.is_none() {
-            let obstacle = Obstacle::Round(self.parts.era);
-            return (self, Err((note, obstacle)));
-        }
-        let (work, rest) = self.into_work();
-        let mut pass = round.pass(work);
-        pass.learn(note);
-        (rest.with(pass.into_half()), Ok(()))
-    }
-}
-
-impl<A: Monoid> Lane<A, Extent> {
-    /// Takes out the member at one end, unless the updates are spent or no pass lies in the lane.
-    #[inline(always)]
-    pub(crate) fn pop(
-        self,
-        round: &Round<A, Extent>,
-        side: Side,
-    ) -> (Lane<A, Extent>, Result<Pop, Obstacle>)
-        requires together { table_of self.at.half.round ≡ round.now }
-        ensures made { IfOk result.1 (λ done. WorksHere (pop_updates done) (Pops (summary_of A.parts extent_parts) side done) self.at result.0.at) }
-        ensures same { IfErr result.1 (λ _. result.0.at ≡ self.at) }
-        ensures spent { IfErr result.1 (λ _. IsSpent self) }
-        ensures seen { IfErr result.1 (λ obstacle. Seen obstacle false) }
-        ensures worked { Worked self result.0 }
-    {
-        if self.parts.work.is_none() {
-            let obstacle = Obstacle::Round(self.parts.era);
-            return (self, Err(obstacle));
-        }
-        let (work, rest) = self.into_work();
-        if work.budget() == 0 {
-            let era = rest.parts.era;
-            return (rest.with(work), Err(Obstacle::Round(era)));
-        }
-        let mut pass = round.pass(work);
-        let done = pass.pop(side);
-        (rest.with(pass.into_half()), Ok(done))
+        let answer = op.run(&mut pass);
+        (rest.with(pass.into_half()), Ok(answer))
     }
 }

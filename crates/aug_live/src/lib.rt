@@ -13,6 +13,7 @@ mod known;
 mod lane;
 mod live;
 mod look;
+mod operation;
 mod plan;
 mod rolling;
 mod tie;

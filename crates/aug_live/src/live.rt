@@ -1,6 +1,7 @@
 //! A shared trie whose rounds roll over.
 ghost use Rattle.std.specs.Prelude.{◌≡◌, ◌≢◌, ◌↔◌, ◌⊎◌, ℕ, ◌+◌, ◌<◌, ◌≤◌, ◌^◌, [], map, All, IsErr, IsErrOf, IfOk, IfErr, length, vec_len, vec_capacity};
 ghost use Rattle.std.specs.Arc.{arc_value};
+ghost use Rattle.ruled_lock.specs.Locks.{HoldsNothing, IsSameKey, client_of};
 ghost use Rattle.aug_core.specs.Layout.{IsRefused, IsLayout, IsWithin, IsOutside};
 ghost use Rattle.aug_trie.specs.Chains.{IsPart};
 ghost use Rattle.aug_trie.specs.Pass.{chain_of};
@@ -9,20 +10,23 @@ ghost use mathlib.Core.Option.{some};
 ghost use lib.ListN.{get_elem?};
 ghost use Rattle.aug_live.specs.LiveErrors.{IfRefused, RefusesBack, RefusesCall, RefusesHandle, RefusesRoll};
 ghost use Rattle.aug_live.specs.LiveHandles.{Follows, HandleFacts, IsHandleOf, IsNew};
-ghost use Rattle.aug_live.specs.LiveTries.{CameBack, Closes, IsOpenedTrie, KnowsMore, ids_of};
+ghost use Rattle.aug_live.specs.LiveTries.{CameBack, Closes, IsOpenedTrie, KeepsHandles, KnowsMore, ids_of};
 ghost use Rattle.aug_live.specs.Plans.{Fits, IsGreatest, least_plan};
+ghost use Rattle.aug_live.specs.inside.DeskKnowledge.{IsOwner};
 ghost use Rattle.aug_live.specs.inside.Desks.{IsNewBerth};
 ghost use Rattle.aug_live.specs.inside.Rolls.{IsHandleEnd, IsOf, IsOpenedLane, Starts, handles_from, rounds_in};
 
 use crate::counts::LiveCounts;
 use crate::desk::Working;
-use crate::desk_end::{DeskEnd, NewDesk, OwnerEnd};
+use crate::desk_end::{
+    Desk, DeskEnd, DeskKey, DeskLock, Lay, NewDesk, Same, lay_on, take_own, take_settled,
+};
 use crate::end::{Berth, End};
 use crate::error::{LiveError, OpenError, TryError};
 use crate::handle::Handle;
 use crate::held::{Emptied, Held};
 use crate::plan::Plan;
-use crate::rolling::{Begun, next_round};
+use crate::rolling::{Begun, Share, next_round};
 use crate::work::SharedRound;
 use aug_core::LayoutError;
 use aug_monoid::Monoid;
@@ -31,20 +35,28 @@ use ruled_lock::{Patience, Tries, Waits, WasOut};
 use std::alloc::{AllocError, Global};
 use std::marker::Model;
 use std::snapshot::Snapshot;
-use std::sync::Wait;
+use std::sync::{Arc, Wait};
 
 /// A shared trie whose rounds roll over by themselves. Threads work with its handles.
 #[derive(Drop)]
 pub struct Live<A: Monoid, B: Monoid> {
-    desk: OwnerEnd<A, B>,
+    // The desk, and its first key: that alone makes handles and closes the trie.
+    lock: Arc<DeskLock<A, B>, Global>,
+    key: DeskKey<A, B>,
 }
 
 impl<A: Monoid, B: Monoid> Model for Live<A, B> {
+    ghost use Rattle.std.specs.Prelude.{◌≡◌};
+    ghost use Rattle.std.specs.Arc.{arc_value};
+    ghost use Rattle.ruled_lock.specs.Locks.{client_of, HoldsNothing};
     ghost use Rattle.aug_live.specs.LiveTries.{TrieFacts};
+    ghost use Rattle.aug_live.specs.inside.DeskKnowledge.{IsOwner};
 
     ghost Value = { TrieFacts };
 
-    ghost view = { λ l. l.desk };
+    ghost view = { λ l. client_of l.key };
+
+    ghost invariant = { λ l. (l.key.table_id ≡ (arc_value l.lock).table.shared.table_id) × HoldsNothing l.key × IsOwner l.key.id (client_of l.key) };
 }
 
 // What it takes to open a trie: the lanes, and room for the ends.
@@ -54,7 +66,7 @@ struct Room<A: Monoid, B: Monoid> {
     ports: Vec<End<A, B>>,
     held: Vec<Held<A, B>>,
     idle: Vec<Emptied<A, B>>,
-    shares: Vec<SharedRound<A, B>>,
+    shares: Vec<Share<A, B>>,
     ends: Vec<End<A, B>>,
     handles: Vec<Handle<A, B>>,
     list: Vec<(u32, u32)>,
@@ -103,7 +115,7 @@ impl<A: Monoid, B: Monoid> Live<A, B> {
             list,
             desk,
         } = room;
-        let begun = match next_round(alloc, set, plan, list, shares, lanes) {
+        let begun = match next_round(alloc, set, plan, list, shares, &desk.lock, lanes) {
             Ok(begun) => begun,
             Err(set) => return Err((set, OpenError::OutOfMemory)),
         };
@@ -133,9 +145,9 @@ impl<A: Monoid, B: Monoid> Live<A, B> {
             idle,
             list,
         };
-        let (desk, desks) = desk.place(working);
-        let handles = hand_out(bits, of, Snapshot::of(&desk), shares, desks, ends, handles);
-        Ok((Live { desk }, handles))
+        let (lock, mut key) = desk.place(working);
+        let handles = hand_out(bits, of, &mut key, shares, ends, handles);
+        Ok((Live { lock, key }, handles))
     }
 
     /// Opens a trie over a set, for `handles` handles, whose rounds have a table of at most `memory` bytes: `Plan::new` computes their
@@ -169,12 +181,11 @@ impl<A: Monoid, B: Monoid> Live<A, B> {
 
     /// Rolls the round over now, as in a quiet hour. It waits for the update or look that each handle is in. Refused with `Exhausted`.
     pub fn roll<R: Wait>(&mut self, rt: &R) -> Result<(), LiveError>
-        ensures more { KnowsMore self.old self.new }
-        ensures given { self.new.given ≡ self.old.given }
+        ensures goes_on { KeepsHandles self.old self.new }
         ensures rolls { IfOk result (λ _. length self.old.rounds.past < length self.new.rounds.past) }
         ensures refused { IfErr result (RefusesRoll self.new) }
     {
-        match self.desk.roll(&Waits(rt)) {
+        match self.roll_over(&Waits(rt)) {
             Ok(()) => Ok(()),
             Err(TryError::Refused(cause)) => Err(cause),
             Err(TryError::Again(never)) => match never {},
@@ -184,12 +195,27 @@ impl<A: Monoid, B: Monoid> Live<A, B> {
     /// The same, and waits for nobody: `Again` if somebody has the desk, or another handle is in a call or holds a look. The lanes that it took then
     /// stay taken until the round has rolled over, which whoever comes to one of them tries.
     pub fn try_roll(&mut self) -> Result<(), TryError<WasOut>>
-        ensures more { KnowsMore self.old self.new }
-        ensures given { self.new.given ≡ self.old.given }
+        ensures goes_on { KeepsHandles self.old self.new }
         ensures rolls { IfOk result (λ _. length self.old.rounds.past < length self.new.rounds.past) }
         ensures refused { IfErr result (IfRefused (RefusesRoll self.new)) }
     {
-        self.desk.roll(&Tries)
+        self.roll_over(&Tries)
+    }
+
+    // Rolls the round over.
+    fn roll_over<W: Patience>(&mut self, how: &W) -> Result<(), TryError<W::GaveUp>>
+        ensures goes_on { KeepsHandles self.old self.new }
+        ensures rolls { IfOk result (λ _. length self.old.rounds.past < length self.new.rounds.past) }
+        ensures refused { IfErr result (IfRefused (RefusesRoll self.new)) }
+    {
+        match take_own(how, &self.lock, &mut self.key) {
+            Ok(working) => {
+                let (working, done) = working.roll(how);
+                lay_on(&self.lock, &mut self.key, working);
+                done
+            }
+            Err(missed) => Err(TryError::Again(missed)),
+        }
     }
 
     /// Gives a lane to a new handle, if the lane's own handle came back, was dropped, or is in a thread that ended. Lanes are numbered from 0, in
@@ -239,19 +265,16 @@ impl<A: Monoid, B: Monoid> Live<A, B> {
         ensures past { length self.old.lanes ≤ lane → IsErr result }
     {
         let lane = lane as usize;
-        let Ok(desk) = self.desk.another() else {
+        let Ok(lock) = Arc::try_clone(&self.lock) else {
             return Err(TryError::Refused(LiveError::TooMany));
         };
-        match self.desk.renew(how, lane) {
-            Ok((end, round, bits, number)) => {
-                Ok(Handle {
-                    end: Some(end),
-                    bits,
-                    lane,
-                    number,
-                    round,
-                    desk,
-                })
+        let key = self.lock.another::<Same>(&mut self.key);
+        match take_settled(how, &self.lock, &mut self.key) {
+            Ok(working) => {
+                let mut working = working;
+                let given = working.give(how, lane, DeskEnd { lock, key });
+                lay_on(&self.lock, &mut self.key, working);
+                given
             }
             Err(cause) => Err(cause),
         }
@@ -267,8 +290,7 @@ impl<A: Monoid, B: Monoid> Live<A, B> {
         handle: Handle<A, B>,
     ) -> Result<(), (Handle<A, B>, LiveError)>
         requires trie { (handle.half.round.table ≡ self.old.table) × (ids_of handle.who.trie ≡ ids_of self.old) }
-        ensures more { KnowsMore self.old self.new }
-        ensures given { self.new.given ≡ self.old.given }
+        ensures goes_on { KeepsHandles self.old self.new }
         ensures knows { IfOk result (λ _. IsPart (chain_of handle.half) self.new.rounds) }
         ensures done { IfOk result (λ _. CameBack handle.made self.old self.new) }
         ensures same { IfErr result (λ e. Follows handle e.0) }
@@ -279,13 +301,19 @@ impl<A: Monoid, B: Monoid> Live<A, B> {
             Ok(note) => note,
             Err(cause) => return Err((handle, cause)),
         };
+        let how = Waits(rt);
+        let working = match take_settled(&how, &self.lock, &mut self.key) {
+            Ok(working) => working,
+            Err(TryError::Refused(cause)) => return Err((handle, cause)),
+            Err(TryError::Again(never)) => match never {},
+        };
         let Some(end) = handle.end.take() else {
             unreachable!()
         };
-        match self
-            .desk
-            .back(&Waits(rt), note, handle.lane, handle.number, end)
-        {
+        let mut working = working.learn(note);
+        let done = working.back(&how, handle.lane, handle.number, end);
+        lay_on(&self.lock, &mut self.key, working);
+        match done {
             Ok(()) => Ok(()),
             Err((end, cause)) => {
                 handle.end = Some(end);
@@ -303,8 +331,7 @@ impl<A: Monoid, B: Monoid> Live<A, B> {
         ensures closes { Closes self result.0 result.1 }
         ensures sizes { length result.0.pairs + result.1.removals ≡ result.1.opened + result.1.inserts }
     {
-        let Live { desk } = self;
-        match desk.stop(&Waits(rt)) {
+        match self.stop(&Waits(rt)) {
             Ok(closed) => closed,
             Err((_, never)) => match never {},
         }
@@ -314,13 +341,34 @@ impl<A: Monoid, B: Monoid> Live<A, B> {
     pub fn try_close(self) -> Result<(Members, LiveCounts), (Live<A, B>, WasOut)>
         ensures closes { IfOk result (λ t. Closes self t.0 t.1) }
         ensures sizes { IfOk result (λ t. length t.0.pairs + t.1.removals ≡ t.1.opened + t.1.inserts) }
-        ensures more { IfErr result (λ e. KnowsMore self e.0) }
-        ensures given { IfErr result (λ e. e.0.given ≡ self.given) }
+        ensures goes_on { IfErr result (λ e. KeepsHandles self e.0) }
     {
-        let Live { desk } = self;
-        match desk.stop(&Tries) {
-            Ok(closed) => Ok(closed),
-            Err((desk, missed)) => Err((Live { desk }, missed)),
+        self.stop(&Tries)
+    }
+
+    // Ends the last round: its set, and the counts of all rounds.
+    fn stop<W: Patience>(self, how: &W) -> Result<(Members, LiveCounts), (Live<A, B>, W::GaveUp)>
+        ensures closes { IfOk result (λ t. Closes self t.0 t.1) }
+        ensures sizes { IfOk result (λ t. length t.0.pairs + t.1.removals ≡ t.1.opened + t.1.inserts) }
+        ensures goes_on { IfErr result (λ e. KeepsHandles self e.0) }
+    {
+        let Live { lock, mut key } = self;
+        match take_own(how, &lock, &mut key) {
+            Ok(working) => match working.stop(how) {
+                Ok(closed) => {
+                    let none = Desk {
+                        working: None,
+                        opened: true,
+                    };
+                    lock.put::<Lay>(&mut key, none);
+                    Ok(closed)
+                }
+                Err((working, missed)) => {
+                    lay_on(&lock, &mut key, working);
+                    Err((Live { lock, key }, missed))
+                }
+            },
+            Err(missed) => Err((Live { lock, key }, missed)),
         }
     }
 }
@@ -335,7 +383,6 @@ impl<A: Monoid, B: Monoid> Room<A, B> {
         ensures shares { IfOk result (λ r. (r.shares.items ≡ []) × (handles ≤ vec_capacity r.shares)) }
         ensures ends { IfOk result (λ r. (r.ends.items ≡ []) × (handles ≤ vec_capacity r.ends)) }
         ensures handles { IfOk result (λ r. (r.handles.items ≡ []) × (handles ≤ vec_capacity r.handles)) }
-        ensures desk { IfOk result (λ r. vec_len r.desk.theirs ≡ handles) }
         ensures list { IfOk result (λ r. (r.list.items ≡ []) × (universe ≤ vec_capacity r.list)) }
     {
         let count = handles as usize;
@@ -348,7 +395,7 @@ impl<A: Monoid, B: Monoid> Room<A, B> {
             ends: Vec::with_capacity(alloc, count)?,
             handles: Vec::with_capacity(alloc, count)?,
             list: Vec::with_capacity(alloc, universe as usize)?,
-            desk: NewDesk::new(alloc, handles)?,
+            desk: NewDesk::new(alloc)?,
         })
     }
 }
@@ -414,31 +461,33 @@ fn open_lanes<A: Monoid, B: Monoid>(
     (ports, ends)
 }
 
-// Makes the handles of these ends of lanes.
+// Makes the handles of these ends of lanes, with a key of the desk each.
 fn hand_out<A: Monoid, B: Monoid>(
     bits: u32,
     round: Snapshot<SharedRound<A, B>>,
-    trie: Snapshot<OwnerEnd<A, B>>,
-    mut rounds: Vec<SharedRound<A, B>>,
-    mut desks: Vec<DeskEnd<A, B>>,
+    mine: &mut DeskKey<A, B>,
+    mut shares: Vec<Share<A, B>>,
     ends: Vec<End<A, B>>,
     mut handles: Vec<Handle<A, B>>,
 ) -> Vec<Handle<A, B>>
-    requires desks { All (λ d. d ≡ trie.value) desks.items × (vec_len desks ≡ vec_len ends) }
+    requires free { HoldsNothing mine.old }
+    requires owner { IsOwner mine.old.id (client_of mine.old) }
     requires bits { bits ≡ (arc_value round.value).bits }
-    requires rounds { All (λ r. arc_value r ≡ arc_value round.value) rounds.items × (vec_len rounds ≡ vec_len ends) }
+    requires shares { All (λ s. s ≡ (arc_value round.value, mine.old.table_id)) shares.items × (vec_len shares ≡ vec_len ends) }
     requires ends { All (IsHandleEnd 1 (arc_value round.value)) ends.items }
-    requires locks { map (λ e. e.lock) ends.items ≡ ids_of trie.value }
+    requires locks { map (λ e. e.lock) ends.items ≡ ids_of (client_of mine.old) }
     requires handles { (handles.items ≡ []) × (vec_len ends ≤ vec_capacity handles) }
-    ensures at { result.items ≡ handles_from trie.value 0 ends.items }
+    ensures same { IsSameKey mine.old mine.new }
+    ensures free { HoldsNothing mine.new }
+    ensures knows { client_of mine.new ≡ client_of mine.old }
+    ensures at { result.items ≡ handles_from (client_of mine.old) 0 ends.items }
 {
     for end in ends {
-        let Some(round) = rounds.pop() else {
+        let Some(share) = shares.pop() else {
             unreachable!()
         };
-        let Some(desk) = desks.pop() else {
-            unreachable!()
-        };
+        let Share { round, desk: lock } = share;
+        let key = lock.another::<Same>(mine);
         let lane = handles.len();
         handles.push_reserved(Handle {
             end: Some(end),
@@ -446,7 +495,7 @@ fn hand_out<A: Monoid, B: Monoid>(
             lane,
             number: 1,
             round,
-            desk,
+            desk: DeskEnd { lock, key },
         });
     }
     handles

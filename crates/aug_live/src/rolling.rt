@@ -17,6 +17,7 @@ ghost use Rattle.aug_live.specs.inside.LaneKnowledge.{is_out_by, knows_nothing, 
 ghost use Rattle.aug_live.specs.inside.Rolls.{FinishesRound, GetsHandle, HasEnded, IsBackIn, IsHandleEnd, IsOf, IsOpenedLane, IsPort, Starts, accepted_by, given, given_all, kept_of, rounds_in};
 ghost use Rattle.aug_live.specs.declared.known.Whose.TheVariants.{Alone, Handle, Idle, Roller};
 
+use crate::desk_end::DeskLock;
 use crate::end::{Berth, End, LaneLock};
 use crate::error::{LiveError, TryError};
 use crate::held::{Emptied, Held};
@@ -25,27 +26,46 @@ use crate::work::{SharedRound, start};
 use aug_monoid::Monoid;
 use aug_trie::{Crew, Members, Round};
 use ruled_lock::Patience;
-use std::alloc::{AllocFailed, Global};
+use std::alloc::{AllocError, AllocFailed, Global};
+use std::marker::Model;
 use std::snapshot::Snapshot;
 use std::sync::Arc;
 
-/// A round that was begun, with an owner of it for each handle.
+/// What each handle owns a part of.
+#[derive(Drop)]
+pub(crate) struct Share<A: Monoid, B: Monoid> {
+    pub(crate) round: SharedRound<A, B>,
+    pub(crate) desk: Arc<DeskLock<A, B>, Global>,
+}
+
+impl<A: Monoid, B: Monoid> Model for Share<A, B> {
+    ghost use Rattle.std.specs.Arc.{arc_value};
+    ghost use Rattle.atomic_table.specs.Seated.{TableId};
+    ghost use Rattle.aug_trie.specs.Round.{TableFacts};
+
+    ghost Value = { TableFacts × TableId };
+
+    ghost view = { λ s. (arc_value s.round, (arc_value s.desk).table.shared.table_id) };
+}
+
+/// A round that was begun, with what each handle owns a part of.
 #[derive(Drop)]
 pub(crate) struct Begun<A: Monoid, B: Monoid> {
     pub(crate) round: SharedRound<A, B>,
     pub(crate) crew: Crew<A, B>,
     pub(crate) list: Vec<(u32, u32)>,
-    pub(crate) shares: Vec<SharedRound<A, B>>,
+    pub(crate) shares: Vec<Share<A, B>>,
 }
 
-/// Begins a round over a set of a plan, as `Live` does, with `handles` owners more. It is refused only for lack of memory, and then the same set
-/// comes back.
+/// Begins a round over a set of a plan, as `Live` does, with `handles` owners more of it and of the desk. It is refused only for lack of memory, and
+/// then the same set comes back.
 pub(crate) fn next_round<A: Monoid, B: Monoid>(
     alloc: Global,
     set: Members,
     plan: Plan,
     list: Vec<(u32, u32)>,
-    shares: Vec<SharedRound<A, B>>,
+    shares: Vec<Share<A, B>>,
+    desk: &Arc<DeskLock<A, B>, Global>,
     handles: u32,
 ) -> Result<Begun<A, B>, Members>
     requires laid_out { IsLayout (shape_of set.bits plan.lanes plan.updates (2 ^ set.bits)) }
@@ -54,7 +74,7 @@ pub(crate) fn next_round<A: Monoid, B: Monoid>(
     requires shares { (shares.items ≡ []) × (handles ≤ vec_capacity shares) }
     ensures begun { IfOk result (λ t. BeginsIn (2 ^ set.bits) set.pairs set.bits plan.lanes plan.updates (arc_value t.round) t.crew) }
     ensures list { IfOk result (λ t. t.list ≡ list) }
-    ensures shares { IfOk result (λ t. All (λ s. arc_value s ≡ arc_value t.round) t.shares.items × (vec_len t.shares ≡ handles)) }
+    ensures shares { IfOk result (λ t. All (λ s. s ≡ (arc_value t.round, (arc_value desk.now).table.shared.table_id)) t.shares.items × (vec_len t.shares ≡ handles)) }
     ensures same { IfErr result (λ e. e ≡ set) }
 {
     // For the proof alone: how many bits keys have at most.
@@ -70,7 +90,7 @@ pub(crate) fn next_round<A: Monoid, B: Monoid>(
     };
     let mut shares = shares;
     for _ in 0..handles {
-        match Arc::try_clone(&round) {
+        match make_share(&round, desk) {
             Ok(share) => shares.push_reserved(share),
             Err(_) => return Err(taken_back(old, &round, crew, list)),
         }
@@ -80,6 +100,19 @@ pub(crate) fn next_round<A: Monoid, B: Monoid>(
         crew,
         list,
         shares,
+    })
+}
+
+// One more owner of each.
+fn make_share<A: Monoid, B: Monoid>(
+    round: &SharedRound<A, B>,
+    desk: &Arc<DeskLock<A, B>, Global>,
+) -> Result<Share<A, B>, AllocError>
+    ensures { IfOk result (λ s. s ≡ (arc_value round.now, (arc_value desk.now).table.shared.table_id)) }
+{
+    Ok(Share {
+        round: Arc::try_clone(round)?,
+        desk: Arc::try_clone(desk)?,
     })
 }
 

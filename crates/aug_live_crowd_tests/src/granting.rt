@@ -1,109 +1,89 @@
-//! Tries that are opened while there is enough memory: none is refused for want of it, whatever its numbers and its set are.
-ghost use Rattle.std.specs.Prelude.{◌≤◌};
+//! The plans of rounds, and tries that are opened while there is enough memory: none is refused for want of it, whatever its numbers and its set are.
 
-use super::planning::words_of;
-use super::taking::last;
 use crate::assertions::equal;
 use aug_live::{Live, OpenError, Plan};
-use aug_live_testing::opening::{HandleOf, LiveOf, ended, fill, no_keys};
+use aug_live_testing::opening::{ended, fill, no_keys};
 use aug_monoid::{Extent, Sum};
-use aug_trie::{Ended, Members, Round};
+use aug_trie::{Members, Round};
 use aug_trie_testing::sweeps::{EACH, SOME, Sweep, UPDATES, sizes};
 use std::alloc::Global;
 use std::process::Abort;
 use std::sync::Wait;
 
-// The set that a trie with so many handles closes with.
-fn closed<R: Wait + Abort>(rt: &R, opened: (LiveOf, Vec<HandleOf>), handles: u32) -> Members {
-    let (live, hands) = opened;
-    equal(rt, hands.len(), handles as usize);
-    drop(hands);
-    let (set, _) = ended(rt, live);
-    set
-}
+// The bits of the keys, the handles, the bytes of a table, and the lanes and the updates of the greatest plan that fits. The plans grow where there is room
+// for one more update of each lane, or for one more lane.
+const PLANS: [(u32, u32, u64, Option<(u32, u32)>); 8] = [
+    (6, 2, 4_271, None),
+    (6, 2, 4_272, Some((2, 1))),
+    (6, 2, 5_231, Some((2, 2))),
+    (6, 2, 5_232, Some((2, 3))),
+    (6, 2, 188_119, Some((2, 384))),
+    (6, 2, 188_120, Some((3, 256))),
+    (16, 4, 64 << 20, Some((64, 1_548))),
+    (1, 1, u64::MAX, Some((64, 65_536))),
+];
 
-// A trie is opened over a set with a plan, and closed.
-fn planned<R: Wait + Abort>(
-    rt: &R,
-    alloc: Global,
-    set: Members,
-    handles: u32,
-    lanes: u32,
-    updates: u32,
-) -> Result<Members, OpenError>
-    requires { handles ≤ lanes }
-{
-    match Live::open_with(alloc, set, handles, Plan { lanes, updates }) {
-        Ok(opened) => Ok(closed(rt, opened, handles)),
-        Err((_, cause)) => Err(cause),
+#[test]
+fn a_plan_is_the_greatest_that_fits(rt: HostRuntime) {
+    for (bits, handles, memory, expected) in PLANS {
+        let plan = Plan::new(bits, handles, memory);
+        equal(&rt, plan.map(|it| (it.lanes, it.updates)), expected);
     }
 }
 
-// A trie is opened over a set within so many bytes, and closed.
-fn within<R: Wait + Abort>(
-    rt: &R,
-    alloc: Global,
-    set: Members,
-    handles: u32,
-    memory: u64,
-) -> Result<Members, OpenError> {
-    match Live::open(alloc, set, handles, memory) {
-        Ok(opened) => Ok(closed(rt, opened, handles)),
-        Err((_, cause)) => Err(cause),
-    }
+// The words of a table for the full set of keys of `bits` bits.
+fn words_of(bits: u32, plan: Plan) -> u64 {
+    let keys = 1u64 << (bits % 32);
+    let calls = u64::from(plan.lanes).saturating_mul(u64::from(plan.updates));
+    let opening = u64::from(bits).saturating_add(keys).saturating_sub(1);
+    let records = opening.saturating_add(calls.saturating_mul(u64::from(bits)));
+    keys.saturating_mul(2)
+        .saturating_sub(1)
+        .saturating_add(u64::from(plan.lanes))
+        .saturating_add(records.saturating_mul(5))
 }
 
-// A trie of a sweep, behind so many others: the set after it. They take turns: one has as many handles as lanes, one has one handle, and one has a table
-// of as many bytes.
+// A trie is opened over a set with a plan, or within as many bytes as that takes, and closed once its last handle has put so many keys in, from the first one
+// on that the set does not have: the set after it.
 fn opens<R: Wait + Abort>(
     rt: &R,
     alloc: Global,
     set: Members,
-    lanes: u32,
-    updates: u32,
-    before: u32,
-) -> Result<Members, OpenError>
-    requires { 1 ≤ lanes }
-{
-    match set.bits().saturating_add(before) % 3 {
-        0 => planned(rt, alloc, set, lanes, lanes, updates),
-        1 => planned(rt, alloc, set, 1, lanes, updates),
-        _ => {
-            let words = words_of(set.bits(), Plan { lanes, updates });
-            within(rt, alloc, set, lanes, words.saturating_mul(8))
-        }
+    (handles, by_plan): (u32, bool),
+    plan: Plan,
+    count: u32,
+) -> Result<Members, OpenError> {
+    let (from, memory) = (set.size(), words_of(set.bits(), plan).saturating_mul(8));
+    let opened = if by_plan && handles <= plan.lanes {
+        Live::<Sum, Extent>::open_with(alloc, set, handles, plan)
+    } else {
+        Live::open(alloc, set, handles, memory)
+    };
+    let (live, mut hands) = opened.map_err(|refused| refused.1)?;
+    equal(rt, hands.len(), handles as usize);
+    if let Some(mut hand) = hands.pop() {
+        equal(rt, fill(rt, &mut hand, true, from, count), count);
     }
+    let (set, _) = ended(rt, live);
+    equal(rt, set.size(), from.saturating_add(count));
+    Ok(set)
 }
 
-// Tries of one number of updates, behind so many others: the set after them, and how many there were.
-fn swept<R: Wait + Abort>(
-    rt: &R,
-    alloc: Global,
-    set: Members,
-    it: &Sweep,
-    updates: u32,
-    before: u32,
-) -> Result<(Members, u32), OpenError> {
-    let mut set = set;
-    let mut tries = before;
-    for lanes in it.1 {
-        let lanes = *lanes;
-        if lanes > 0 && words_of(set.bits(), Plan { lanes, updates }) <= it.3 {
-            set = opens(rt, alloc, set, lanes, updates, tries)?;
-            tries = tries.saturating_add(1);
-        }
-    }
-    Ok((set, tries))
-}
-
-// How many tries of a row open with one number of bits.
-fn tries<R: Wait + Abort>(rt: &R, alloc: Global, it: &Sweep, bits: u32) -> Result<u32, OpenError> {
+// How many tries of a sweep open with one number of bits. They take turns: one has as many handles as lanes, one has one handle, and one has a table of as
+// many bytes.
+fn swept<R: Wait + Abort>(rt: &R, alloc: Global, it: &Sweep, bits: u32) -> Result<u32, OpenError> {
     let mut set = grown(rt, alloc, no_keys(alloc, bits)?, 2)?;
     let mut tries = 0u32;
-    for updates in it.2 {
-        let (next, more) = swept(rt, alloc, set, it, *updates, tries)?;
-        set = next;
-        tries = more;
+    for &updates in it.2 {
+        for &lanes in it.1 {
+            let plan = Plan { lanes, updates };
+            if words_of(bits, plan) <= it.3 {
+                let way = bits.saturating_add(tries) % 3;
+                let handles = if way == 1 { 1 } else { lanes };
+                set = opens(rt, alloc, set, (handles, way < 2), plan, 0)?;
+                tries = tries.saturating_add(1);
+            }
+        }
     }
     equal(rt, (set.bits(), set.size()), (bits, 2));
     Ok(tries)
@@ -112,7 +92,7 @@ fn tries<R: Wait + Abort>(rt: &R, alloc: Global, it: &Sweep, bits: u32) -> Resul
 // Compares how many tries of a row open.
 fn assert_open<R: Wait + Abort>(rt: &R, alloc: Global, it: &Sweep) -> Result<(), OpenError> {
     for bits in it.0.0..=it.0.1 {
-        equal(rt, (bits, tries(rt, alloc, it, bits)?), (bits, it.4));
+        equal(rt, (bits, swept(rt, alloc, it, bits)?), (bits, it.4));
     }
     Ok(())
 }
@@ -162,20 +142,6 @@ fn no_trie_is_refused_for_its_updates(rt: HostRuntime) -> Result<(), OpenError> 
     Ok(())
 }
 
-// The last handle of a trie puts keys in: the set after that.
-fn filled<R: Wait + Abort>(
-    rt: &R,
-    opened: (LiveOf, Vec<HandleOf>),
-    from: u32,
-    count: u32,
-) -> Members {
-    let (live, mut hands) = opened;
-    let mut hand = last(rt, &mut hands);
-    equal(rt, fill(rt, &mut hand, true, from, count), count);
-    drop(hand);
-    closed(rt, (live, hands), 0)
-}
-
 // Tries over a set, into the first of which the keys are put that it does not have of the `members` least ones: the set after them.
 fn grown<R: Wait + Abort>(
     rt: &R,
@@ -183,33 +149,22 @@ fn grown<R: Wait + Abort>(
     set: Members,
     members: u32,
 ) -> Result<Members, OpenError> {
-    let from = set.size();
-    let count = members.saturating_sub(from);
-    let plan = Plan {
-        lanes: 1,
-        updates: count.max(1),
-    };
-    let memory = words_of(set.bits(), plan).saturating_mul(8);
-    let set = match Live::open_with(alloc, set, 1, plan) {
-        Ok(opened) => filled(rt, opened, from, count),
-        Err((_, cause)) => return Err(cause),
-    };
-    let set = within(rt, alloc, set, 1, memory)?;
-    let set = planned(rt, alloc, set, 1, 1, 1)?;
-    equal(rt, set.size(), members);
-    Ok(set)
+    let count = members.saturating_sub(set.size());
+    let (lanes, updates) = (1, count.max(1));
+    let plan = Plan { lanes, updates };
+    let set = opens(rt, alloc, set, (1, true), plan, count)?;
+    let set = opens(rt, alloc, set, (1, false), plan, 0)?;
+    let updates = 1;
+    opens(rt, alloc, set, (1, true), Plan { lanes, updates }, 0)
 }
 
 // The same set for keys of `bits` bits.
 fn wider(alloc: Global, set: Members, bits: u32) -> Result<Members, OpenError> {
-    let ended: Ended<Sum, Extent> = match Round::begin_over(alloc, set, bits, 1, 1) {
-        Ok((round, crew)) => round.end(crew),
-        Err(_) => return Err(OpenError::OutOfMemory),
+    let Ok((round, crew)) = Round::<Sum, Extent>::begin_over(alloc, set, bits, 1, 1) else {
+        return Err(OpenError::OutOfMemory);
     };
-    match ended.into_members(alloc) {
-        Ok(set) => Ok(set),
-        Err(_) => Err(OpenError::OutOfMemory),
-    }
+    let members = round.end(crew).into_members(alloc);
+    members.map_err(|_| OpenError::OutOfMemory)
 }
 
 // Tries over sets of each size from that of this one on: the set of all keys.
@@ -229,20 +184,13 @@ fn up_to_all<R: Wait + Abort>(
     Ok(set)
 }
 
-// Tries over sets of each size up to 300.
-#[test]
-fn no_trie_is_refused_for_few_members(rt: HostRuntime) -> Result<(), OpenError> {
-    let mut set = no_keys(rt.alloc(), 9)?;
-    for members in 0..=300 {
-        set = grown(&rt, rt.alloc(), set, members)?;
-    }
-    Ok(())
-}
-
 #[test]
 fn no_trie_is_refused_for_its_members(rt: HostRuntime) -> Result<(), OpenError> {
     let alloc = rt.alloc();
-    let mut set = no_keys(alloc, 1)?;
+    let (mut few, mut set) = (no_keys(alloc, 9)?, no_keys(alloc, 1)?);
+    for members in 0..=300 {
+        few = grown(&rt, alloc, few, members)?;
+    }
     for bits in 1..=16 {
         grown(&rt, alloc, grown(&rt, alloc, no_keys(alloc, bits)?, 0)?, 1)?;
         set = up_to_all(&rt, alloc, wider(alloc, set, bits)?, bits)?;

@@ -1,11 +1,8 @@
 //! A look that is held while another thread's roll-over waits for it.
 
-use super::taking::{last, look};
 use crate::assertions::{equal, holds};
 use aug_live::OpenError;
-use aug_live_testing::opening::{
-    HandleOf, changed, ended, fill, opened, over, size, take_newer_snapshot,
-};
+use aug_live_testing::opening::{HandleOf, changed, ended, fill, looked, opened, size};
 use aug_trie::Outcome::{Accepted, Refused};
 use aug_trie_testing::rows::Change::Insert;
 use aug_trie_testing::rows::Reply::Came;
@@ -31,57 +28,43 @@ fn rolls<R: Wait>(rt: &R, hand: HandleOf, held: Receiver<()>, made: Sender<()>) 
     began && reply == Came(Accepted)
 }
 
-// Takes a look, says so, and holds it for a second, or for so many questions. Whether it showed four members each time, as did a newer snapshot, and
-// the other thread's update was not made meanwhile.
+// Takes a look, says so, holds it for a second, and asks it often. Whether it showed four members each time, as did a newer snapshot, and the other
+// thread's update was not made meanwhile.
 fn stays<R: Wait + Abort + Clock>(
     rt: &R,
     hand: HandleOf,
-    asks: u32,
     held: Sender<()>,
     made: Receiver<()>,
 ) -> (HandleOf, bool) {
-    let mut look = look(rt, hand, true);
+    let Ok(mut look) = looked(rt, hand, true) else {
+        panic!(rt; "no look");
+    };
     let mut right = held.send(rt, ()).is_ok();
-    if asks == 0 {
-        thread::sleep(rt, Duration::from_secs(1));
-    }
-    for _ in 0..asks {
+    thread::sleep(rt, Duration::from_secs(1));
+    for _ in 0..1_000 {
         right &= size(&mut look) == 4 && made.try_recv(rt).is_err();
     }
-    take_newer_snapshot(&mut look);
+    look.again();
     right &= size(&mut look) == 4;
-    (over(look), right)
+    (look.done(), right)
 }
 
-// One thread holds a look of two handles' trie, and another one's update waits for it. The handle of the look, and whether all was right.
-fn held<R: Threads + Wait + Abort + Sync + Clock>(
+// One thread holds a look, and another one's update waits for it.
+fn assert_waits<R: Threads + Wait + Abort + Sync + Clock>(
     rt: &R,
     alloc: Global,
-    hands: (HandleOf, HandleOf),
-    asks: u32,
-) -> (HandleOf, bool) {
-    let (hand, other) = hands;
-    let ((hold, held), (make, made)) = (signal(rt, alloc), signal(rt, alloc));
-    let (done, (other, right)) = thread::join(
-        rt,
-        move || rolls(rt, hand, held, make),
-        move || stays(rt, other, asks, hold, made),
-    );
-    (other, done && right)
-}
-
-/// A roll-over waits for a look that is held for a second, or for so many questions.
-pub(super) fn assert_waits<R: Threads + Wait + Abort + Sync + Clock>(
-    rt: &R,
-    alloc: Global,
-    asks: u32,
 ) -> Result<(), OpenError> {
     let (live, mut hands) = opened(alloc, 6, 2, 0, 4)?;
-    let mut hand = last(rt, &mut hands);
+    let mut hand = hands.pop().expect(rt, "a handle");
+    let other = hands.pop().expect(rt, "a handle");
     equal(rt, fill(rt, &mut hand, true, 0, 4), 4);
-    let other = last(rt, &mut hands);
-    let (mut other, right) = held(rt, alloc, (hand, other), asks);
-    holds(rt, right);
+    let ((hold, held), (make, made)) = (signal(rt, alloc), signal(rt, alloc));
+    let (done, (mut other, right)) = thread::join(
+        rt,
+        move || rolls(rt, hand, held, make),
+        move || stays(rt, other, hold, made),
+    );
+    holds(rt, done && right);
     let reply = changed(rt, &mut other, true, Insert(63));
     equal(rt, reply, Came(Refused));
     let (set, counts) = ended(rt, live);
@@ -90,7 +73,8 @@ pub(super) fn assert_waits<R: Threads + Wait + Abort + Sync + Clock>(
     Ok(())
 }
 
+// tests/faults runs this test, and measures how long a processor works meanwhile.
 #[test]
-fn a_roll_over_waits_for_a_look_that_is_held(rt: HostRuntime) -> Result<(), OpenError> {
-    assert_waits(&rt, rt.alloc(), 5_000)
+fn a_thread_that_waits_for_a_look_sleeps_for_1_second(rt: HostRuntime) -> Result<(), OpenError> {
+    assert_waits(&rt, rt.alloc())
 }

@@ -2,23 +2,13 @@
 #![tactic(auto)]
 
 #[cfg(test)]
-mod again;
-#[cfg(test)]
 mod assertions;
-#[cfg(test)]
-mod crowds;
 #[cfg(test)]
 mod granting;
 #[cfg(test)]
 mod holding;
 #[cfg(test)]
-mod planning;
-#[cfg(test)]
 mod rolling;
-#[cfg(test)]
-mod sleeping;
-#[cfg(test)]
-mod taking;
 #[cfg(test)]
 mod telling;
 #[cfg(test)]

@@ -2,13 +2,14 @@
 ghost use Rattle.std.specs.Prelude.{◌≡◌, IfOk};
 ghost use Rattle.aug_live.specs.LiveTries.{ids_of};
 
-use super::taking::look;
 use crate::assertions::{equal, holds};
 use aug_live::{Live, LiveError, OpenError, Plan};
+use aug_live_testing::acting::does;
 use aug_live_testing::opening::{
-    HandleOf, LiveOf, ended, has, no_keys, opened, over, renewed, rolled,
+    HandleOf, LiveOf, ended, looked, no_keys, opened, renewed, rolled,
 };
-use aug_trie_testing::rows::Reply::Done;
+use aug_trie_testing::rows::Act::Has;
+use aug_trie_testing::rows::Reply::{Done, Is};
 use std::alloc::Global;
 use std::process::Abort;
 use std::sync::Wait;
@@ -46,24 +47,22 @@ fn insert<R: Wait + Abort>(rt: &R, hand: &mut HandleOf, key: u32)
     equal(rt, hand.insert(rt, key), Ok(true));
 }
 
-// Whether a look of the handle shows a key.
-fn sees<R: Wait + Abort>(rt: &R, hand: HandleOf, key: u32) -> bool {
-    let mut look = look(rt, hand, true);
-    let seen = has(&mut look, key);
-    drop(over(look));
-    seen
-}
-
-// One handle learns a note of another, which is made before the round rolls over, or before a new handle comes for the lane 0.
+// One handle puts a key in and makes a note, and another learns it, which comes back then. The round rolls over before the note is made and before it is
+// learnt, or a new handle comes for the lane 0.
 fn learnt<R: Wait + Abort>(
     rt: &R,
     live: &mut LiveOf,
-    from: &mut HandleOf,
-    to: &mut HandleOf,
+    from: HandleOf,
+    to: HandleOf,
     rolls: bool,
-) -> Result<(), LiveError>
-    requires { to.old.half.round.table ≡ from.old.half.round.table }
+) -> Result<HandleOf, LiveError>
+    requires { to.half.round.table ≡ from.half.round.table }
 {
+    let (mut from, mut to) = (from, to);
+    insert(rt, &mut from, 1);
+    if rolls {
+        equal(rt, rolled(rt, live, true), Done);
+    }
     let Ok(note) = from.note(rt) else {
         panic!(rt; "no note");
     };
@@ -73,29 +72,9 @@ fn learnt<R: Wait + Abort>(
         drop(renewed(rt, live, true, 0));
     }
     match to.learn(rt, note) {
-        Ok(()) => Ok(()),
+        Ok(()) => Ok(to),
         Err((_, cause)) => Err(cause),
     }
-}
-
-// One handle puts a key in, and another sees it that learnt of it. The round rolls over before the note is made and before it is learnt.
-fn assert_told<R: Wait + Abort>(rt: &R, live: &mut LiveOf, from: HandleOf, to: HandleOf)
-    requires { to.half.round.table ≡ from.half.round.table }
-{
-    let (mut from, mut to) = (from, to);
-    insert(rt, &mut from, 1);
-    equal(rt, rolled(rt, live, true), Done);
-    equal(rt, learnt(rt, live, &mut from, &mut to, true), Ok(()));
-    holds(rt, sees(rt, to, 1));
-}
-
-// A handle that was replaced learns nothing.
-fn assert_not_learnt<R: Wait + Abort>(rt: &R, live: &mut LiveOf, from: HandleOf, to: HandleOf)
-    requires { to.half.round.table ≡ from.half.round.table }
-{
-    let (mut from, mut to) = (from, to);
-    let learnt = learnt(rt, live, &mut from, &mut to, false);
-    equal(rt, learnt, Err(LiveError::Replaced));
 }
 
 // Takes a handle back.
@@ -162,9 +141,11 @@ fn assert_back_later<R: Wait + Abort>(rt: &R, live: LiveOf, hand: HandleOf, othe
     requires lanes { ids_of hand.who.trie ≡ ids_of live }
 {
     let mut live = live;
-    let look = look(rt, other, true);
+    let Ok(look) = looked(rt, other, true) else {
+        panic!(rt; "no look");
+    };
     holds(rt, waits(&mut live));
-    drop(over(look));
+    drop(look.done());
     equal(rt, back(rt, &mut live, hand), Ok(()));
     equal(rt, end(rt, live), (0, 2, 2, 1));
 }
@@ -173,7 +154,9 @@ fn assert_back_later<R: Wait + Abort>(rt: &R, live: LiveOf, hand: HandleOf, othe
 fn a_note_tells_what_its_maker_did_over_roll_overs(rt: HostRuntime) -> Result<(), OpenError> {
     for bits in 1..=16 {
         let (mut live, a, b) = two(&rt, rt.alloc(), bits, 2)?;
-        assert_told(&rt, &mut live, a, b);
+        let hand = learnt(&rt, &mut live, a, b, true).expect(&rt, "a note");
+        let (_, seen) = does(&rt, rt.alloc(), hand, true, Has(1));
+        equal(&rt, seen, Is(true));
     }
     Ok(())
 }
@@ -181,7 +164,8 @@ fn a_note_tells_what_its_maker_did_over_roll_overs(rt: HostRuntime) -> Result<()
 #[test]
 fn a_handle_that_was_replaced_learns_nothing(rt: HostRuntime) -> Result<(), OpenError> {
     let (mut live, a, b) = two(&rt, rt.alloc(), 6, 2)?;
-    assert_not_learnt(&rt, &mut live, b, a);
+    let refused = learnt(&rt, &mut live, b, a, false).err();
+    equal(&rt, refused, Some(LiveError::Replaced));
     Ok(())
 }
 

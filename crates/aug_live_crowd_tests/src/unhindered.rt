@@ -1,26 +1,21 @@
-//! Calls with nobody in their way: none of them is refused or has to be made again, whatever the numbers of a trie are.
+//! Calls with nobody in their way: none of them is refused or has to be made again, whatever the numbers of a trie are, over roll-overs, and behind calls that
+//! are refused.
 
-use super::taking::look;
 use crate::assertions::{equal, holds};
 use aug_live::OpenError;
+use aug_live_testing::acting::does;
 use aug_live_testing::opening::{
-    HandleOf, LiveOf, changed, closed, opened, over, renewed, rolled, size,
+    HandleOf, LiveOf, changed, closed, ended, fill, opened, renewed, rolled,
 };
 use aug_trie::Outcome::{Accepted, Replaced};
 use aug_trie::{Outcome, Pop};
-use aug_trie_testing::rows::Change;
+use aug_trie_testing::rows::Act::{Note, Now, Size};
 use aug_trie_testing::rows::Change::{Insert, PopFirst, PopLast, Put, Remove};
-use aug_trie_testing::rows::Reply::{Came, Done, Popped};
+use aug_trie_testing::rows::Reply::{Came, Done, IsReplaced, NoLane, Number, Popped};
 use aug_trie_testing::sweeps::EACH;
 use std::alloc::Global;
 use std::process::Abort;
 use std::sync::Wait;
-
-// Gives a key a weight, by a call that waits or by one that waits for nobody. Whether it came to this.
-fn puts<R: Wait>(rt: &R, hand: &mut HandleOf, k: u32, weight: u32, outcome: Outcome) -> bool {
-    let waits = (k / 8 ^ k ^ weight) % 2 == 0;
-    changed(rt, hand, waits, Put(k, weight)) == Came(outcome)
-}
 
 // The keys of a test: how many, and how far each is from the one before.
 #[derive(Clone, Copy)]
@@ -37,7 +32,7 @@ fn keys_of(bits: u32) -> Keys {
     }
 }
 
-// Gives each key this weight. Whether each call came to this.
+// Gives each key this weight, by calls that wait and by calls that wait for nobody. Whether each of them came to this.
 fn puts_all<R: Wait>(
     rt: &R,
     hand: &mut HandleOf,
@@ -48,83 +43,70 @@ fn puts_all<R: Wait>(
     let mut right = true;
     for number in 0..keys.count {
         let k = number.saturating_mul(keys.step);
-        right &= puts(rt, hand, k, weight, outcome);
+        let waits = (k / 8 ^ k ^ weight) % 2 == 0;
+        right &= changed(rt, hand, waits, Put(k, weight)) == Came(outcome);
     }
     right
 }
 
-// Takes the member out that is left at one end, in one of four ways.
-fn takes_out<R: Wait>(rt: &R, hand: &mut HandleOf, pops: Change, it: (u32, u32), way: u32) -> bool {
-    let waits = way % 2 == 0;
-    if way % 4 < 2 {
-        changed(rt, hand, waits, Remove(it.0)) == Came(Accepted)
-    } else {
-        changed(rt, hand, waits, pops) == Popped(Pop::Member(it.0, it.1))
-    }
-}
-
-// The handle, and how many members a look of it shows, which waits or waits for nobody.
-fn sees<R: Wait + Abort>(rt: &R, hand: HandleOf, waits: bool) -> (HandleOf, u32) {
-    let mut look = look(rt, hand, waits);
-    let members = size(&mut look);
-    (over(look), members)
-}
-
 // Each handle gives each key a weight of its own, and sees them all.
-fn each_puts<R: Wait + Abort>(rt: &R, hands: Vec<HandleOf>, keys: Keys) {
-    let mut outcome = Accepted;
+fn each_puts<R: Wait + Abort>(rt: &R, alloc: Global, hands: Vec<HandleOf>, keys: Keys) {
     let mut weight = 0u32;
     for hand in hands {
         let mut hand = hand;
+        let outcome = if weight == 0 { Accepted } else { Replaced };
         holds(rt, puts_all(rt, &mut hand, keys, weight, outcome));
-        let (_, members) = sees(rt, hand, weight % 2 == 0);
-        equal(rt, members, keys.count);
-        outcome = Replaced;
+        let (_, members) = does(rt, alloc, hand, weight % 2 == 0, Size);
+        equal(rt, members, Number(keys.count));
         weight = weight.saturating_add(1);
     }
 }
 
-// A handle takes so many of these members out, of which each has this weight, in turn from both ends, and leaves one at least. Whether each call came
-// to that, and the numbers of the keys that are left then.
-fn takes_some<R: Wait>(
-    rt: &R,
-    hand: HandleOf,
-    keys: Keys,
+// The members that are left, by their numbers, and the weight of each.
+#[derive(Clone, Copy)]
+struct Left {
+    from: u32,
+    below: u32,
     weight: u32,
-    left: (u32, u32),
-) -> (bool, (u32, u32)) {
-    let (mut hand, (mut from, mut below)) = (hand, left);
+}
+
+// A handle takes so many members out, in turn from both ends and in one of four ways, and leaves one at least. Whether each call came to that.
+fn takes_some<R: Wait>(rt: &R, hand: HandleOf, keys: Keys, count: u32, left: &mut Left) -> bool {
+    let mut hand = hand;
     let mut right = true;
-    for number in 0..keys.count {
-        if below.saturating_sub(from) < 2 {
-            return (right, (from, below));
+    for number in 0..count {
+        if left.below.saturating_sub(left.from) < 2 {
+            return right;
         }
         let (pops, k) = if number % 2 == 0 {
-            from = from.saturating_add(1);
-            (PopFirst, from.saturating_sub(1))
+            left.from = left.from.saturating_add(1);
+            (PopFirst, left.from.saturating_sub(1))
         } else {
-            below = below.saturating_sub(1);
-            (PopLast, below)
+            left.below = left.below.saturating_sub(1);
+            (PopLast, left.below)
         };
-        let member = (k.saturating_mul(keys.step), weight);
-        right &= takes_out(rt, &mut hand, pops, member, number / 2);
+        let (key, way) = (k.saturating_mul(keys.step), number / 2);
+        let (change, reply) = if way % 4 < 2 {
+            (Remove(key), Came(Accepted))
+        } else {
+            (pops, Popped(Pop::Member(key, left.weight)))
+        };
+        right &= changed(rt, &mut hand, way % 2 == 0, change) == reply;
     }
-    (right, (from, below))
+    right
 }
 
 // New handles of all lanes take all keys out but one.
 fn each_lane_takes_out<R: Wait + Abort>(rt: &R, live: &mut LiveOf, handles: u32, keys: Keys) {
-    let weight = handles.saturating_sub(1);
-    let mut left = (0, keys.count);
-    let each = Keys {
-        count: (keys.count / handles.max(1)).saturating_add(1),
-        step: keys.step,
+    let mut left = Left {
+        from: 0,
+        below: keys.count,
+        weight: handles.saturating_sub(1),
     };
+    let each = (keys.count / handles.max(1)).saturating_add(1);
     for lane in 0..handles {
         let hand = renewed(rt, live, lane % 2 == 0, lane).expect(rt, "a handle");
-        let (right, next) = takes_some(rt, hand, each, weight, left);
-        holds(rt, right);
-        left = next;
+        holds(rt, takes_some(rt, hand, keys, each, &mut left));
     }
 }
 
@@ -139,7 +121,7 @@ fn assert_made<R: Wait + Abort>(
     let keys = keys_of(bits);
     let spare = (bits % 3).min(64u32.saturating_sub(handles));
     let (mut live, hands) = opened(alloc, bits, handles, spare, updates)?;
-    each_puts(rt, hands, keys);
+    each_puts(rt, alloc, hands, keys);
     equal(rt, rolled(rt, &mut live, false), Done);
     equal(rt, rolled(rt, &mut live, true), Done);
     each_lane_takes_out(rt, &mut live, handles, keys);
@@ -162,23 +144,12 @@ const SWEEPS: &[Sweep] = &[
     (16, &[2], 2_000),
 ];
 
-// Goes through the numbers of handles of a sweep, with one number of bits.
-fn assert_each<R: Wait + Abort>(
-    rt: &R,
-    alloc: Global,
-    bits: u32,
-    it: &Sweep,
-) -> Result<(), OpenError> {
-    for handles in it.1 {
-        assert_made(rt, alloc, bits, *handles, it.2)?;
-    }
-    Ok(())
-}
-
 // Goes through all numbers of a sweep.
 fn assert_sweep<R: Wait + Abort>(rt: &R, alloc: Global, it: &Sweep) -> Result<(), OpenError> {
     for bits in 1..=it.0 {
-        assert_each(rt, alloc, bits, it)?;
+        for handles in it.1 {
+            assert_made(rt, alloc, bits, *handles, it.2)?;
+        }
     }
     Ok(())
 }
@@ -193,30 +164,97 @@ fn no_call_is_refused_or_made_again_with_nobody_in_its_way(
     Ok(())
 }
 
+// The handles, the spare lanes and the updates of a lane of a trie, each of whose handles puts two keys in, three times; whether the round is rolled over
+// by hand behind the keys of all handles, and how many rounds come of it.
+type Crowd = (u32, u32, u32, bool, u64);
+
+const CROWDS: &[Crowd] = &[
+    // Each handle rolls the round over each time that it has its second key to put in.
+    (8, 0, 1, false, 25),
+    (64, 0, 1, false, 193),
+    // Two of three handles take a spare lane for their second key, and the third one rolls the round over.
+    (62, 2, 1, false, 63),
+    (8, 1, 6, true, 4),
+    (64, 0, 6, true, 4),
+];
+
+// Calls that are refused: a lane is asked for that is not there, and the handle of the last lane makes an update once a new one has its place.
+fn are_refused<R: Wait + Abort>(rt: &R, live: &mut LiveOf, hands: &mut Vec<HandleOf>, count: u32) {
+    let refused = renewed(rt, live, true, count);
+    equal(rt, refused.err(), Some(NoLane));
+    let mut old = hands.pop().expect(rt, "a handle");
+    let new = renewed(rt, live, true, count.saturating_sub(1)).expect(rt, "a new handle");
+    let reply = changed(rt, &mut old, true, Insert(511));
+    equal(rt, reply, IsReplaced);
+    hands.push(new).expect(rt, "memory");
+}
+
+// What the trie of a row comes to.
+fn assert_goes_on<R: Wait + Abort>(rt: &R, alloc: Global, it: &Crowd) -> Result<(), OpenError> {
+    let (handles, spare, updates, by_hand, rounds) = *it;
+    let (mut live, mut hands) = opened(alloc, 9, handles, spare, updates)?;
+    let mut members = 0u32;
+    for _ in 0..3 {
+        for hand in hands.as_mut_slice() {
+            equal(rt, fill(rt, hand, true, members, 2), 2);
+            members = members.saturating_add(2);
+        }
+        if by_hand {
+            equal(rt, rolled(rt, &mut live, true), Done);
+        }
+        are_refused(rt, &mut live, &mut hands, handles);
+    }
+    for hand in hands {
+        let (_, seen) = does(rt, alloc, hand, true, Size);
+        equal(rt, seen, Number(members));
+    }
+    let (set, counts) = ended(rt, live);
+    let (all, handles) = (u64::from(members), u64::from(handles).saturating_add(3));
+    equal(rt, (set.size(), counts.rounds), (members, rounds));
+    equal(rt, (counts.inserts, counts.removals), (all, 0));
+    equal(rt, (counts.handles, counts.missing), (handles, handles));
+    Ok(())
+}
+
+#[test]
+fn each_of_64_handles_goes_on_over_roll_overs_and_refusals(
+    rt: HostRuntime,
+) -> Result<(), OpenError> {
+    for it in CROWDS {
+        assert_goes_on(&rt, rt.alloc(), it)?;
+    }
+    Ok(())
+}
+
 // How many rounds a handle goes through.
 const ROUNDS: u32 = 3_000;
 
-// Makes a note, which is dropped.
-fn notes<R: Wait>(rt: &R, hand: &mut HandleOf) -> bool {
-    hand.note(rt).is_ok()
-}
-
 // Puts key 5 in or takes it out, each time in a new round, with a note before and a look behind. The calls wait, or wait for nobody. Whether each
 // came to that.
-fn goes_on<R: Wait + Abort>(rt: &R, hand: HandleOf) -> bool {
-    let mut hand = hand;
-    let mut right = true;
+fn goes_on<R: Wait>(rt: &R, alloc: Global, hand: HandleOf) -> bool {
+    let (mut hand, mut right) = (hand, true);
     for number in 0..ROUNDS {
-        right &= notes(rt, &mut hand);
-        right &= match number % 4 {
-            0 => changed(rt, &mut hand, true, Insert(5)) == Came(Accepted),
-            1 => changed(rt, &mut hand, false, PopLast) == Popped(Pop::Member(5, 5)),
-            2 => changed(rt, &mut hand, false, Insert(5)) == Came(Accepted),
-            _ => changed(rt, &mut hand, true, PopFirst) == Popped(Pop::Member(5, 5)),
+        let (waits, pops) = match number % 4 {
+            0 => (true, PopLast),
+            1 => (false, PopLast),
+            2 => (false, PopFirst),
+            _ => (true, PopFirst),
         };
-        let (same, members) = sees(rt, hand, number % 3 == 0);
-        right &= members == 1 - number % 2;
-        hand = same;
+        let (change, reply) = if number % 2 == 0 {
+            (Insert(5), Came(Accepted))
+        } else {
+            (pops, Popped(Pop::Member(5, 5)))
+        };
+        let acts = [
+            (true, Note, Done),
+            (waits, Now(change), reply),
+            (number % 3 == 0, Size, Number(1 - number % 2)),
+        ];
+        for (waits, act, expected) in acts {
+            let (same, found) = does(rt, alloc, hand, waits, act);
+            right &= found == expected;
+            hand = same;
+        }
     }
     right
 }
@@ -226,16 +264,17 @@ fn goes_on<R: Wait + Abort>(rt: &R, hand: HandleOf) -> bool {
 fn each_handle_goes_on_over_thousands_of_rounds(rt: HostRuntime) -> Result<(), OpenError> {
     let (mut live, hands) = opened(rt.alloc(), 3, 3, 0, 1)?;
     for hand in hands {
-        holds(&rt, goes_on(&rt, hand));
+        holds(&rt, goes_on(&rt, rt.alloc(), hand));
     }
-    equal(&rt, rolled(&rt, &mut live, true), Done);
-    equal(&rt, rolled(&rt, &mut live, false), Done);
+    for waits in [true, false] {
+        equal(&rt, rolled(&rt, &mut live, waits), Done);
+    }
     for waits in [true, false] {
         let hand = renewed(&rt, &mut live, waits, 1).expect(&rt, "a handle");
-        holds(&rt, goes_on(&rt, hand));
+        holds(&rt, goes_on(&rt, rt.alloc(), hand));
     }
     let Ok((set, counts)) = closed(&rt, live, false) else {
-        panic!(rt; "not closed");
+        panic!(&rt; "not closed");
     };
     equal(&rt, (set.size(), counts.rounds), (0, 14_999));
     Ok(())

@@ -1,4 +1,5 @@
 //! What the tests of live tries share.
 #![tactic(auto)]
 
+pub mod acting;
 pub mod opening;

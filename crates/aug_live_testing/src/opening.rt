@@ -3,7 +3,7 @@
 
 use aug_live::{Busy, Handle, Live, LiveCounts, LiveError, Look, OpenError, Plan, TryError};
 use aug_monoid::{Extent, Sum};
-use aug_query::descent::{Has, Size};
+use aug_query::descent::Size;
 use aug_trie::{Members, Outcome, Pop, Request, Told};
 use aug_trie_testing::rows::{Change, Reply, made, request_of, tells};
 use ruled_lock::WasOut;
@@ -224,29 +224,6 @@ pub fn looked<R: Wait>(rt: &R, hand: HandleOf, waits: bool) -> Result<LookOf, (H
         Ok(look) => Ok(look),
         Err((hand, cause)) => Err((hand, missed(cause))),
     }
-}
-
-/// Ends a look.
-pub fn over(look: LookOf) -> HandleOf {
-    look.done()
-}
-
-/// Takes a newer snapshot.
-pub fn take_newer_snapshot(look: &mut LookOf) {
-    look.again();
-}
-
-/// Takes a newer snapshot. The first key whose weight differs between the one before and this one, with its weights in both.
-pub fn first_change(look: &mut LookOf) -> Option<(u32, Option<u32>, Option<u32>)> {
-    look.again();
-    let page = look.changes(0);
-    let change = page.first().copied()?;
-    Some((change.key, change.before, change.after))
-}
-
-/// Whether a key is a member.
-pub fn has(look: &mut LookOf, k: u32) -> bool {
-    look.ask(Has(k))
 }
 
 /// How many members a look shows.

@@ -2,21 +2,17 @@
 #![tactic(auto)]
 
 #[cfg(test)]
-mod adding;
-#[cfg(test)]
 mod assertions;
 #[cfg(test)]
 mod batching;
 #[cfg(test)]
-mod comparing;
-#[cfg(test)]
 mod own;
-#[cfg(test)]
-mod popping;
 #[cfg(test)]
 mod refused;
 #[cfg(test)]
 mod rows;
+#[cfg(test)]
+mod sharing;
 #[cfg(test)]
 mod since;
 #[cfg(test)]

@@ -1,10 +1,9 @@
 //! Memory refused: nothing is lost, and a later call succeeds.
 
-use super::steps::{state_of, steps};
+use super::steps::{rows, state_of};
 use crate::assertions::equal;
 use aug_live::{Live, OpenError, Plan};
-use aug_live_testing::opening::{HandleOf, LiveOf, changed, ended, no_keys, opened};
-use aug_monoid::{Extent, Sum};
+use aug_live_testing::opening::{HandleOf, LiveOf, changed, ended, no_keys};
 use aug_trie::Members;
 use aug_trie::Outcome::{Accepted, Refused};
 use aug_trie_testing::rows::Act::*;
@@ -14,108 +13,62 @@ use aug_trie_testing::rows::Line::*;
 use aug_trie_testing::rows::Reply::*;
 use std::alloc::Global;
 use std::process::Abort;
-use std::sync::Wait;
 
-// Opens a trie over a set with one handle, for rounds of two updates.
-fn opened_over(
-    alloc: Global,
-    set: Members,
-) -> Result<(LiveOf, Vec<HandleOf>), (Members, OpenError)> {
-    let plan = Plan {
-        lanes: 1,
-        updates: 2,
-    };
-    Live::open_with(alloc, set, 1, plan)
+type Opened = (LiveOf, Vec<HandleOf>);
+
+// Opens a trie over a set, for rounds of two updates of one handle, or within so many bytes.
+fn opens(alloc: Global, set: Members, by_plan: bool) -> Result<Opened, (Members, OpenError)> {
+    if by_plan {
+        let (lanes, updates) = (1, 2);
+        return Live::open_with(alloc, set, 1, Plan { lanes, updates });
+    }
+    Live::open(alloc, set, 2, 1 << 16)
 }
 
-// Opens a trie with one handle, again if memory was refused.
-fn opened_again(rt: &impl Abort, alloc: Global) -> Result<(LiveOf, Vec<HandleOf>), OpenError> {
-    let set = match no_keys(alloc, 4) {
-        Ok(set) => set,
-        Err(_) => no_keys(alloc, 4)?,
-    };
-    let set = match opened_over(alloc, set) {
+// Opens it again if memory was refused. The set that comes back is the same.
+fn opens_again(
+    rt: &impl Abort,
+    alloc: Global,
+    set: Members,
+    by_plan: bool,
+    pairs: &[(u32, u32)],
+) -> Result<Opened, OpenError> {
+    let set = match opens(alloc, set, by_plan) {
         Ok(opened) => return Ok(opened),
         Err((set, cause)) => {
-            equal(
-                rt,
-                (set.bits(), set.size(), cause),
-                (4, 0, OpenError::OutOfMemory),
-            );
+            equal(rt, (set.bits(), cause), (4, OpenError::OutOfMemory));
             set
         }
     };
-    match opened_over(alloc, set) {
-        Ok(opened) => Ok(opened),
-        Err((_, cause)) => Err(cause),
-    }
+    equal(rt, set.as_slice(), pairs);
+    opens(alloc, set, by_plan).map_err(|refused| refused.1)
 }
 
+const PAIRS: &[(u32, u32)] = &[(3, 30), (9, 9)];
+
+// 0, 1, 2 and 4 go in.
 const LINES: &[Line] = &[
-    A(Fill(0, 5), Number(5)),
+    A(Fill(0, 5), Number(4)),
     A(Now(Remove(2)), Came(Accepted)),
-    A(Size, Number(4)),
+    A(Size, Number(5)),
     A(Renew(0), Done),
     A(Now(Insert(4)), Came(Refused)),
+    A(Weight(3), Finds(Some(30))),
     A(Roll, Done),
-    A(Close, Closed(4, 5, 5, 1)),
+    A(Close, Closed(5, 5, 4, 1)),
 ];
 
 // Passes whichever request for memory is refused. Updates, looks, roll-overs and new handles ask for none, so that none of them is refused.
 #[test]
 fn refused_memory_loses_nothing_of_a_live_trie(rt: HostRuntime) -> Result<(), OpenError> {
-    let (live, hands) = opened_again(&rt, rt.alloc())?;
-    let state = state_of(live, hands);
-    steps(&rt, rt.alloc(), state, true, "a trie of two updates", LINES);
-    Ok(())
-}
-
-// The set of 3, which weighs 30, and 9, which weighs itself.
-fn two_keys<R: Wait + Abort>(rt: &R, alloc: Global) -> Result<Members, OpenError> {
-    let (live, mut hands) = opened(alloc, 4, 1, 0, 2)?;
-    let mut hand = hands.pop().expect(rt, "a handle");
+    let alloc = rt.alloc();
+    let (live, mut hands) = opens_again(&rt, alloc, no_keys(alloc, 4)?, false, &[])?;
+    let mut hand = hands.pop().expect(&rt, "a handle");
     for change in [Put(3, 30), Insert(9)] {
-        equal(rt, changed(rt, &mut hand, true, change), Came(Accepted));
+        equal(&rt, changed(&rt, &mut hand, true, change), Came(Accepted));
     }
-    let (set, _) = ended(rt, live);
-    Ok(set)
-}
-
-// It is this set.
-fn assert_has_two(rt: &impl Abort, set: &Members) {
-    equal(rt, (set.bits(), set.size()), (4, 2));
-    equal(rt, set.as_slice(), [(3, 30), (9, 9)].as_slice());
-}
-
-// Opens a trie over the set within so many bytes, and closes it.
-fn opened_within<R: Wait>(
-    rt: &R,
-    alloc: Global,
-    set: Members,
-) -> Result<Members, (Members, OpenError)> {
-    let (live, _) = Live::<Sum, Extent>::open(alloc, set, 2, 1 << 16)?;
-    let (set, _) = ended(rt, live);
-    Ok(set)
-}
-
-// Passes whichever request for memory is refused.
-#[test]
-fn refused_memory_gives_the_set_back(rt: HostRuntime) -> Result<(), OpenError> {
-    let set = match two_keys(&rt, rt.alloc()) {
-        Ok(set) => set,
-        Err(_) => two_keys(&rt, rt.alloc())?,
-    };
-    let set = match opened_within(&rt, rt.alloc(), set) {
-        Ok(set) => set,
-        Err((set, cause)) => {
-            equal(&rt, cause, OpenError::OutOfMemory);
-            assert_has_two(&rt, &set);
-            match opened_within(&rt, rt.alloc(), set) {
-                Ok(set) => set,
-                Err((_, cause)) => return Err(cause),
-            }
-        }
-    };
-    assert_has_two(&rt, &set);
-    Ok(())
+    let (set, _) = ended(&rt, live);
+    equal(&rt, set.as_slice(), PAIRS);
+    let (live, hands) = opens_again(&rt, alloc, set, true, PAIRS)?;
+    rows(&rt, alloc, state_of(live, hands), true, 0, LINES)
 }

@@ -2,33 +2,15 @@
 //! for nobody; and what these come to while a look is held and once it is over. A look of the lane with number 0 lets a roll-over take the other lane,
 //! which then stays taken, and one of the other lane lets it take none.
 
-use super::steps::rows;
+use super::steps::tables;
 use aug_live::OpenError;
-use aug_trie::Outcome::{Accepted, Refused, Replaced, TooGreat, TooLittle, Unchanged};
-use aug_trie::Pop;
+use aug_trie::Outcome::{Accepted, Refused, Replaced};
 use aug_trie_testing::rows::Act::*;
 use aug_trie_testing::rows::Change::*;
 use aug_trie_testing::rows::Line;
 use aug_trie_testing::rows::Line::*;
 use aug_trie_testing::rows::Reply::*;
 use aug_trie_testing::updates;
-use std::alloc::Global;
-use std::process::Abort;
-use std::sync::Wait;
-
-// Tables by calls that wait, and by those that wait for nobody, in rounds of at most so many updates of a lane.
-fn both<R: Wait + Abort>(
-    rt: &R,
-    alloc: Global,
-    most: u32,
-    tables: &[&[Line]],
-) -> Result<(), OpenError> {
-    for table in tables {
-        rows(rt, alloc, true, most, table)?;
-        rows(rt, alloc, false, most, table)?;
-    }
-    Ok(())
-}
 
 const UPDATES: &[&[Line]] = &[
     updates::AMOUNTS,
@@ -43,7 +25,8 @@ fn an_update_of_a_handle_comes_to_what_that_of_a_pass_does(
     rt: HostRuntime,
 ) -> Result<(), OpenError> {
     for most in [u32::MAX, 2, 1] {
-        both(&rt, rt.alloc(), most, UPDATES)?;
+        tables(&rt, rt.alloc(), true, most, UPDATES)?;
+        tables(&rt, rt.alloc(), false, most, UPDATES)?;
     }
     Ok(())
 }
@@ -131,70 +114,9 @@ const ROUNDS: &[Line] = &[
     B(Over, Done),
     B(Fill(20, 4), Number(4)),
     B(Close, Closed(16, 1, 16, 0)),
-    // A lane has two updates in a round. Each addition of a member counts as a removal and an insertion.
-    Row("additions and subtractions go on over rounds"),
-    Live(4, 1, 0, 2),
-    A(Now(Insert(7)), Came(Accepted)),
-    A(Now(Add(7, 5)), Came(Replaced)),
-    A(Now(Add(7, 1)), Came(Replaced)),
-    A(Now(Add(3, 4)), Came(Accepted)),
-    A(Now(Sub(7, 14)), Came(TooLittle)),
-    A(Now(Add(7, u32::MAX)), Came(TooGreat)),
-    A(Now(Add(2, 0)), Came(Unchanged)),
-    A(Now(Sub(7, 3)), Came(Replaced)),
-    A(Roll, Done),
-    A(Now(Sub(3, 4)), Came(Accepted)),
-    A(Size, Number(1)),
-    A(Weight(7), Finds(Some(10))),
-    A(Weight(3), Finds(None)),
-    A(Renew(0), Done),
-    A(Now(Add(7, 1)), Came(Replaced)),
-    A(Weight(7), Finds(Some(11))),
-    A(Close, Closed(1, 5, 6, 5)),
-    // A lane has two updates in a round.
-    Row("pops go on over rounds, from both ends"),
-    Live(4, 1, 0, 2),
-    A(Now(PopFirst), Popped(Pop::Empty)),
-    A(Now(PopLast), Popped(Pop::Empty)),
-    A(Now(Put(9, 0)), Came(Accepted)),
-    A(Now(Insert(4)), Came(Accepted)),
-    A(Now(Insert(12)), Came(Accepted)),
-    A(Now(PopFirst), Popped(Pop::Member(4, 4))),
-    A(Now(PopLast), Popped(Pop::Member(12, 12))),
-    A(Roll, Done),
-    A(Now(PopFirst), Popped(Pop::Member(9, 0))),
-    A(Now(PopFirst), Popped(Pop::Empty)),
-    A(Size, Number(0)),
-    A(Close, Closed(0, 4, 3, 3)),
-    Row("pops and takes leave a key of another weight"),
-    Live(4, 1, 0, 8),
-    A(Now(PopLast), Popped(Pop::Empty)),
-    A(Now(Insert(3)), Came(Accepted)),
-    A(Now(Put(5, 7)), Came(Accepted)),
-    A(Now(Take(5, 5)), Came(Refused)),
-    A(Now(PopLast), Popped(Pop::Member(5, 7))),
-    A(Now(Take(3, 3)), Came(Accepted)),
-    A(Now(PopFirst), Popped(Pop::Empty)),
-    A(Close, Closed(0, 1, 2, 2)),
 ];
 
-#[test]
-fn handles_and_looks_go_on_over_rounds(rt: HostRuntime) -> Result<(), OpenError> {
-    both(&rt, rt.alloc(), 0, &[ROUNDS])
-}
-
 const LANES: &[Line] = &[
-    Row("a new handle goes on where a dropped one ended"),
-    Live(6, 2, 0, 3),
-    A(Fill(0, 8), Number(8)),
-    A(GiveUp, Done),
-    A(Renew(1), Done),
-    A(Size, Number(8)),
-    A(Now(Insert(0)), Came(Refused)),
-    A(Fill(8, 8), Number(8)),
-    A(Roll, Done),
-    A(Now(Remove(0)), Came(Accepted)),
-    A(Close, Closed(15, 7, 16, 1)),
     Row("a new handle goes on with spare lanes"),
     Live(6, 2, 2, 2),
     A(GiveUp, Done),
@@ -222,6 +144,7 @@ const LANES: &[Line] = &[
     A(Renew(u32::MAX), NoLane),
     A(Renew(1), Done),
     A(Size, Number(8)),
+    A(Now(Insert(0)), Came(Refused)),
     A(Fill(8, 8), Number(8)),
     A(Renew(0), Done),
     A(Fill(16, 4), Number(4)),
@@ -229,11 +152,6 @@ const LANES: &[Line] = &[
     A(Roll, Done),
     A(Close, Closed(20, 9, 20, 0)),
 ];
-
-#[test]
-fn each_lane_is_given_to_new_handles(rt: HostRuntime) -> Result<(), OpenError> {
-    both(&rt, rt.alloc(), 0, &[LANES])
-}
 
 const REFUSALS: &[Line] = &[
     Row("the old handle of a lane that was given on is refused"),
@@ -262,8 +180,13 @@ const REFUSALS: &[Line] = &[
 ];
 
 #[test]
-fn a_closed_trie_and_the_old_handle_of_a_lane_answer_so(rt: HostRuntime) -> Result<(), OpenError> {
-    both(&rt, rt.alloc(), 0, &[REFUSALS])
+fn handles_and_looks_go_on_over_rounds_and_behind_refusals(
+    rt: HostRuntime,
+) -> Result<(), OpenError> {
+    for waits in [true, false] {
+        tables(&rt, rt.alloc(), waits, 0, &[ROUNDS, LANES, REFUSALS])?;
+    }
+    Ok(())
 }
 
 const LATER: &[Line] = &[
@@ -274,6 +197,7 @@ const LATER: &[Line] = &[
     TryB(Now(Insert(2)), Later),
     TryB(Now(Remove(0)), Later),
     TryB(Now(Put(1, 9)), Later),
+    TryB(Size, Number(2)),
     A(Size, Number(0)),
     A(Again, Done),
     A(Pairs, Listed(Some((0, 0)), Some((1, 1)), None)),
@@ -281,15 +205,6 @@ const LATER: &[Line] = &[
     TryB(Now(Insert(2)), Came(Accepted)),
     TryB(Now(Remove(0)), Came(Accepted)),
     B(Close, Closed(2, 2, 3, 1)),
-    Row("a look of a spent lane waits for nobody"),
-    Live(6, 2, 0, 2),
-    A(Look, Done),
-    B(Fill(0, 2), Number(2)),
-    TryB(Now(Insert(2)), Later),
-    TryB(Size, Number(2)),
-    A(Over, Done),
-    TryB(Now(Insert(2)), Came(Accepted)),
-    B(Close, Closed(3, 2, 3, 0)),
     Row("the lane of a try that had to wait goes on"),
     Live(6, 2, 0, 2),
     B(Look, Done),
@@ -331,11 +246,6 @@ const LATER: &[Line] = &[
     A(Close, Closed(17, 2, 17, 0)),
 ];
 
-#[test]
-fn an_update_that_has_to_wait_is_made_later(rt: HostRuntime) -> Result<(), OpenError> {
-    rows(&rt, rt.alloc(), true, 0, LATER)
-}
-
 const ROLLS: &[Line] = &[
     Row("a handle whose lane a roll-over took goes on with it"),
     Live(6, 2, 0, 4),
@@ -350,27 +260,26 @@ const ROLLS: &[Line] = &[
     TryA(Now(Insert(1)), Came(Accepted)),
     TryB(Now(Insert(2)), Came(Accepted)),
     TryB(Close, Closed(3, 2, 3, 0)),
-    Row("an update that waits goes on with it"),
+    Row("calls that wait go on with it"),
     Live(6, 2, 0, 4),
     B(Look, Done),
     TryB(Roll, Later),
     B(Over, Done),
     A(Now(Insert(1)), Came(Accepted)),
-    A(Close, Closed(1, 2, 1, 0)),
-    Row("a look that waits goes on with it"),
-    Live(6, 2, 0, 4),
     B(Look, Done),
     TryB(Roll, Later),
     B(Over, Done),
-    A(Size, Number(0)),
-    A(Close, Closed(0, 2, 0, 0)),
-    Row("a note goes on with it"),
-    Live(6, 2, 0, 4),
+    A(Size, Number(1)),
     B(Look, Done),
     TryB(Roll, Later),
     B(Over, Done),
     A(Note, Done),
-    A(Close, Closed(0, 2, 0, 0)),
+    B(Look, Done),
+    TryB(Roll, Later),
+    B(Over, Done),
+    B(Renew(1), Done),
+    B(Now(Insert(2)), Came(Accepted)),
+    B(Close, Closed(2, 5, 2, 0)),
     Row("the trie goes on with it, by a try or a call that waits"),
     Live(6, 2, 0, 4),
     B(Look, Done),
@@ -406,10 +315,7 @@ const ROLLS: &[Line] = &[
     B(Again, Done),
     B(Pairs, Listed(Some((40, 40)), Some((41, 41)), None)),
     B(Over, Done),
-    B(Now(Insert(42)), Came(Accepted)),
-    B(Now(Insert(43)), Came(Accepted)),
-    B(Now(Insert(44)), Came(Accepted)),
-    B(Now(Insert(45)), Came(Accepted)),
+    B(Fill(42, 4), Number(4)),
     TryB(Roll, Done),
     B(Close, Closed(6, 3, 6, 0)),
     Row("handles and the trie may be dropped while a roll-over waits"),
@@ -419,11 +325,6 @@ const ROLLS: &[Line] = &[
     A(GiveUp, Done),
     B(Size, Number(0)),
 ];
-
-#[test]
-fn a_roll_over_that_has_to_wait_is_gone_on_with(rt: HostRuntime) -> Result<(), OpenError> {
-    rows(&rt, rt.alloc(), true, 0, ROLLS)
-}
 
 const ENDS: &[Line] = &[
     Row("a lane is given on once its look is over"),
@@ -453,14 +354,6 @@ const ENDS: &[Line] = &[
     B(Renew(0), Done),
     TryB(Fill(10, 3), Number(3)),
     B(Close, Closed(7, 2, 7, 0)),
-    Row("a call for a new handle that waits goes on with a roll-over"),
-    Live(6, 2, 0, 3),
-    B(Look, Done),
-    TryB(Roll, Later),
-    B(Over, Done),
-    B(Renew(1), Done),
-    B(Now(Insert(1)), Came(Accepted)),
-    B(Close, Closed(1, 2, 1, 0)),
     Row("a trie is closed once a look is over, and is the same until then"),
     Live(6, 2, 0, 3),
     TryA(Now(Insert(7)), Came(Accepted)),
@@ -473,8 +366,9 @@ const ENDS: &[Line] = &[
     A(Pairs, Listed(Some((8, 8)), None, None)),
     A(Over, Done),
     TryA(Close, Closed(1, 1, 2, 1)),
-    TryA(Now(Insert(9)), IsClosed),
-    TryB(Look, IsClosed),
+    A(Now(Insert(9)), IsClosed),
+    A(Note, IsClosed),
+    B(Look, IsClosed),
     Row("the lanes that an end took are not lost"),
     Live(6, 2, 0, 3),
     TryA(Now(Insert(7)), Came(Accepted)),
@@ -506,16 +400,9 @@ const ENDS: &[Line] = &[
     B(Over, Done),
     B(Close, Closed(1, 1, 1, 0)),
     TryA(Now(Insert(9)), IsClosed),
-    Row("a trie that was closed by a try answers calls that wait"),
-    Live(4, 2, 0, 5),
-    TryA(Now(Insert(9)), Came(Accepted)),
-    TryA(Close, Closed(1, 1, 1, 0)),
-    A(Now(Insert(8)), IsClosed),
-    A(Look, IsClosed),
-    A(Note, IsClosed),
 ];
 
 #[test]
-fn a_lane_or_the_end_of_a_trie_comes_once_a_look_is_over(rt: HostRuntime) -> Result<(), OpenError> {
-    rows(&rt, rt.alloc(), true, 0, ENDS)
+fn what_has_to_wait_comes_once_a_look_is_over(rt: HostRuntime) -> Result<(), OpenError> {
+    tables(&rt, rt.alloc(), true, 0, &[LATER, ROLLS, ENDS])
 }

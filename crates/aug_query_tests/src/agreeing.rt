@@ -4,9 +4,8 @@ use crate::assertions::equal;
 use aug_model::{KeySet, ModelError};
 use aug_monoid::Sum;
 use aug_query::FakeTree;
-use aug_testing::Last;
+use aug_testing::{Host, Last};
 use std::alloc::{AllocError, Global};
-use std::process::Abort;
 use std::test::Fail;
 
 // The set of the `members` least keys of `width` bits. No key weighs itself.
@@ -41,11 +40,11 @@ fn lists(alloc: Global, tree: &mut FakeTree<Last, Sum>) -> Result<(usize, usize)
 }
 
 // Compares the lists of the tree of the `members` least keys.
-fn assert_lists(rt: &impl Abort, alloc: Global, bits: u32, members: u32) -> Result<(), Fail> {
-    let set = set_of(alloc, bits, members)?;
-    let mut tree = tree_of(alloc, &set)?;
+fn assert_lists(rt: &impl Host, bits: u32, members: u32) -> Result<(), Fail> {
+    let set = set_of(rt.alloc(), bits, members)?;
+    let mut tree = tree_of(rt.alloc(), &set)?;
     let count = members as usize;
-    let (keys, pairs) = lists(alloc, &mut tree)?;
+    let (keys, pairs) = lists(rt.alloc(), &mut tree)?;
     equal(rt, (bits, keys, pairs), (bits, count, count));
     Ok(())
 }
@@ -65,7 +64,7 @@ const TREES: &[(u32, u32)] = &[
 #[test]
 fn trees_of_many_members_are_listed(rt: HostRuntime) -> Result<(), Fail> {
     for (bits, members) in TREES {
-        assert_lists(&rt, rt.alloc(), *bits, *members)?;
+        assert_lists(&rt, *bits, *members)?;
     }
     Ok(())
 }
@@ -74,8 +73,8 @@ fn trees_of_many_members_are_listed(rt: HostRuntime) -> Result<(), Fail> {
 #[test]
 fn each_number_of_members_and_of_bits_is_listed(rt: HostRuntime) -> Result<(), Fail> {
     for number in 0..300u32 {
-        assert_lists(&rt, rt.alloc(), 9, number)?;
-        assert_lists(&rt, rt.alloc(), number % 16 + 1, number / 16 % 3)?;
+        assert_lists(&rt, 9, number)?;
+        assert_lists(&rt, number % 16 + 1, number / 16 % 3)?;
     }
     Ok(())
 }

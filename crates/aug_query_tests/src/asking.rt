@@ -5,9 +5,8 @@ use aug_query::descent::{self, First, Greatest, Least, Memberships, Ranks, Weigh
 use aug_query::{
     FakeTree, after, ask as ask_tree, before, has, keys, pairs, range, rank, select, size, weight,
 };
-use aug_testing::Last;
+use aug_testing::{Host, Last};
 use std::alloc::{AllocError, Global};
-use std::process::Abort;
 
 // A query that is answered with one value.
 #[derive(Clone, Copy)]
@@ -82,13 +81,12 @@ fn spanned(tree: &mut Small, a: u32, b: u32) -> Spanned {
 
 // The ranks of keys, behind the numbers that stand first.
 fn ranks_of(
-    rt: &impl Abort,
-    alloc: Global,
+    rt: &impl Host,
     tree: &mut Small,
     first: &[u32],
     keys: &[u32],
 ) -> Result<Vec<u32>, AllocError> {
-    let mut out = Vec::with_capacity(alloc, first.len() + keys.len())?;
+    let mut out = Vec::with_capacity(rt.alloc(), first.len() + keys.len())?;
     out.extend_from_slice(first)?;
     holds(rt, out.len() + keys.len() <= out.capacity());
     Ok(ask_tree(tree, Ranks { keys, out }))
@@ -124,33 +122,28 @@ pub(super) enum Step<'a> {
 }
 
 // Makes one call, and compares its answer.
-pub(super) fn take(
-    rt: &impl Abort,
-    alloc: Global,
-    tree: &mut Small,
-    step: &Step<'_>,
-) -> Result<(), AllocError> {
+pub(super) fn take(rt: &impl Host, tree: &mut Small, step: &Step<'_>) -> Result<(), AllocError> {
     match step {
         Step::Asks(query, answer) => equal(rt, ask(tree, *query), *answer),
         Step::Spans(a, b, expected) => equal(rt, spanned(tree, *a, *b), *expected),
         Step::Keys(expected) => {
-            let found = keys_of(alloc, tree)?;
+            let found = keys_of(rt.alloc(), tree)?;
             equal(rt, found.as_slice(), *expected);
         }
         Step::Pairs(expected) => {
-            let found = pairs_of(alloc, tree)?;
+            let found = pairs_of(rt.alloc(), tree)?;
             equal(rt, found.as_slice(), *expected);
         }
         Step::Ranks(first, keys, expected) => {
-            let found = ranks_of(rt, alloc, tree, first, keys)?;
+            let found = ranks_of(rt, tree, first, keys)?;
             equal(rt, found.as_slice(), *expected);
         }
         Step::Memberships(keys, expected) => {
-            let found = memberships_of(alloc, tree, keys)?;
+            let found = memberships_of(rt.alloc(), tree, keys)?;
             equal(rt, found.as_slice(), *expected);
         }
         Step::Weights(keys, expected) => {
-            let found = weights_of(alloc, tree, keys)?;
+            let found = weights_of(rt.alloc(), tree, keys)?;
             equal(rt, found.as_slice(), *expected);
         }
     }
@@ -159,19 +152,18 @@ pub(super) fn take(
 
 // Makes some calls of a tree.
 pub(super) fn take_all(
-    rt: &impl Abort,
-    alloc: Global,
+    rt: &impl Host,
     tree: &mut Small,
     steps: &[Step<'_>],
 ) -> Result<(), AllocError> {
     for step in steps {
-        take(rt, alloc, tree, step)?;
+        take(rt, tree, step)?;
     }
     Ok(())
 }
 
 // Makes some calls of the tree of 5 and 9.
-pub(super) fn play(rt: &impl Abort, alloc: Global, steps: &[Step<'_>]) -> Result<(), AllocError> {
-    let mut tree = five_and_nine(alloc)?;
-    take_all(rt, alloc, &mut tree, steps)
+pub(super) fn play(rt: &impl Host, steps: &[Step<'_>]) -> Result<(), AllocError> {
+    let mut tree = five_and_nine(rt.alloc())?;
+    take_all(rt, &mut tree, steps)
 }

@@ -9,10 +9,9 @@ use aug_model::{KeySet, ModelError};
 use aug_monoid::{Monoid, Sum};
 use aug_query::descent::Cursor;
 use aug_query::{Descend, FakeTree, Loaded, NodeWalk, rank};
-use aug_testing::Last;
+use aug_testing::{Host, Last};
 use std::alloc::Global;
 use std::marker::PhantomData;
-use std::process::Abort;
 use std::test::Fail;
 
 // The set of the keys whose bits `mask` has. No key weighs itself.
@@ -63,7 +62,7 @@ fn moved<A: Monoid, B: Monoid, D: Descend<A, B>>(
 // Moves a cursor 32 times, on for each 0 among the bits of `ways`, from the least on, and back for each 1. It begins at a key, with so many
 // members of the list below it.
 fn goes<A: Monoid, B: Monoid, D: Descend<A, B>>(
-    rt: &impl Abort,
+    rt: &impl Host,
     tree: &mut D,
     cursor: &mut Cursor<D::Name>,
     list: &[(u32, u32)],
@@ -86,7 +85,7 @@ fn goes<A: Monoid, B: Monoid, D: Descend<A, B>>(
 
 // The same over a tree in memory.
 fn goes_in(
-    rt: &impl Abort,
+    rt: &impl Host,
     tree: &mut FakeTree<Last, Sum>,
     list: &[(u32, u32)],
     from: u32,
@@ -112,10 +111,10 @@ const WAYS: &[u32] = &[
 ];
 
 // All these ways over one set.
-fn goes_over(rt: &impl Abort, alloc: Global, bits: u32, mask: u32) -> Result<(), Fail> {
-    let set = set_of_mask(alloc, bits, mask)?;
-    let mut tree = tree_of(alloc, &set)?;
-    let list = pairs_of(alloc, &mut tree)?;
+fn goes_over(rt: &impl Host, bits: u32, mask: u32) -> Result<(), Fail> {
+    let set = set_of_mask(rt.alloc(), bits, mask)?;
+    let mut tree = tree_of(rt.alloc(), &set)?;
+    let list = pairs_of(rt.alloc(), &mut tree)?;
     for from in 0..10 {
         for ways in WAYS {
             goes_in(rt, &mut tree, &list, from, *ways);
@@ -127,8 +126,8 @@ fn goes_over(rt: &impl Abort, alloc: Global, bits: u32, mask: u32) -> Result<(),
 #[test]
 fn a_cursor_passes_each_member_of_each_set_of_three_bits(rt: HostRuntime) -> Result<(), Fail> {
     for mask in 0..256 {
-        goes_over(&rt, rt.alloc(), 3, mask)?;
-        goes_over(&rt, rt.alloc(), 1 + mask % 2, mask % 16)?;
+        goes_over(&rt, 3, mask)?;
+        goes_over(&rt, 1 + mask % 2, mask % 16)?;
     }
     Ok(())
 }
@@ -136,7 +135,7 @@ fn a_cursor_passes_each_member_of_each_set_of_three_bits(rt: HostRuntime) -> Res
 #[test]
 fn a_cursor_passes_sparse_members_of_many_bits(rt: HostRuntime) -> Result<(), Fail> {
     for bits in 5..=16 {
-        goes_over(&rt, rt.alloc(), bits, 0x8000_0101)?;
+        goes_over(&rt, bits, 0x8000_0101)?;
     }
     Ok(())
 }

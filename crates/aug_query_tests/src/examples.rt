@@ -4,8 +4,8 @@ use crate::assertions::equal;
 use aug_monoid::{Nothing, Sum};
 use aug_query::descent::SelectByWeight;
 use aug_query::{FakeTree, ask};
-use std::alloc::{AllocError, Global};
-use std::process::Abort;
+use aug_testing::Host;
+use std::alloc::AllocError;
 
 const KEYS: &[u32] = &[9, 4, 5, 5, 16, 10];
 
@@ -45,7 +45,7 @@ const EACH: &[Step<'static>] = &[
 
 #[test]
 fn each_query_and_each_batch_answers(rt: HostRuntime) -> Result<(), AllocError> {
-    play(&rt, rt.alloc(), EACH)
+    play(&rt, EACH)
 }
 
 // Numbers, and for each the member up to which 5, which weighs 70, and 9, which weighs 30, come to more.
@@ -82,15 +82,14 @@ const WITHOUT_PAIRS: &[Step<'static>] = &[
 
 // Makes a call again if it is refused, after those that go on to answer.
 fn take_at_last(
-    rt: &impl Abort,
-    alloc: Global,
+    rt: &impl Host,
     tree: &mut Small,
     step: &Step<'_>,
     meanwhile: &[Step<'_>],
 ) -> Result<(), AllocError> {
-    if take(rt, alloc, tree, step).is_err() {
-        take_all(rt, alloc, tree, meanwhile)?;
-        take(rt, alloc, tree, step)?;
+    if take(rt, tree, step).is_err() {
+        take_all(rt, tree, meanwhile)?;
+        take(rt, tree, step)?;
     }
     Ok(())
 }
@@ -102,8 +101,8 @@ const BOTH_LISTS: &[Step<'static>] = &[Step::Keys(&[5, 9]), Step::Pairs(&[(5, 70
 fn refused_memory_changes_no_answer(rt: HostRuntime) -> Result<(), AllocError> {
     let (r, alloc) = (&rt, rt.alloc());
     let mut tree = five_and_nine(alloc).or_else(|_| five_and_nine(alloc))?;
-    take_at_last(r, alloc, &mut tree, &BOTH_LISTS[0], WITHOUT_A_LIST)?;
-    take_at_last(r, alloc, &mut tree, &BOTH_LISTS[1], WITHOUT_PAIRS)
+    take_at_last(r, &mut tree, &BOTH_LISTS[0], WITHOUT_A_LIST)?;
+    take_at_last(r, &mut tree, &BOTH_LISTS[1], WITHOUT_PAIRS)
 }
 
 const OF_EACH_QUERY: &[Step<'static>] = &[
@@ -122,11 +121,11 @@ const OF_EACH_QUERY: &[Step<'static>] = &[
 fn the_queries_of_a_tree_of_4_bits_ask_7_times_for_memory(
     rt: HostRuntime,
 ) -> Result<(), AllocError> {
-    play(&rt, rt.alloc(), OF_EACH_QUERY)
+    play(&rt, OF_EACH_QUERY)
 }
 
 // Each list asks once more.
 #[test]
 fn the_lists_of_a_tree_of_4_bits_ask_9_times_for_memory(rt: HostRuntime) -> Result<(), AllocError> {
-    play(&rt, rt.alloc(), BOTH_LISTS)
+    play(&rt, BOTH_LISTS)
 }

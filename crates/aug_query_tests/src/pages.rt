@@ -8,9 +8,7 @@ use aug_model::KeySet;
 use aug_monoid::Sum;
 use aug_query::descent::{MembersBelow, MembersFrom};
 use aug_query::{FakeTree, ask};
-use aug_testing::Last;
-use std::alloc::Global;
-use std::process::Abort;
+use aug_testing::{Host, Last};
 use std::test::Fail;
 
 // The member that stands at a place of a page.
@@ -27,7 +25,7 @@ fn expected(list: &[(u32, u32)], below: usize, place: usize, falling: bool) -> O
 }
 
 // Compares a page with the members of the list on a side of a key.
-fn agrees(rt: &impl Abort, page: &[(u32, u32)], list: &[(u32, u32)], key: u32, falling: bool) {
+fn agrees(rt: &impl Host, page: &[(u32, u32)], list: &[(u32, u32)], key: u32, falling: bool) {
     let below = list.iter().filter(|member| member.0 < key).count();
     for place in 0..33usize {
         let found = page.get(place).copied();
@@ -38,7 +36,7 @@ fn agrees(rt: &impl Abort, page: &[(u32, u32)], list: &[(u32, u32)], key: u32, f
 }
 
 // Both pages at a key.
-fn both_agree(rt: &impl Abort, tree: &mut FakeTree<Last, Sum>, list: &[(u32, u32)], key: u32) {
+fn both_agree(rt: &impl Host, tree: &mut FakeTree<Last, Sum>, list: &[(u32, u32)], key: u32) {
     let page = ask(tree, MembersFrom(key));
     agrees(rt, page.as_slice(), list, key, false);
     let page = ask(tree, MembersBelow(key));
@@ -46,9 +44,9 @@ fn both_agree(rt: &impl Abort, tree: &mut FakeTree<Last, Sum>, list: &[(u32, u32
 }
 
 // Those at each key below `end`, and at the greatest numbers.
-fn agree_over(rt: &impl Abort, alloc: Global, set: &KeySet, end: u32) -> Result<(), Fail> {
-    let mut tree = tree_of(alloc, set)?;
-    let list = pairs_of(alloc, &mut tree)?;
+fn agree_over(rt: &impl Host, set: &KeySet, end: u32) -> Result<(), Fail> {
+    let mut tree = tree_of(rt.alloc(), set)?;
+    let list = pairs_of(rt.alloc(), &mut tree)?;
     for key in 0..end {
         both_agree(rt, &mut tree, &list, key);
     }
@@ -62,9 +60,9 @@ fn agree_over(rt: &impl Abort, alloc: Global, set: &KeySet, end: u32) -> Result<
 fn pages_have_the_members_of_each_set_of_three_bits(rt: HostRuntime) -> Result<(), Fail> {
     for mask in 0..256 {
         let set = set_of_mask(rt.alloc(), 3, mask)?;
-        agree_over(&rt, rt.alloc(), &set, 10)?;
+        agree_over(&rt, &set, 10)?;
         let set = set_of_mask(rt.alloc(), 1 + mask % 2, mask % 16)?;
-        agree_over(&rt, rt.alloc(), &set, 5)?;
+        agree_over(&rt, &set, 5)?;
     }
     Ok(())
 }
@@ -73,7 +71,7 @@ fn pages_have_the_members_of_each_set_of_three_bits(rt: HostRuntime) -> Result<(
 fn pages_have_sparse_members_of_many_bits(rt: HostRuntime) -> Result<(), Fail> {
     for bits in 5..=16 {
         let set = set_of_mask(rt.alloc(), bits, 0x8000_0101)?;
-        agree_over(&rt, rt.alloc(), &set, 34)?;
+        agree_over(&rt, &set, 34)?;
     }
     Ok(())
 }
@@ -81,7 +79,7 @@ fn pages_have_sparse_members_of_many_bits(rt: HostRuntime) -> Result<(), Fail> {
 #[test]
 fn pages_have_no_more_members_than_their_places(rt: HostRuntime) -> Result<(), Fail> {
     for members in [0, 31, 32, 33, 64, 65, 128, 256] {
-        agree_over(&rt, rt.alloc(), &set_of(rt.alloc(), 8, members)?, 260)?;
+        agree_over(&rt, &set_of(rt.alloc(), 8, members)?, 260)?;
     }
     Ok(())
 }

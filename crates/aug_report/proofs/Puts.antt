@@ -6,8 +6,8 @@ use Rattle.std.proofs.lemmas.List.Elements.{All-get_or}
 use Rattle.std.proofs.lemmas.List.Prefix.{front_reads}
 use Rattle.aug_model.specs.Keys.{is_member, keys_of, pairs_of}
 use Rattle.aug_model.specs.Queries.{weight_of}
-use Rattle.aug_trie.specs.declared.updates.outcome.Outcome.{Outcome}
-use Rattle.aug_trie.specs.declared.updates.outcome.Outcome.TheVariants as outcome
+use Rattle.aug_model.specs.declared.outcome.Outcome.{Outcome}
+use Rattle.aug_model.specs.declared.outcome.Outcome.TheVariants as outcome
 use Rattle.aug_core.specs.Counts.{change}
 use Rattle.aug_core.specs.Cuts.{Cut, serial_of, weight_at, set_of_cut, pairs_of_cut, opening_cut}
 use Rattle.aug_core.specs.declared.view.Change.{Change}

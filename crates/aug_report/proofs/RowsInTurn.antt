@@ -8,7 +8,7 @@ use Rattle.aug_model.specs.Keys.{IsKeySet, is_member, keys_of}
 use Rattle.aug_core.specs.Counts.{change}
 use Rattle.aug_core.specs.Cuts.{Cut, shown_of, serial_of, pairs_of_cut, IsAtMost, opening_cut}
 use Rattle.aug_core.specs.declared.view.Change.{Change}
-use Rattle.aug_trie.specs.declared.updates.outcome.Outcome.TheVariants as outcome
+use Rattle.aug_model.specs.declared.outcome.Outcome.TheVariants as outcome
 use Rattle.aug_trie.specs.History.{last_cut, IsHistory}
 use Rattle.aug_trie.specs.Knowledge.{Knowledge, insertion, removal, inserts_of, removals_of}
 use Rattle.aug_trie.specs.Tallies.{Tallies, Weighs}

@@ -2,7 +2,7 @@
 use Rattle.std.proofs.Common.{ℕ, zero, suc, ◌^◌, ◌<◌, List, [], ◌∷◌, get_or, refl, sym, inr, arith, Some}
 use Rattle.std.proofs.lemmas.Bool.{eq-eqb}
 use Rattle.std.proofs.lemmas.List.Elements.{All-from_get_or}
-use Rattle.aug_trie.specs.declared.updates.outcome.Outcome.TheVariants as outcome
+use Rattle.aug_model.specs.declared.outcome.Outcome.TheVariants as outcome
 use Rattle.aug_core.specs.Counts.{change}
 use Rattle.aug_core.specs.Cuts.{Cut, opening_cut}
 use Rattle.aug_script.specs.declared.reply.Reply.{Reply}

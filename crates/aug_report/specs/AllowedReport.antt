@@ -3,8 +3,8 @@
 -- of what the lane knew, a `look` is the last cut that it knows, and a query is answered from the set of the snapshot that it holds. Over the
 -- example, two lanes with `insert,0` each may have `new` and `old`, or `old` and `new`, and never both the same.
 use Rattle.std.specs.Prelude.{◌≡◌, ℕ, ◌+◌, ◌<◌, ◌⊎◌, ⊤, List, [], ◌∷◌, length, map, filter, flat_map, All, slice_index_or, ◌==◌}
-use Rattle.aug_trie.specs.declared.updates.outcome.Outcome.{Outcome}
-use Rattle.aug_trie.specs.declared.updates.outcome.Outcome.TheVariants as outcome
+use Rattle.aug_model.specs.declared.outcome.Outcome.{Outcome}
+use Rattle.aug_model.specs.declared.outcome.Outcome.TheVariants as outcome
 use Rattle.aug_core.specs.Cuts.{Cut, opening_cut, pairs_of_cut}
 use Rattle.aug_core.specs.Prefixes.{IsPrefix}
 use Rattle.aug_trie.specs.History.{IsHistory, last_cut}

@@ -1,6 +1,6 @@
 -- What a pass's call says, as what its lane goes through.
 use Rattle.std.proofs.Common.{◌≡◌, ℕ, List, refl, inl, inr}
-use Rattle.aug_trie.specs.declared.updates.outcome.Outcome.{Outcome}
+use Rattle.aug_model.specs.declared.outcome.Outcome.{Outcome}
 use Rattle.aug_model.specs.declared.summary.Summary.{Summary}
 use Rattle.aug_core.specs.Cuts.{pairs_of_cut}
 use Rattle.aug_trie.specs.Pass.{PassFacts}

@@ -3,15 +3,12 @@
 use crate::assertions::{equal, holds};
 use crate::rounds::report_of;
 use aug_run::Gate;
-use aug_script::Reply;
+use aug_script::{MemorySink, print};
 use std::alloc::{AllocError, Global};
-use std::process::Abort;
-use std::sync::Wait;
 use std::sync::atomic::AtomicU64;
 use std::sync::atomic::Ordering::SeqCst;
 use std::test::Fail;
 use std::thread;
-use std::thread::Threads;
 
 // A count that lanes raise and wait for, for at most `LOOKS` looks. Once one lane has waited in vain, none waits any more.
 #[derive(Drop)]
@@ -133,26 +130,18 @@ impl Gate for GateCalls {
 }
 
 // Each verb of a lane.
-const VERBS: [&str; 12] = [
-    "insert,5",
-    "put,5,7",
-    "remove,5",
-    "look",
-    "has,5",
-    "weight,5",
-    "size",
-    "rank,5",
-    "select,0",
-    "before,5",
-    "after,5",
-    "range,0,16",
-];
+const VERBS: &str =
+    "insert,5 put,5,7 remove,5 look has,5 weight,5 size rank,5 select,0 before,5 after,5 range,0,16";
 
 // A row for each of 64 lanes, the first of them with the verb of this number, and each other one with the verb after that of the one before it.
-fn row_of_each_lane(text: &mut String, first: u32) -> Result<(), AllocError> {
-    for lane in 0..64u32 {
+fn row_of_each_lane(text: &mut String, first: usize) -> Result<(), AllocError> {
+    for lane in 0..64usize {
         let number = lane.wrapping_add(first) % 12;
-        writeln!(text, "{lane},{}", VERBS[number as usize])?;
+        writeln!(
+            text,
+            "{lane},{}",
+            VERBS.split(' ').nth(number).unwrap_or("")
+        )?;
     }
     Ok(())
 }
@@ -210,40 +199,28 @@ impl Gate for InOrder {
     }
 }
 
-// Lane 0 looks and has this row, and lane 1 this one, which waits for it, and then asks for key 5 before and after a look. All rows come to these
-// replies.
-fn assert_waits<R: Threads + Wait + Abort>(
-    rt: &R,
-    alloc: Global,
-    first: &str,
-    second: &str,
-    expected: [Reply; 6],
-) -> Result<(), AllocError> {
-    let gate = InOrder {
-        meeting: Meeting::new(),
-    };
-    let text = format!(in alloc; "0,look\n0,{first}\n1,{second}\n1,has,5\n1,look\n1,has,5\n")?;
-    let run = report_of(rt, alloc, 2, text.as_str(), &gate)?;
-    let report = run.expect(rt, "a report");
-    equal(rt, gate.meeting.missed(), 0);
-    let replies = report.rows.as_slice().iter().map(|line| line.1);
-    holds(rt, replies.eq(expected));
-    Ok(())
-}
+// Lane 0 looks and has a row, and lane 1 has one that waits for that, and then asks for key 5 before and after a look. It took its first snapshot before
+// lane 0 put the key in.
+const WAITS: &[&str] = &[
+    "0,look\n0,insert,5\n1,insert,5\n1,has,5\n1,look\n1,has,5 => 1 0 look = ok\n1 0 insert 5 = new\n1 1 insert 5 = old\n1 1 has 5 = no\n1 1 look = ok\n1 1 has 5 = yes\n1 end size=1 in=1 out=0\n",
+    "0,look\n0,put,5,7\n1,put,5,8\n1,has,5\n1,look\n1,has,5 => 1 0 look = ok\n1 0 put 5 7 = new\n1 1 put 5 8 = set\n1 1 has 5 = no\n1 1 look = ok\n1 1 has 5 = yes\n1 end size=1 in=2 out=1\n",
+    "0,look\n0,insert,5\n1,remove,5\n1,has,5\n1,look\n1,has,5 => 1 0 look = ok\n1 0 insert 5 = new\n1 1 remove 5 = gone\n1 1 has 5 = no\n1 1 look = ok\n1 1 has 5 = no\n1 end size=0 in=1 out=1\n",
+    "0,look\n0,insert,5\n1,look\n1,has,5\n1,look\n1,has,5 => 1 0 look = ok\n1 0 insert 5 = new\n1 1 look = ok\n1 1 has 5 = yes\n1 1 look = ok\n1 1 has 5 = yes\n1 end size=1 in=1 out=0\n",
+];
 
-// Lane 1 took its first snapshot before lane 0 put the key in.
 #[test]
 fn a_row_runs_between_its_two_calls(rt: HostRuntime) -> Result<(), Fail> {
-    use Reply::{Gone, Looked, New, No, Old, Set, Yes};
-    let (r, alloc) = (&rt, rt.alloc());
-    let (insert, remove) = ("insert,5", "remove,5");
-    let known = [Looked, New, Old, No, Looked, Yes];
-    assert_waits(r, alloc, insert, insert, known)?;
-    let set = [Looked, New, Set, No, Looked, Yes];
-    assert_waits(r, alloc, "put,5,7", "put,5,8", set)?;
-    let gone = [Looked, New, Gone, No, Looked, No];
-    assert_waits(r, alloc, insert, remove, gone)?;
-    let seen = [Looked, New, Looked, Yes, Looked, Yes];
-    assert_waits(r, alloc, insert, "look", seen)?;
+    for row in WAITS {
+        let (script, text) = row.split_once(" => ").ok_or("no arrow")?;
+        let gate = InOrder {
+            meeting: Meeting::new(),
+        };
+        let run = report_of(&rt, rt.alloc(), 2, script, &gate)?;
+        let report = run.expect(&rt, "a report");
+        equal(&rt, gate.meeting.missed(), 0);
+        let mut sink = MemorySink::new(rt.alloc(), 7, None);
+        equal(&rt, print(rt.alloc(), &report, &mut sink), Ok(()));
+        equal(&rt, sink.out.as_slice(), text.as_bytes());
+    }
     Ok(())
 }

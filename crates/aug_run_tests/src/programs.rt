@@ -3,8 +3,8 @@ use crate::assertions::equal;
 use crate::test_input::TestInput;
 use aug_run::{carry_out, options};
 use aug_script::MemorySink;
+use aug_testing::Host;
 use std::alloc::{AllocError, Global};
-use std::process::Abort;
 use std::sync::Wait;
 use std::test::Fail;
 use std::thread::Threads;
@@ -28,18 +28,17 @@ struct Left {
 }
 
 // Standard input looks, and the file `a.csv` asks for the size. Each sink fails at the call with its number.
-fn left_by<R: Threads + Wait>(
+fn left_by<R: Host + Threads + Wait>(
     rt: &R,
-    alloc: Global,
     words: &[String],
     output_fault: Option<u64>,
     errors_fault: Option<u64>,
 ) -> Left {
     let mut input = TestInput::new(b"0,look\n", "a.csv", b"0,size\n");
-    let mut output = MemorySink::new(alloc, 7, output_fault);
-    let mut errors = MemorySink::new(alloc, 7, errors_fault);
-    let asked = options(alloc, words);
-    let status = carry_out(rt, alloc, asked, &mut input, &mut output, &mut errors);
+    let mut output = MemorySink::new(rt.alloc(), 7, output_fault);
+    let mut errors = MemorySink::new(rt.alloc(), 7, errors_fault);
+    let asked = options(rt.alloc(), words);
+    let status = carry_out(rt, rt.alloc(), asked, &mut input, &mut output, &mut errors);
     let opened = input.opened;
     Left {
         status,
@@ -52,15 +51,14 @@ fn left_by<R: Threads + Wait>(
 // What the program leaves of a line of words: its status, how often a file is asked for, and what goes out to both sinks.
 type Leaves<'a> = (u8, u64, &'a str, &'a str);
 
-fn assert_leaves<R: Threads + Wait + Abort>(
+fn assert_leaves<R: Host + Threads + Wait>(
     rt: &R,
-    alloc: Global,
     line: &str,
     faults: (Option<u64>, Option<u64>),
     leaves: Leaves<'_>,
 ) -> Result<(), AllocError> {
-    let words = words_of(alloc, line)?;
-    let left = left_by(rt, alloc, words.as_slice(), faults.0, faults.1);
+    let words = words_of(rt.alloc(), line)?;
+    let left = left_by(rt, words.as_slice(), faults.0, faults.1);
     let (status, opened, output, errors) = leaves;
     equal(rt, (line, left.status, left.opened), (line, status, opened));
     equal(rt, left.output.out.as_slice(), output.as_bytes());
@@ -114,61 +112,29 @@ const LINES: &[(&str, (Option<u64>, Option<u64>), Leaves<'static>)] = &[
 ];
 
 // Words that are wrong, and what is told of them. All other lines of that are the same.
-const WRONG: &[(&str, &str)] = &[
-    (
-        "--bits 0",
-        "error: invalid value '0' for '--bits <H>': 0 is not in 1..=16",
-    ),
-    (
-        "--bits 17 a.csv",
-        "error: invalid value '17' for '--bits <H>': 17 is not in 1..=16",
-    ),
-    (
-        "--bits x",
-        "error: invalid value 'x' for '--bits <H>': invalid digit found in string",
-    ),
-    (
-        "--workers 0",
-        "error: invalid value '0' for '--workers <W>': 0 is not in 1..=64",
-    ),
-    (
-        "--workers 65",
-        "error: invalid value '65' for '--workers <W>': 65 is not in 1..=64",
-    ),
-    (
-        "--updates 0",
-        "error: invalid value '0' for '--updates <U>': 0 is not in 1..=65536",
-    ),
-    (
-        "--updates 65537",
-        "error: invalid value '65537' for '--updates <U>': 65537 is not in 1..=65536",
-    ),
-    (
-        "--bits",
-        "error: a value is required for '--bits <H>' but none was supplied",
-    ),
-    (
-        "--bits 3 --bits 3",
-        "error: the argument '--bits <H>' cannot be used multiple times\n\nUsage: augtrie [OPTIONS] [FILE]",
-    ),
-    (
-        "--lanes 3",
-        "error: unexpected argument '--lanes' found\n\n  tip: to pass '--lanes' as a value, use '-- --lanes'\n\nUsage: augtrie [OPTIONS] [FILE]",
-    ),
-    (
-        "a.csv b.csv",
-        "error: unexpected argument 'b.csv' found\n\nUsage: augtrie [OPTIONS] [FILE]",
-    ),
+const WRONG: &[&str] = &[
+    "--bits 0 => error: invalid value '0' for '--bits <H>': 0 is not in 1..=16",
+    "--bits 17 a.csv => error: invalid value '17' for '--bits <H>': 17 is not in 1..=16",
+    "--bits x => error: invalid value 'x' for '--bits <H>': invalid digit found in string",
+    "--workers 0 => error: invalid value '0' for '--workers <W>': 0 is not in 1..=64",
+    "--workers 65 => error: invalid value '65' for '--workers <W>': 65 is not in 1..=64",
+    "--updates 0 => error: invalid value '0' for '--updates <U>': 0 is not in 1..=65536",
+    "--updates 65537 => error: invalid value '65537' for '--updates <U>': 65537 is not in 1..=65536",
+    "--bits => error: a value is required for '--bits <H>' but none was supplied",
+    "--bits 3 --bits 3 => error: the argument '--bits <H>' cannot be used multiple times\n\nUsage: augtrie [OPTIONS] [FILE]",
+    "--lanes 3 => error: unexpected argument '--lanes' found\n\n  tip: to pass '--lanes' as a value, use '-- --lanes'\n\nUsage: augtrie [OPTIONS] [FILE]",
+    "a.csv b.csv => error: unexpected argument 'b.csv' found\n\nUsage: augtrie [OPTIONS] [FILE]",
 ];
 
 #[test]
 fn each_line_of_words_has_its_status_and_its_texts(rt: HostRuntime) -> Result<(), Fail> {
     for (line, faults, leaves) in LINES {
-        assert_leaves(&rt, rt.alloc(), line, *faults, *leaves)?;
+        assert_leaves(&rt, line, *faults, *leaves)?;
     }
-    for (line, error) in WRONG {
+    for row in WRONG {
+        let (line, error) = row.split_once(" => ").ok_or("no arrow")?;
         let errors = format!(in rt.alloc(); "{error}\n\nFor more information, try '--help'.\n")?;
-        assert_leaves(&rt, rt.alloc(), line, NONE, (2, 0, "", errors.as_str()))?;
+        assert_leaves(&rt, line, NONE, (2, 0, "", errors.as_str()))?;
     }
     Ok(())
 }

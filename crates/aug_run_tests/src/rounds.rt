@@ -4,7 +4,6 @@ use aug_run::{Gate, Open, Trie, run_round};
 use aug_script::{Limits, Reply, Report, Script, ScriptError};
 use aug_trie::Ended;
 use std::alloc::{AllocError, Global};
-use std::process::Abort;
 use std::sync::Wait;
 use std::test::Fail;
 use std::thread::Threads;
@@ -59,52 +58,24 @@ const THREE_LANES: &str =
     "0,insert,0\n0,insert,1\n0,insert,2\n0,insert,3\n0,look\n0,has,0\n0,has,1\n0,has,2\n0,has,3\n1,insert,4\n1,insert,5\n1,insert,6\n1,insert,7\n1,look\n1,has,4\n1,has,5\n1,has,6\n1,has,7\n2,insert,8\n2,insert,9\n2,insert,10\n2,insert,11\n2,look\n2,has,8\n2,has,9\n2,has,10\n2,has,11\n";
 
 // How many replies are `new`, `old`, `set`, `lost` and `yes`, and the size and the insertions and removals of the round.
-type Counted = ([u32; 5], (u32, u32, u32));
+type Counted = ([usize; 5], (u32, u32, u32));
+
+// How often a report has a reply.
+fn times(report: &Report, reply: Reply) -> usize {
+    let rows = report.rows.as_slice();
+    rows.iter().filter(|row| row.1 == reply).count()
+}
 
 fn counted(report: &Report) -> Counted {
-    let mut new = 0u32;
-    let mut old = 0u32;
-    let mut set = 0u32;
-    let mut lost = 0u32;
-    let mut yes = 0u32;
-    for (_, reply) in report.rows.as_slice() {
-        match reply {
-            Reply::New => new = new.wrapping_add(1),
-            Reply::Old => old = old.wrapping_add(1),
-            Reply::Set => set = set.wrapping_add(1),
-            Reply::Lost => lost = lost.wrapping_add(1),
-            Reply::Yes => yes = yes.wrapping_add(1),
-            _ => {}
-        }
-    }
+    let replies = [
+        times(report, Reply::New),
+        times(report, Reply::Old),
+        times(report, Reply::Set),
+        times(report, Reply::Lost),
+        times(report, Reply::Yes),
+    ];
     let totals = (report.size, report.inserts, report.removals);
-    ([new, old, set, lost, yes], totals)
-}
-
-fn is_allowed(found: Counted, allowed: &[Counted]) -> bool {
-    for one in allowed {
-        if *one == found {
-            return true;
-        }
-    }
-    false
-}
-
-// Runs a script of one round so many times. It comes to one of these each time.
-fn assert_each_time<R: Threads + Wait + Abort>(
-    rt: &R,
-    alloc: Global,
-    times: u32,
-    workers: u32,
-    script: &str,
-    allowed: &[Counted],
-) -> Result<(), AllocError> {
-    for _ in 0..times {
-        let run = report_of(rt, alloc, workers, script, &Open)?;
-        let found = counted(&run.expect(rt, "a report"));
-        holds(rt, is_allowed(found, allowed));
-    }
-    Ok(())
+    (replies, totals)
 }
 
 // How often a script runs, its workers, the script, and what its replies may come to. Two lanes put one key in: one of them does. With two
@@ -129,7 +100,11 @@ const RACES: &[(u32, u32, &str, &[Counted])] = &[
 #[test]
 fn lanes_keep_to_the_script_each_time(rt: HostRuntime) -> Result<(), Fail> {
     for (times, workers, script, allowed) in RACES {
-        assert_each_time(&rt, rt.alloc(), *times, *workers, script, allowed)?;
+        for _ in 0..*times {
+            let run = report_of(&rt, rt.alloc(), *workers, script, &Open)?;
+            let found = counted(&run.expect(&rt, "a report"));
+            holds(&rt, allowed.contains(&found));
+        }
     }
     Ok(())
 }

@@ -11,75 +11,44 @@ use std::alloc::{AllocError, Global};
 use std::fmt::Display;
 use std::process::Abort;
 
-// A reply, as a constant may hold it. That to a range has the keys with their weights, and how many they are.
-#[derive(Clone, Copy)]
-enum Plain {
-    New,
-    Old,
-    Gone,
-    Absent,
-    Lost,
-    Set,
-    Looked,
-    Yes,
-    No,
-    Number(u32),
-    Found(Option<u32>),
-    Span(u32, &'static [(u32, u32)]),
-}
-
-fn reply(plain: Plain) -> Reply {
-    match plain {
-        Plain::New => Reply::New,
-        Plain::Old => Reply::Old,
-        Plain::Gone => Reply::Gone,
-        Plain::Absent => Reply::Absent,
-        Plain::Lost => Reply::Lost,
-        Plain::Set => Reply::Set,
-        Plain::Looked => Reply::Looked,
-        Plain::Yes => Reply::Yes,
-        Plain::No => Reply::No,
-        Plain::Number(number) => Reply::Number(number),
-        Plain::Found(found) => Reply::Found(found),
-        Plain::Span(count, keys) => Reply::Span(Summary {
-            count,
-            a: fold_slice::<Sum>(keys),
-            b: fold_slice::<Extent>(keys),
-        }),
-    }
+// The reply to a range of these keys with their weights.
+fn span(count: u32, keys: &[(u32, u32)]) -> Reply {
+    Reply::Span(Summary {
+        count,
+        a: fold_slice::<Sum>(keys),
+        b: fold_slice::<Extent>(keys),
+    })
 }
 
 // Lanes and verbs with their replies: each verb, and each reply.
-const LINES: &[(u32, Verb, Plain)] = &[
-    (0, Verb::Insert(5), Plain::New),
-    (0, Verb::Insert(5), Plain::Old),
-    (1, Verb::Remove(5), Plain::Gone),
-    (1, Verb::Remove(5), Plain::Absent),
-    (63, Verb::Look, Plain::Looked),
-    (0, Verb::Has(15), Plain::Yes),
-    (0, Verb::Has(0), Plain::No),
-    (0, Verb::Size, Plain::Number(2)),
-    (0, Verb::Rank(16), Plain::Number(65_536)),
-    (0, Verb::Select(1), Plain::Found(Some(9))),
-    (0, Verb::Before(16), Plain::Found(None)),
-    (0, Verb::After(0), Plain::Found(Some(65_535))),
-    (1, Verb::Put(6, 1), Plain::Lost),
-    (1, Verb::Put(6, 7), Plain::Set),
-    (0, Verb::Weight(6), Plain::Found(None)),
-    (0, Verb::Weight(6), Plain::Found(Some(7))),
-    (0, Verb::Range(0, 16), Plain::Span(2, &[(5, 7), (9, 9)])),
-    (0, Verb::Range(9, 5), Plain::Span(0, &[])),
-];
+fn lines() -> [(u32, Verb, Reply); 18] {
+    [
+        (0, Verb::Insert(5), Reply::New),
+        (0, Verb::Insert(5), Reply::Old),
+        (1, Verb::Remove(5), Reply::Gone),
+        (1, Verb::Remove(5), Reply::Absent),
+        (63, Verb::Look, Reply::Looked),
+        (0, Verb::Has(15), Reply::Yes),
+        (0, Verb::Has(0), Reply::No),
+        (0, Verb::Size, Reply::Number(2)),
+        (0, Verb::Rank(16), Reply::Number(65_536)),
+        (0, Verb::Select(1), Reply::Found(Some(9))),
+        (0, Verb::Before(16), Reply::Found(None)),
+        (0, Verb::After(0), Reply::Found(Some(65_535))),
+        (1, Verb::Put(6, 1), Reply::Lost),
+        (1, Verb::Put(6, 7), Reply::Set),
+        (0, Verb::Weight(6), Reply::Found(None)),
+        (0, Verb::Weight(6), Reply::Found(Some(7))),
+        (0, Verb::Range(0, 16), span(2, &[(5, 7), (9, 9)])),
+        (0, Verb::Range(9, 5), span(0, &[])),
+    ]
+}
 
 fn rows(alloc: Global) -> Result<Vec<(Row, Reply)>, AllocError> {
-    let mut rows = Vec::with_capacity(alloc, LINES.len())?;
-    for (lane, verb, plain) in LINES {
-        let row = Row {
-            row: 1,
-            lane: *lane,
-            verb: *verb,
-        };
-        rows.push((row, reply(*plain)))?;
+    let mut rows = Vec::with_capacity(alloc, 18)?;
+    for (lane, verb, reply) in lines() {
+        let row = Row { row: 1, lane, verb };
+        rows.push((row, reply))?;
     }
     Ok(rows)
 }

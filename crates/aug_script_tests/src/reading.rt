@@ -4,22 +4,14 @@ use aug_core::LayoutError;
 use aug_core::LayoutError::{BadBits, BadUpdates, BadWorkers, TooLarge};
 use aug_script::ScriptError::*;
 use aug_script::Verb::*;
-use aug_script::{Limits, Row, Script, ScriptError, Verb};
-use std::alloc::Global;
+use aug_script::{Limits, Script, ScriptError};
+use std::alloc::{AllocError, Global};
 use std::process::Abort;
-
-// Tables stand in constants, since a proof then need not look at their rows.
 
 // How many bits, workers and updates limits have.
 type Bounds = (u32, u32, u32);
 
 const FEW: Bounds = (4, 1, 64);
-
-// A row by its number, its lane and what it asks for.
-type Line = (u64, u32, Verb);
-
-// The bits of a round, and its rows.
-type Rounds = (u32, &'static [Line]);
 
 // What a script is read as.
 fn read(
@@ -33,27 +25,25 @@ fn read(
     Script::read(alloc, script.as_bytes(), &limits)
 }
 
-// Compares the rows of a round.
-fn assert_rows(rt: &impl Abort, found: &[Row], expected: &[Line]) {
-    equal(rt, found.len(), expected.len());
-    for (row, line) in found.iter().zip(expected) {
-        equal(rt, (row.row, row.lane, row.verb), *line);
+// The rounds of a script, a line for each: its bits, and the number, the lane and the verb of each row.
+fn rounds_of(alloc: Global, script: &Script) -> Result<String, AllocError> {
+    let mut text = String::new(alloc);
+    for round in script.rounds() {
+        write!(text, "{} bits", round.bits)?;
+        for row in round.rows.as_slice() {
+            write!(text, ", {} {} {:?}", row.row, row.lane, row.verb)?;
+        }
+        writeln!(text)?;
     }
+    Ok(text)
 }
 
-// Compares the bits and the rows of each round of what was read.
-fn assert_script(rt: &impl Abort, script: &Script, rounds: &[Rounds]) {
-    equal(rt, script.rounds().len(), rounds.len());
-    for (round, (bits, lines)) in script.rounds().iter().zip(rounds) {
-        equal(rt, round.bits, *bits);
-        assert_rows(rt, round.rows.as_slice(), lines);
-    }
-}
-
-// Reads a script, and compares the bits and the rows of each round.
-fn assert_reads(rt: &impl Abort, alloc: Global, script: &str, bounds: Bounds, rounds: &[Rounds]) {
-    let script = read(rt, alloc, script, bounds).expect(rt, "a script");
-    assert_script(rt, &script, rounds);
+// Reads a script, and compares its rounds with those behind the arrow.
+fn assert_reads(rt: &impl Abort, alloc: Global, bounds: Bounds, row: &str) {
+    let (script, rounds) = row.split_once(" => ").expect(rt, "an arrow");
+    let read = read(rt, alloc, script, bounds).expect(rt, "a script");
+    let found = rounds_of(alloc, &read).expect(rt, "memory");
+    equal(rt, (script, found.as_str()), (script, rounds));
 }
 
 // The numbers of limits, or what refuses them.
@@ -86,133 +76,66 @@ fn a_script_may_ask_for_as_much_as_a_full_table_holds(rt: HostRuntime) {
     }
 }
 
-const EACH_VERB: &str =
-    "0,insert,1\n1,remove,2\n0,look\n1,has,3\n0,size\n1,rank,4\n0,select,5\n1,before,6\n0,after,7\n1,range,8,9\n0,put,10,11\n1,weight,12\n";
+const MANY: Bounds = (4, 64, 64);
 
-const EACH_VERB_READ: &[Line] = &[
-    (1, 0, Insert(1)),
-    (2, 1, Remove(2)),
-    (3, 0, Look),
-    (4, 1, Has(3)),
-    (5, 0, Size),
-    (6, 1, Rank(4)),
-    (7, 0, Select(5)),
-    (8, 1, Before(6)),
-    (9, 0, After(7)),
-    (10, 1, Range(8, 9)),
-    (11, 0, Put(10, 11)),
-    (12, 1, Weight(12)),
-];
-
-const QUOTED: &str = "\"0\",\"insert\",\"005\"\r\n\r\n0,look";
-
-const QUOTED_READ: &[Rounds] = &[(4, &[(1, 0, Insert(5)), (2, 0, Look)])];
-
-const WEIGHTS_READ: &[Rounds] = &[(4, &[(1, 0, Put(1, 999_999_999)), (2, 0, Put(1, 0))])];
-
-const LAST_LANE_READ: &[Rounds] = &[(4, &[(1, 63, Look), (2, 0, Look)])];
-
-const THREE_PUTS: &str = "0,put,1,5\n0,put,1,5\n0,put,2,5\n";
-
-const TWO_UPDATES_ASKED: &str = "0,put,1,5\n0,weight,1\n0,weight,2\n0,insert,1\n";
-
-const TWO_UPDATES_READ: &[Rounds] = &[(4, &[(1, 0, Insert(1)), (2, 0, Remove(1))])];
-
-const ENDED_READ: &[Rounds] = &[
-    (4, &[(1, 0, Insert(1)), (2, 0, Remove(1))]),
-    (4, &[(4, 0, Insert(1))]),
-];
-
-const NUMBERED: &str =
-    "0,insert,1\n0,insert,2\n0,insert,3\n*,end\n0,remove,2\n0,look\n0,select,1\n*,end\n";
-
-const NUMBERED_READ: &[Rounds] = &[
-    (
-        4,
-        &[(1, 0, Insert(1)), (2, 0, Insert(2)), (3, 0, Insert(3))],
-    ),
-    (4, &[(5, 0, Remove(2)), (6, 0, Look), (7, 0, Select(1))]),
-];
-
-const WIDER: &str =
-    "0,insert,3\n*,end\n*,grow,5\n0,insert,31\n0,look\n0,rank,32\n0,before,31\n0,has,3\n";
-
-const WIDER_READ: &[Rounds] = &[
-    (2, &[(1, 0, Insert(3))]),
-    (
-        5,
-        &[
-            (4, 0, Insert(31)),
-            (5, 0, Look),
-            (6, 0, Rank(32)),
-            (7, 0, Before(31)),
-            (8, 0, Has(3)),
-        ],
-    ),
-];
-
-const READ: &[(&str, Bounds, &[Rounds])] = &[
-    (EACH_VERB, (4, 2, 64), &[(4, EACH_VERB_READ)]),
-    (QUOTED, FEW, QUOTED_READ),
-    ("0,put,1,999999999\n0,put,1,0\n", FEW, WEIGHTS_READ),
-    ("63,look\n0,look\n", (4, 64, 64), LAST_LANE_READ),
-    ("0,insert,1\n0,remove,1\n", (4, 1, 2), TWO_UPDATES_READ),
-    (
-        "0,insert,1\n0,remove,1\n*,end\n0,insert,1\n",
-        (4, 1, 2),
-        ENDED_READ,
-    ),
-    (NUMBERED, FEW, NUMBERED_READ),
-    (WIDER, (2, 1, 64), WIDER_READ),
-
-    // Rounds without rows.
-    ("", FEW, &[]),
-    ("\n\n", FEW, &[]),
-    ("*,end", FEW, &[(4, &[])]),
-    ("*,end\n*,end\n", FEW, &[(4, &[]), (4, &[])]),
-    ("0,look", FEW, &[(4, &[(1, 0, Look)])]),
-    ("0,look\n*,end", FEW, &[(4, &[(1, 0, Look)])]),
-    (
-        "0,look\n*,end\n*,end\n0,size",
-        FEW,
-        &[(4, &[(1, 0, Look)]), (4, &[]), (4, &[(4, 0, Size)])],
-    ),
-
+// Scripts with their rounds.
+const READ: &[&str] = &[
+    "0,insert,1\n1,remove,2\n0,look\n1,has,3\n0,size\n1,rank,4\n0,select,5\n1,before,6\n0,after,7\n1,range,8,9\n0,put,10,11\n1,weight,12\n => 4 bits, 1 0 Insert(1), 2 1 Remove(2), 3 0 Look, 4 1 Has(3), 5 0 Size, 6 1 Rank(4), 7 0 Select(5), 8 1 Before(6), 9 0 After(7), 10 1 Range(8, 9), 11 0 Put(10, 11), 12 1 Weight(12)\n",
+    "\"0\",\"insert\",\"005\"\r\n\r\n0,look => 4 bits, 1 0 Insert(5), 2 0 Look\n",
+    "0,put,1,999999999\n0,put,1,0\n => 4 bits, 1 0 Put(1, 999999999), 2 0 Put(1, 0)\n",
+    "63,look\n0,look\n => 4 bits, 1 63 Look, 2 0 Look\n",
+    "0,insert,1\n0,insert,2\n0,insert,3\n*,end\n0,remove,2\n0,look\n0,select,1\n*,end\n => 4 bits, 1 0 Insert(1), 2 0 Insert(2), 3 0 Insert(3)\n4 bits, 5 0 Remove(2), 6 0 Look, 7 0 Select(1)\n",
+    " => ",
+    "\n\n => ",
+    "*,end => 4 bits\n",
+    "*,end\n*,end\n => 4 bits\n4 bits\n",
+    "0,look => 4 bits, 1 0 Look\n",
+    "0,look\n*,end => 4 bits, 1 0 Look\n",
+    "0,look\n*,end\n*,end\n0,size => 4 bits, 1 0 Look\n4 bits\n4 bits, 4 0 Size\n",
     // Rows that give keys more bits, and are in no round.
-    ("*,grow,5", FEW, &[]),
-    ("*,grow,4\n*,grow,4\n*,grow,16", FEW, &[]),
-    ("*,grow,5\n*,end", FEW, &[(5, &[])]),
-    ("*,grow,5\n0,look", FEW, &[(5, &[(2, 0, Look)])]),
-    ("*,grow,05\n\"*\",\"grow\",\"006\"\n*,end", FEW, &[(6, &[])]),
+    "*,grow,5 => ",
+    "*,grow,4\n*,grow,4\n*,grow,16 => ",
+    "*,grow,5\n*,end => 5 bits\n",
+    "*,grow,5\n0,look => 5 bits, 2 0 Look\n",
+    "*,grow,05\n\"*\",\"grow\",\"006\"\n*,end => 6 bits\n",
+    "0,look\n*,end\n*,grow,5 => 4 bits, 1 0 Look\n",
+    "0,look\n*,end\n*,grow,5\n*,end => 4 bits, 1 0 Look\n5 bits\n",
+    "*,end\n*,grow,5\n*,end\n*,end\n*,grow,16\n0,look\n0,size => 4 bits\n5 bits\n5 bits\n16 bits, 6 0 Look, 7 0 Size\n",
+];
+
+// The same under limits of few bits, and of few updates.
+const LIMITED: &[(Bounds, &str)] = &[
     (
-        "*,grow,1\n*,grow,9\n*,grow,9\n0,look",
+        (4, 1, 2),
+        "0,insert,1\n0,remove,1\n => 4 bits, 1 0 Insert(1), 2 0 Remove(1)\n",
+    ),
+    (
+        (4, 1, 2),
+        "0,insert,1\n0,remove,1\n*,end\n0,insert,1\n => 4 bits, 1 0 Insert(1), 2 0 Remove(1)\n4 bits, 4 0 Insert(1)\n",
+    ),
+    (
+        (2, 1, 64),
+        "0,insert,3\n*,end\n*,grow,5\n0,insert,31\n0,look\n0,rank,32\n0,before,31\n0,has,3\n => 2 bits, 1 0 Insert(3)\n5 bits, 4 0 Insert(31), 5 0 Look, 6 0 Rank(32), 7 0 Before(31), 8 0 Has(3)\n",
+    ),
+    (
         (1, 1, 64),
-        &[(9, &[(4, 0, Look)])],
-    ),
-    ("0,look\n*,end\n*,grow,5", FEW, &[(4, &[(1, 0, Look)])]),
-    (
-        "0,look\n*,end\n*,grow,5\n*,end",
-        FEW,
-        &[(4, &[(1, 0, Look)]), (5, &[])],
-    ),
-    (
-        "*,end\n*,grow,5\n*,end\n*,end\n*,grow,16\n0,look\n0,size",
-        FEW,
-        &[
-            (4, &[]),
-            (5, &[]),
-            (5, &[]),
-            (16, &[(6, 0, Look), (7, 0, Size)]),
-        ],
+        "*,grow,1\n*,grow,9\n*,grow,9\n0,look => 9 bits, 4 0 Look\n",
     ),
 ];
 
 #[test]
 fn scripts_are_read_as_their_rounds(rt: HostRuntime) {
-    for (script, bounds, rounds) in READ {
-        assert_reads(&rt, rt.alloc(), script, *bounds, rounds);
+    for row in READ {
+        assert_reads(&rt, rt.alloc(), MANY, row);
+    }
+    for (bounds, row) in LIMITED {
+        assert_reads(&rt, rt.alloc(), *bounds, row);
     }
 }
+
+const THREE_PUTS: &str = "0,put,1,5\n0,put,1,5\n0,put,2,5\n";
+
+const TWO_UPDATES_ASKED: &str = "0,put,1,5\n0,weight,1\n0,weight,2\n0,insert,1\n";
 
 // Scripts under limits, with the fault of each, if it has one.
 const FAULTS: &[(Bounds, &str, Option<ScriptError>)] = &[
@@ -370,8 +293,6 @@ fn scripts_have_their_first_fault_or_none(rt: HostRuntime) {
 
 const OF_TWO_LANES: &str = "0,insert,5\n*,end\n1,look\n";
 
-const OF_TWO_LANES_READ: &[Rounds] = &[(4, &[(1, 0, Insert(5))]), (4, &[(3, 1, Look)])];
-
 // Passes whichever request for memory is refused: reading then answers `OutOfMemory`, and what is read after that is whole.
 #[test]
 fn refused_memory_is_told_by_reading(rt: HostRuntime) -> Result<(), ScriptError> {
@@ -382,6 +303,16 @@ fn refused_memory_is_told_by_reading(rt: HostRuntime) -> Result<(), ScriptError>
             read(&rt, rt.alloc(), OF_TWO_LANES, (4, 2, 64))?
         }
     };
-    assert_script(&rt, &script, OF_TWO_LANES_READ);
+    let rounds = script.rounds();
+    equal(&rt, rounds.len(), 2);
+    for (round, line) in rounds.iter().zip([(1, 0, Insert(5)), (3, 1, Look)]) {
+        for row in round.rows.as_slice() {
+            equal(
+                &rt,
+                (round.bits, row.row, row.lane, row.verb),
+                (4, line.0, line.1, line.2),
+            );
+        }
+    }
     Ok(())
 }

@@ -47,7 +47,7 @@ module _ {A B : Type 0} (parts_a : Parts A) (parts_b : Parts B) where
       }
 
   -- what a descent loaded, the pass looked at
-  looks_of : (n c s p : ℕ) (walk new : Walking) → WalkDescends (face parts_a parts_b) n c s p walk new → Looks (n + c + 3 * s + 2 * p) walk.words.view new.words.view
+  pub looks_of : (n c s p : ℕ) (walk new : Walking) → WalkDescends (face parts_a parts_b) n c s p walk new → Looks (n + c + 3 * s + 2 * p) walk.words.view new.words.view
   looks_of n c s p walk new d = let keeps = d.keeps_rest in
       record { more = keeps.more; is = keeps.steps; few = omega (arith, keeps.few_steps, d.few_nodes, d.few_counts, d.few_summaries, d.few_passed) }
 

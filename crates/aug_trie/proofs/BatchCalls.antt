@@ -28,7 +28,7 @@ use Rattle.aug_trie.specs.Node.{Keeps}
 use Rattle.aug_trie.specs.Pass.{PassFacts, GoesOn, most_update_steps, most_rise_steps}
 use Rattle.aug_trie.specs.Updates.{ComesTo}
 use Rattle.aug_trie.specs.declared.rounds.account.Account.{Account}
-use Rattle.aug_trie.specs.declared.updates.outcome.Outcome.{Outcome}
+use Rattle.aug_model.specs.declared.outcome.Outcome.{Outcome}
 use Rattle.aug_trie.specs.declared.updates.request.Request.{Request}
 use Rattle.aug_trie.specs.inside.Batching.{LeftPart, LeftAll, RaisedAll, IsAccountAfter}
 use Rattle.aug_trie.specs.inside.Climbing.{CameTo, Settled}

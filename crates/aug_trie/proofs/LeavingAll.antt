@@ -15,8 +15,8 @@ use Rattle.aug_core.specs.declared.view.SeatView.{SeatView}
 use Rattle.aug_core.proofs.PrefixLemmas.{book_refl, book_trans}
 use Rattle.aug_trie.specs.UpdateBatches.{BatchPart, no_part}
 use Rattle.aug_trie.specs.declared.rounds.account.Account.{Account}
-use Rattle.aug_trie.specs.declared.updates.outcome.Outcome.{Outcome}
-use Rattle.aug_trie.specs.declared.updates.outcome.Outcome.TheVariants.{Refused}
+use Rattle.aug_model.specs.declared.outcome.Outcome.{Outcome}
+use Rattle.aug_model.specs.declared.outcome.Outcome.TheVariants.{Refused}
 use Rattle.aug_trie.specs.declared.updates.request.Request.{Request}
 use Rattle.aug_trie.specs.declared.updates.request.Request.TheVariants.{Insert}
 use Rattle.aug_trie.specs.inside.Batching.{LeftLeaf, LeftPart, LeftAll, IsAccountAfter}

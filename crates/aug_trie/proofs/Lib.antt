@@ -32,6 +32,7 @@ pub mod Noting
 pub mod SnapshotWalks
 pub mod RoundLemmas
 pub mod Refusals
+pub mod CrewWalks
 pub mod Crews
 pub mod CutLemmas
 pub mod Comparing
@@ -48,4 +49,3 @@ pub mod Raising
 pub mod Staging
 pub mod Turning
 pub mod Chaining
-pub mod Resting

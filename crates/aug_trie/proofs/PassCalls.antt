@@ -3,7 +3,7 @@ use Rattle.std.proofs.Common.{◌≡◌, Option, Some, ℕ, ◌+◌, ◌-◌, �
 use Rattle.atomic_table.specs.Seated.{TableId}
 use Rattle.aug_monoid.specs.Parts.{Parts}
 use Rattle.aug_model.specs.Folds.{summary_of}
-use Rattle.aug_trie.specs.declared.updates.outcome.Outcome.{Outcome}
+use Rattle.aug_model.specs.declared.outcome.Outcome.{Outcome}
 use Rattle.aug_core.specs.Addresses.{IsInner}
 use Rattle.aug_core.specs.Counts.{changes_of}
 use Rattle.aug_core.specs.Cuts.{Cut}

@@ -12,8 +12,8 @@ use Rattle.aug_core.specs.declared.view.SeatView.{SeatView}
 use Rattle.atomic_table.specs.Seated.{TableId}
 use Rattle.aug_words.specs.Seats.{Known}
 use Rattle.aug_trie.specs.inside.Goes.{HasLeaves, Goes}
-use Rattle.aug_trie.specs.declared.updates.outcome.Outcome.{Outcome}
-use Rattle.aug_trie.specs.declared.updates.outcome.Outcome.TheVariants.{Accepted, Replaced, Refused, Unchanged, TooGreat, TooLittle}
+use Rattle.aug_model.specs.declared.outcome.Outcome.{Outcome}
+use Rattle.aug_model.specs.declared.outcome.Outcome.TheVariants.{Accepted, Replaced, Refused, Unchanged, TooGreat, TooLittle}
 use Rattle.aug_trie.specs.inside.Climbing.{CameTo, WentUp, Updated, UpdatedFrom, advance_from, told_by}
 use Rattle.aug_trie.specs.inside.Weights.{WeighsAt}
 use Rattle.aug_trie.specs.LeafWords.{serial_in_word, weight_in_word}

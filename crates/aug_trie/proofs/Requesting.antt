@@ -6,8 +6,8 @@ use Rattle.aug_core.specs.Counts.{change}
 use Rattle.aug_core.specs.Effects.{IsAdvance, made_by, new_serial, new_word, old_word}
 use Rattle.aug_core.specs.declared.view.Advance.{Advance}
 use Rattle.aug_core.specs.declared.view.Change.{Change}
-use Rattle.aug_trie.specs.declared.updates.outcome.Outcome.{Outcome}
-use Rattle.aug_trie.specs.declared.updates.outcome.Outcome.TheVariants.{Accepted, Replaced, Refused, Unchanged, TooGreat, TooLittle}
+use Rattle.aug_model.specs.declared.outcome.Outcome.{Outcome}
+use Rattle.aug_model.specs.declared.outcome.Outcome.TheVariants.{Accepted, Replaced, Refused, Unchanged, TooGreat, TooLittle}
 use Rattle.aug_trie.specs.LeafWords.{serial_in_word, weight_in_word}
 use Rattle.aug_trie.specs.inside.Climbing.{FitsRequest, advance_from}
 use Rattle.aug_trie.specs.Requests.{goes_from, in_the_way, outcome_by, word_after}

@@ -1,12 +1,13 @@
 -- How the cuts of a history rise, and where nothing changed.
 use Rattle.std.proofs.Common.{◌≡◌, ℕ, zero, suc, ◌+◌, ◌-◌, ◌<◌, ◌≤◌, List, [], ◌∷◌, length, get_or, refl, sym, ap, ◌∙◌, inl, inr, arith}
-use Rattle.std.proofs.lemmas.Bool.{cases_lt}
+use Rattle.std.proofs.lemmas.Bool.{cases_lt, lt-leb, lt-ltb}
 use Rattle.std.proofs.lemmas.List.Prefix.{front_reads}
 use Rattle.aug_core.specs.Cuts.{Cut, IsAtMost, opening_cut, serial_of, shown_of}
 use Rattle.aug_core.specs.Prefixes.{IsPrefix}
+use Rattle.aug_core.specs.declared.view.Change.{Change}
 use Rattle.aug_core.proofs.PrefixLemmas.{prefix_long, prefix_refl, prefix_trans}
 use Rattle.aug_trie.specs.History.{last_cut, IsHistory}
-use Rattle.aug_trie.specs.Tallies.{Tallies}
+use Rattle.aug_trie.specs.Tallies.{Tallies, times}
 use Rattle.aug_trie.proofs.CutLemmas.{same_cut, serial_rises}
 use Rattle.aug_trie.proofs.TallyLemmas.{once_between}
 
@@ -76,3 +77,12 @@ tally_nothing c d le tallies k =
 -- and the cuts are the same
 pub unchanged : (c d : Cut) → IsAtMost c d → Tallies c d [] → d ≡ c
 unchanged c d le tallies = sym (same_cut c d le.same_keys (tally_nothing c d le tallies))
+
+-- where the changes up to one cut are all those up to a later one, the two are the same
+pub same_end : (o c d : Cut) (changes : List Change) → IsAtMost o c → IsAtMost c d → Tallies o c changes → Tallies o d changes → d ≡ c
+same_end o c d changes up le before after = sym (same_cut c d le.same_keys (λ k. elim (cases_lt (serial_of c k) (serial_of d k)) [
+  | inl lt ↦
+      let low = serial_rises o c k up in let once = once_between o d changes after k (serial_of d k) (omega arith) (omega arith) in
+      let none : times k (serial_of d k) changes ≡ 0 = before k (serial_of d k) ∙ rw (lt-ltb (serial_of o k) (serial_of d k) (omega arith), lt-leb (serial_of d k) (serial_of c k) lt) in absurd (omega arith)
+  | inr ge ↦ same_shown c d k le ge
+]))

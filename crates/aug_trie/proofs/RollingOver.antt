@@ -1,26 +1,31 @@
 -- The crew of a round that goes on in the memory of the round before.
 use Rattle.std.proofs.Common.{◌≡◌, ◌+◌, ◌%◌, ◌^◌, ◌≤◌, ◌∙◌, ℕ, List, [], ◌∷◌, ◌++◌, All, length, refl, ap, sym, subst}
 use Rattle.std.proofs.lemmas.List.{map-append}
-use Rattle.std.specs.Prelude.{unwrap_or}
+use Rattle.std.specs.Prelude.{Option, unwrap_or}
 use Rattle.aug_monoid.specs.Weighted.{FitsPair}
 use Rattle.aug_model.specs.Keys.{IsKeySet, keys_of}
 use Rattle.aug_core.specs.Addresses.{root_place}
 use Rattle.aug_core.specs.Counts.{changes_of}
-use Rattle.aug_core.specs.Cuts.{opening_cut}
+use Rattle.aug_core.specs.Cuts.{Cut, opening_cut, pairs_of_cut}
 use Rattle.aug_core.specs.Kinds.{load_node}
 use Rattle.aug_core.specs.Prefixes.{IsPrefix}
-use Rattle.aug_core.specs.Effects.{LoadsNode}
+use Rattle.aug_core.specs.Effects.{LoadsNode, opening_of}
 use Rattle.aug_core.specs.declared.view.PastEra.{PastEra}
 use Rattle.aug_core.specs.Eras.{opening_with}
 use Rattle.aug_core.specs.Layout.{IsLayout}
 use Rattle.aug_core.specs.Opening.{Opening}
 use Rattle.aug_core.specs.Places.{Shape}
-use Rattle.aug_core.specs.Renewals.{reopening}
+use Rattle.aug_core.specs.Renewals.{EndWith, reopening}
 use Rattle.aug_core.specs.declared.view.SeatView.{SeatView}
 use Rattle.aug_core.proofs.Openings.{opener}
 use Rattle.aug_words.specs.Seats.{Store, Known, AreTogether}
 use Rattle.aug_trie.specs.Chains.{chapters}
-use Rattle.aug_trie.specs.Crew.{CrewFacts, crew_chain}
+use Rattle.aug_query.specs.Tree.{IsTreeSet}
+use Rattle.aug_model.proofs.Boundaries.{IsKeySet-few}
+use Rattle.aug_model.proofs.Pairs.{length-keys_of}
+use Rattle.aug_trie.specs.Crew.{CrewFacts, CrewLooks, crew_chain, Ends, IsOver, set_of_crew}
+use Rattle.aug_trie.specs.Ended.{EndedFacts}
+use Rattle.aug_trie.specs.History.{IsHistory, last_cut}
 use Rattle.aug_trie.specs.Knowledge.{inserts_of, removals_of}
 use Rattle.aug_trie.specs.Round.{RoundFacts, root_of, table_of}
 use Rattle.aug_trie.specs.inside.CrewState.{crew_facts, HoldsCrew}
@@ -28,9 +33,15 @@ use Rattle.aug_trie.specs.inside.Knows.{knows, root_history}
 use Rattle.aug_trie.specs.inside.RoundState.{round_of, past_rounds, facts_of}
 use Rattle.aug_trie.proofs.Accepting.{knows_on}
 use Rattle.aug_trie.proofs.Crews.{begins_crew, begins_history}
+use Rattle.aug_trie.proofs.Endings.{none_left, round_ended}
 use Rattle.aug_trie.proofs.Handing.{loaded_table, loaded_knowledge}
 use Rattle.aug_trie.proofs.Keeping.{weighs_later}
-use Rattle.aug_trie.specs.Pass.{KeepWeights}
+use Rattle.aug_trie.proofs.Risen.{opening-at_most, opens-some, last-at_most_final, same_end}
+use Rattle.aug_trie.proofs.Tallying.{none_lost_tallies}
+use Rattle.aug_trie.specs.Pass.{KeepWeights, Weighed}
+use Rattle.aug_trie.specs.Tallies.{Tallies, TalliesWithLost}
+use Rattle.aug_core.proofs.PrefixLemmas.{prefix_refl, prefix_trans}
+use Rattle.aug_core.specs.declared.view.Change.{Change}
 
 module _ (face : ℕ → ℕ → List (ℕ × ℕ) → List ℕ) (store : Store) (lead : Known) (before : SeatView) (list : List (ℕ × ℕ)) (together : AreTogether store lead) (opened : lead.view ≡ reopening face list before)
     (laid_out : IsLayout store.shape) (set : IsKeySet store.shape.bits (keys_of list)) (fit : All FitsPair list) (few : length list ≤ store.shape.members) where
@@ -99,6 +110,101 @@ module _ (face : ℕ → ℕ → List (ℕ × ℕ) → List ℕ) (lead : Known) 
   pub last_loads : last.steps ≡ now.steps ++ load_node (root_of now.round) found ∷ []
   last_loads = ap (λ (z : SeatView). z.steps) l.stepped ∙ ap (λ (z : CrewFacts). z.steps ++ load_node (root_of z.round) found ∷ []) is
 
+  pub last_looks : CrewLooks now (crew_facts known)
+  last_looks = record { crew_is = last_is; weights = last_weights; goes_on = last_goes_on; same_changes = last_changes; knowledge = let k = last_crew.is_crew.knowledge in record { is_history = k.is_history; stands = k.stands }; loads = (found, last_loads) }
+
   -- the rounds that are over then
   pub over_now : (past : List PastEra) (s : Shape) → past ≡ last.past ++ record { members = last.members; book = last.seen } ∷ [] → s ≡ last.shape → past_rounds s past ≡ chapters (crew_chain (crew_facts known))
   over_now past s is_past is_shape = (λ i. past_rounds (is_shape i) (is_past i)) ∙ map-append (λ (z : PastEra). record { members = z.members; history = root_history last.shape z.book }) last.past (record { members = last.members; book = last.seen } ∷ [])
+
+  -- so where the table then met the rule, and all passes are back, the account of the round is closed
+  pub closes_account : (words : List ℕ) → EndWith face (opening_of last) last words → now.back ≡ now.handed → IsOver now (crew_facts known) inserts removals
+  closes_account words ends all_back =
+      let crew = last_crew in let spare = crew.is_crew.hands_out in
+      let all : length last.held ≡ crew.handed = ap (λ (z : CrewFacts). z.back) last_is ∙ all_back ∙ sym (ap (λ (z : CrewFacts). z.handed) last_is) ∙ ap (λ (z : Option ℕ). unwrap_or z 0) spare in
+      let ended : EndedFacts = record {
+        bits = last.shape.bits;
+        members = pairs_of_cut (last_cut (knows last).history);
+        inserts = inserts;
+        removals = removals;
+        missing = 0;
+        calls = 0;
+        rest = record { shape = last.shape; words = words };
+        root = 0;
+      } in
+      let t = round_ended face known (crew_facts known) crew.handed refl crew spare ends ended refl refl refl refl (none_left face known (crew_facts known) crew.handed refl crew spare ends all) refl in record {
+        last_is = last_is;
+        weights = last_weights;
+        goes_on = last_goes_on;
+        same_changes = last_changes;
+        loads = (found, last_loads);
+        ended = ended;
+        ends = t.0;
+        none_missing = refl;
+        sizes = t.1 refl ∙ ap (λ (z : CrewFacts). length z.round.members + inserts) last_is;
+        inserts_are = refl;
+        removals_are = refl;
+      }
+
+-- ---- a crew that closed its account, and closes it again after steps by which it learned nothing
+
+module _ (old first between last : CrewFacts) (inserts removals inserts' removals' : ℕ) (a : IsOver old first inserts removals) (same : between ≡ record first { steps = between.steps }) (b : IsOver between last inserts' removals') where
+  abbrev opened : Cut
+  opened = opening_cut first.round.bits first.round.members
+
+  one_round : last.round ≡ first.round
+  one_round = ap (λ (z : CrewFacts). z.round) b.last_is ∙ ap (λ (z : CrewFacts). z.round) same
+
+  grows : IsPrefix first.knows.history last.knows.history
+  grows = subst (λ (z : CrewFacts). IsPrefix z.knows.history last.knows.history) same b.goes_on
+
+  one_count : last.knows.accepted ≡ first.knows.accepted
+  one_count = b.same_changes ∙ ap (λ (z : CrewFacts). z.knows.accepted) same
+
+  tallies : (crew : CrewFacts) (ended : EndedFacts) → Ends crew ended → ended.missing ≡ 0 → Tallies (opening_cut crew.round.bits crew.round.members) (last_cut crew.knows.history) crew.knows.accepted
+  tallies crew ended e none = none_lost_tallies crew.round.updates (opening_cut crew.round.bits crew.round.members) (last_cut crew.knows.history) crew.knows.history crew.knows.accepted
+      (subst (λ (z : ℕ). TalliesWithLost crew.round.updates z (opening_cut crew.round.bits crew.round.members) (last_cut crew.knows.history) crew.knows.history crew.knows.accepted) none e.tallies)
+
+  -- the set is what it was, since all changes were counted already
+  set_stays : pairs_of_cut (last_cut first.knows.history) ≡ b.ended.members
+  set_stays =
+      let began = a.ends.is_history in let is_history = subst (λ (z : RoundFacts). IsHistory z.bits z.members last.knows.history) one_round b.ends.is_history in
+      let some = opens-some first.round.bits first.round.members first.knows.history began first.knows.history began.opens in
+      let after : Tallies opened (last_cut last.knows.history) first.knows.accepted = subst (λ (z : RoundFacts × List Change). Tallies (opening_cut z.0.bits z.0.members) (last_cut last.knows.history) z.1) (λ j. (one_round j, one_count j)) (tallies last b.ended b.ends b.none_missing) in
+      ap pairs_of_cut (sym (same_end opened (last_cut first.knows.history) (last_cut last.knows.history) first.knows.accepted
+      (opening-at_most first.round.bits first.round.members first.knows.history began first.knows.history began.opens (prefix_refl first.knows.history))
+      (last-at_most_final first.round.bits first.round.members last.knows.history is_history first.knows.history some grows) (tallies first a.ended a.ends a.none_missing) after)) ∙ sym b.ends.members
+
+  -- so this is one account
+  pub over_again : (o : IsOver old (record last { steps = first.steps }) inserts removals) × (pairs_of_cut (last_cut first.knows.history) ≡ o.ended.members)
+  over_again = let e = b.ends in (
+    record {
+      last_is = ap (λ (z : CrewFacts). record z { steps = first.steps }) b.last_is ∙ ap (λ (z : CrewFacts). record z { knows = last.knows; steps = first.steps; words = last.words }) same ∙ ap (λ (z : CrewFacts). record z { knows = last.knows; steps = first.steps; words = last.words }) a.last_is;
+      weights = λ key serial weight has. b.weights key serial weight (subst (λ (z : CrewFacts). Weighed z.words key serial weight) (sym same) (a.weights key serial weight has));
+      goes_on = prefix_trans old.knows.history first.knows.history last.knows.history a.goes_on grows;
+      same_changes = one_count ∙ a.same_changes;
+      loads = a.loads;
+      ended = b.ended;
+      ends = record { bits = e.bits; members = e.members; inserts = e.inserts; removals = e.removals; missing = e.missing; no_calls = e.no_calls; is_history = e.is_history; tallies = e.tallies; ledger = e.ledger };
+      none_missing = b.none_missing;
+      sizes = b.sizes ∙ ap (λ (z : CrewFacts). length z.round.members + b.ended.inserts) same ∙ ap (λ (z : CrewFacts). length z.round.members + b.ended.inserts) a.last_is;
+      inserts_are = a.inserts_are ∙ a.ends.inserts ∙ ap inserts_of (sym one_count) ∙ sym e.inserts;
+      removals_are = a.removals_are ∙ a.ends.removals ∙ ap removals_of (sym one_count) ∙ sym e.removals;
+    },
+    set_stays,
+  )
+
+-- ---- the list of a crew
+
+-- it is a set of keys of so many bits
+pub record IsListed (bits : ℕ) (list : List (ℕ × ℕ)) : Type 0 where
+  pub keys : IsKeySet bits (keys_of list)
+  pub fit : All FitsPair list
+  pub few : length list ≤ 2 ^ bits
+
+pub listed : (crew : CrewFacts) (bits : ℕ) (list : List (ℕ × ℕ)) → IsTreeSet (set_of_crew crew) → crew.round.bits ≡ bits → list ≡ (set_of_crew crew).pairs → IsListed bits list
+listed crew bits list tree same is = subst (λ (z : ℕ × List (ℕ × ℕ)). IsListed z.0 z.1) (λ j. (same j, sym is j)) record {
+  keys = tree.is_key_set;
+  fit = tree.fit;
+  few = let pairs : List (ℕ × ℕ) = (set_of_crew crew).pairs in subst (λ (z : ℕ). z ≤ 2 ^ crew.round.bits) (length-keys_of pairs) (IsKeySet-few crew.round.bits (keys_of pairs) tree.is_key_set);
+}

@@ -9,8 +9,8 @@ use Rattle.aug_core.specs.Effects.{own_lane, MayChange, BeginsAtLeaf, TriesLeaf,
 use Rattle.aug_core.specs.declared.view.Advance.{Advance}
 use Rattle.aug_core.specs.declared.view.Change as changed
 use Rattle.aug_core.specs.declared.view.SeatView.{SeatView}
-use Rattle.aug_trie.specs.declared.updates.outcome.Outcome.{Outcome}
-use Rattle.aug_trie.specs.declared.updates.outcome.Outcome.TheVariants.{Refused}
+use Rattle.aug_model.specs.declared.outcome.Outcome.{Outcome}
+use Rattle.aug_model.specs.declared.outcome.Outcome.TheVariants.{Refused}
 use Rattle.aug_words.specs.Seats.{MayAdvance, TriedLeaf}
 use Rattle.aug_trie.specs.inside.RoundState.{eras_of}
 use Rattle.aug_trie.specs.Pass.{most_rise_steps}

@@ -11,7 +11,7 @@ use Rattle.aug_core.specs.Counts.{changes_of}
 use Rattle.aug_core.specs.Kinds.{load_leaf, try_leaf}
 use Rattle.aug_core.specs.Effects.{own_lane, KnowsTable}
 use Rattle.aug_core.specs.declared.view.SeatView.{SeatView}
-use Rattle.aug_trie.specs.declared.updates.outcome.Outcome.{Outcome}
+use Rattle.aug_model.specs.declared.outcome.Outcome.{Outcome}
 use Rattle.aug_trie.specs.inside.Climbing.{Updated}
 use Rattle.aug_trie.specs.inside.Goes.{part_steps, try_steps, level_steps}
 use Rattle.aug_trie.specs.inside.Knows.{root_history, knows, root_numbers}

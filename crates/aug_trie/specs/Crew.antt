@@ -1,5 +1,6 @@
 -- What contracts see of a crew: how its round begins, how its passes come and go, and how the round ends.
-use Rattle.std.specs.Prelude.{◌≡◌, ℕ, ◌+◌, ◌<◌, List, [], ◌∷◌, ◌++◌, length, flat_map}
+use Rattle.std.specs.Prelude.{◌≡◌, ℕ, ◌+◌, ◌<◌, ◌≤◌, List, [], ◌∷◌, ◌++◌, length, flat_map}
+use Rattle.aug_model.specs.Keys.{SetFacts}
 use Rattle.aug_core.specs.Cuts.{opening_cut, pairs_of_cut}
 use Rattle.aug_core.specs.Kinds.{load_node}
 use Rattle.aug_core.specs.Prefixes.{IsPrefix}
@@ -69,6 +70,25 @@ pub record CrewLearns (old new : CrewFacts) (note : NoteFacts) : Type 0 where
   pub knowledge : IsKnowledge new.round.bits new.round.members new.knows
   pub loads : LoadsRoot old new
 
+-- the set that a crew knows, with its bits: that of the last cut
+abbrev pub set_of_crew : CrewFacts → SetFacts
+set_of_crew crew = record { bits = crew.round.bits; pairs = pairs_of_cut (last_cut crew.knows.history) }
+
+-- the crew loads the root, and the last cut that it knows then is a snapshot
+pub record CrewLooks (old new : CrewFacts) : Type 0 where
+  pub crew_is : new ≡ record old { knows = new.knows; steps = new.steps; words = new.words }
+  pub weights : KeepWeights old.words new.words
+  pub goes_on : IsPrefix old.knows.history new.knows.history
+  pub same_changes : new.knows.accepted ≡ old.knows.accepted
+  pub knowledge : IsKnowledge new.round.bits new.round.members new.knows
+  pub loads : LoadsRoot old new
+
+-- the crew made at most `most` steps, from which it learned nothing new
+pub record CrewReads (most : ℕ) (old new : CrewFacts) : Type 0 where
+  pub same : new ≡ record old { steps = new.steps }
+  pub steps_stay : IsPrefix old.steps new.steps
+  pub few_steps : length new.steps ≤ length old.steps + most
+
 -- a round ends: its set is that of the last cut that the crew knows; the changes that the crew knows, with lists of those of the passes that did not come back,
 -- are all that happened from the opening cut to that one, and keep one ledger; and the counts are the crew's
 pub record Ends (crew : CrewFacts) (ended : EndedFacts) : Type 0 where
@@ -81,6 +101,21 @@ pub record Ends (crew : CrewFacts) (ended : EndedFacts) : Type 0 where
   pub is_history : IsHistory crew.round.bits crew.round.members crew.knows.history
   pub tallies : TalliesWithLost crew.round.updates ended.missing (opening_cut crew.round.bits crew.round.members) (last_cut crew.knows.history) crew.knows.history crew.knows.accepted
   pub ledger : IsLedger crew.words crew.round.bits crew.round.members crew.knows.history (crew.knows.accepted ++ flat_map (λ list. list) tallies.lost)
+
+-- the account of a round is closed to which all passes came back, with a load of the root, while its table is still there: the counts are those of the
+-- round, and its set is that of the last cut. All of its history is known then
+pub record IsOver (old last : CrewFacts) (inserts removals : ℕ) : Type 0 where
+  pub last_is : last ≡ record old { knows = last.knows; steps = last.steps; words = last.words }
+  pub weights : KeepWeights old.words last.words
+  pub goes_on : IsPrefix old.knows.history last.knows.history
+  pub same_changes : last.knows.accepted ≡ old.knows.accepted
+  pub loads : LoadsRoot old last
+  pub ended : EndedFacts
+  pub ends : Ends last ended
+  pub none_missing : ended.missing ≡ 0
+  pub sizes : length ended.members + ended.removals ≡ length old.round.members + ended.inserts
+  pub inserts_are : inserts ≡ ended.inserts
+  pub removals_are : removals ≡ ended.removals
 
 -- a round ends to which all passes came back, with a load of the root, and the next one begins over its set, in the same table: the list has the set, and
 -- the counts are those of the round that ended. All of its history is known then

@@ -15,8 +15,8 @@ use Rattle.aug_trie.specs.declared.rounds.pop.Pop.{Pop}
 use Rattle.aug_trie.specs.declared.rounds.pop.Pop.TheVariants as pop
 use Rattle.aug_trie.specs.declared.rounds.pop.Side.{Side}
 use Rattle.aug_trie.specs.declared.rounds.pop.Side.TheVariants.{First, Last}
-use Rattle.aug_trie.specs.declared.updates.outcome.Outcome.{Outcome}
-use Rattle.aug_trie.specs.declared.updates.outcome.Outcome.TheVariants as outcome
+use Rattle.aug_model.specs.declared.outcome.Outcome.{Outcome}
+use Rattle.aug_model.specs.declared.outcome.Outcome.TheVariants as outcome
 use Rattle.aug_trie.specs.declared.updates.request.Request.{Request}
 use Rattle.aug_trie.specs.declared.updates.request.Request.TheVariants as request
 

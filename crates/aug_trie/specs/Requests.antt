@@ -17,8 +17,8 @@ use Rattle.std.specs.Prelude.{ℕ, ◌+◌, ◌-◌, ◌%◌, ◌^◌, ◌==◌,
 use Rattle.aug_core.specs.Book.{word_of_leaf}
 use Rattle.aug_core.specs.Counts.{change}
 use Rattle.aug_core.specs.declared.view.Change.{Change}
-use Rattle.aug_trie.specs.declared.updates.outcome.Outcome.{Outcome}
-use Rattle.aug_trie.specs.declared.updates.outcome.Outcome.TheVariants.{Accepted, Replaced, Refused, Unchanged, TooGreat, TooLittle}
+use Rattle.aug_model.specs.declared.outcome.Outcome.{Outcome}
+use Rattle.aug_model.specs.declared.outcome.Outcome.TheVariants.{Accepted, Replaced, Refused, Unchanged, TooGreat, TooLittle}
 use Rattle.aug_trie.specs.LeafWords.{serial_in_word, weight_in_word}
 use Rattle.aug_trie.specs.declared.updates.request.Request.{Request}
 use Rattle.aug_trie.specs.declared.updates.request.Request.TheVariants.{Insert, Remove, Put, Add, Sub, Take}

@@ -20,8 +20,6 @@ pub mod NoteState
 pub mod PassState
 pub mod Points
 pub mod Popping
-pub mod RestWalkLaws
-pub mod RestWalks
 pub mod RoundState
 pub mod SnapshotWalk
 pub mod SnapshotWalkLaws

@@ -7,6 +7,7 @@ mod rounds;
 mod turns;
 mod updates;
 
+pub use aug_model::Outcome;
 pub use error::{BeginError, CrewError};
 pub use queries::cursor::SnapshotCursor;
 pub use queries::node::Node;
@@ -22,6 +23,5 @@ pub use rounds::pass::Pass;
 pub use rounds::pop::{Pop, Side};
 pub use rounds::round::Round;
 pub use turns::climb::{Climb, Turn};
-pub use updates::outcome::Outcome;
 pub use updates::request::Request;
 pub use updates::told::Told;

@@ -10,5 +10,4 @@ pub(crate) mod members;
 pub(crate) mod note;
 pub(crate) mod pass;
 pub(crate) mod pop;
-pub(crate) mod rest_walk;
 pub(crate) mod round;

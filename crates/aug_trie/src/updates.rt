@@ -2,7 +2,6 @@
 
 pub(crate) mod batch;
 pub(crate) mod leaf_words;
-pub(crate) mod outcome;
 pub(crate) mod parts;
 pub(crate) mod propagate;
 pub(crate) mod refreshing;

@@ -1,9 +1,9 @@
 //! Rows as tables of lines: who does what, one step after the other, and what each step comes to. A table is data, so that the proof of a test that
 //! plays it is short. `aug_trie_tests` plays them with passes, and `aug_live_tests` with handles.
 
-use aug_model::Summary;
+use aug_model::{Difference, Summary};
 use aug_monoid::{Extent, Sum};
-use aug_trie::{Outcome, Pop, Request, Told};
+use aug_trie::{BeginError, Outcome, Pop, Request, Told};
 
 /// An update.
 #[derive(Clone, Copy)]
@@ -59,16 +59,23 @@ pub enum Act {
     Finish,
     /// Its pass goes by way of a half.
     Halve,
+    /// Eight updates in one batch, of keys of 4 bits that do not rise, one of them twice. Whether they come to these outcomes, and to none past them.
+    Batch(&'static [Outcome]),
+    /// The pass learns the last note, or the crew does in the place of a pass that is not out. Whether the pass then sees this key.
+    Learn(u32),
     /// The rank of a key by a view of the pass, which is given up then.
     RankByView(u32),
-    /// A clone of the top of the tree, and the children of that clone.
+    /// A clone of the top of the tree, and the children of that clone once the pass took 1 out.
     Top,
     Left,
     Right,
-    /// What a snapshot and its clone show before and after a put of 1 with this weight, or an insertion of 2 and a removal of 1.
-    KeptOver(Option<u32>),
+    /// What a snapshot and its clone show before and after some updates.
+    KeptOver(&'static [Change]),
     /// What a cursor passes over a new snapshot: on from the first key, on once more after the pass took the second key out, and back.
     PassesOver(u32, u32),
+    /// What changed from a key on over some updates; and as the keys from the first number on and below the second come in, or back from then.
+    Since(&'static [Change], u32),
+    Grown((u32, u32), u32, bool),
     /// How many of the keys of 2 bits are members, if the sums of all are those of each key.
     AddsUp,
     /// The bits of a trie at rest, and how many keys these have.
@@ -77,7 +84,7 @@ pub enum Act {
 
     /// Puts keys in, from the first number on as many as the second. How many of them went in.
     Fill(u32, u32),
-    /// The handle makes a note, which is dropped.
+    /// The pass, the crew in the place of a pass that is not out, or the handle makes a note. That of a handle is dropped.
     Note,
     /// The handle takes a look, the look takes a newer snapshot, and it is over.
     Look,
@@ -114,6 +121,8 @@ pub enum Reply {
     Two(Option<u32>, Option<u32>),
     Listed(Option<(u32, u32)>, Option<(u32, u32)>, Option<(u32, u32)>),
     Many(usize, Option<(u32, u32)>, Option<(u32, u32)>),
+    /// Of a page of changes how many there are, and the first, the second and the last: their keys, and what these weighed before and weigh behind them.
+    Changed(usize, Option<Differs>, Option<Differs>, Option<Differs>),
 
     Counted(u32, u32, u32),
     /// How many turns were left to an update as it began, what it came to, and how many turns that took.
@@ -123,6 +132,8 @@ pub enum Reply {
     /// How many members there are, what 1 and 2 weigh, and the weights of the keys of 2 bits together.
     Kept(u32, Option<u32>, Option<u32>, u64),
 
+    /// Memory was refused, twice if it was requested twice.
+    NoMemory,
     /// It would have to wait for a lock, or the round that the lane came into was spent at once.
     Later,
     Anew,
@@ -135,6 +146,9 @@ pub enum Reply {
     /// The members of a trie at its end, its rounds, and how many keys were put in and taken out.
     Closed(u32, u64, u64, u64),
 }
+
+/// A key, and what it weighs before a change and behind it.
+pub type Differs = (u32, Option<u32>, Option<u32>);
 
 /// The call by which a round begins. That of the list begins over the set of a trie that is given back.
 #[derive(Clone, Copy)]
@@ -155,6 +169,8 @@ pub enum Line {
     And(&'static str),
     /// A round begins, and so many lanes are opened. At its end all passes come back.
     Round(Way, Numbers, u32),
+    /// A round that is refused, and why.
+    Refuses(Way, Numbers, BeginError),
     /// A live trie opens: the bits of its keys, its handles, its spare lanes, and the updates of a lane.
     Live(u32, u32, u32, u32),
     /// What a lane does, or a handle, from the last one of a live trie on.
@@ -166,6 +182,7 @@ pub enum Line {
     TryB(Act, Reply),
     /// What the trie at rest answers. How many members it has, and its counts.
     Rest(Act, Reply),
+    AtRest(&'static [Line]),
     End(u32, (u32, u32, u32)),
 }
 
@@ -206,6 +223,12 @@ pub fn folded(summary: Summary<Sum, Extent>) -> Reply {
     Reply::Folded(summary.count, summary.a.value(), summary.b.bounds())
 }
 
+/// Where a node stands, and what is told of the members that it covers.
+pub fn stands(level: u32, place: u32, summary: Summary<Sum, Extent>) -> Reply {
+    let (sum, extent) = (summary.a.value(), summary.b.bounds());
+    Reply::Stands(level, place, summary.count, sum, extent)
+}
+
 /// What is told of a list of keys.
 pub fn told_keys(list: &[u32]) -> Reply {
     if list.len() > 2 {
@@ -223,7 +246,17 @@ pub fn told_pairs(list: &[(u32, u32)]) -> Reply {
     Reply::Listed(first, list.get(1).copied(), list.get(2).copied())
 }
 
-/// What an act comes to that asks one query, by an expression that asks it.
+/// What is told of a change, and of a page of changes.
+fn differs(change: &Difference) -> Differs {
+    (change.key, change.before, change.after)
+}
+
+pub fn told_changes(page: &[Difference]) -> Reply {
+    let (first, second) = (page.first().map(differs), page.get(1).map(differs));
+    Reply::Changed(page.len(), first, second, page.last().map(differs))
+}
+
+/// What an act comes to that asks one query, by an expression that asks it. A list is requested again if memory was refused.
 #[macro_export]
 macro_rules! asked {
     ($act:expr, $alloc:expr, $query:ident => $answer:expr) => {
@@ -262,17 +295,21 @@ macro_rules! asked {
             }
             Act::Keys => {
                 let $query = Keys($alloc);
-                match $answer {
-                    Ok(list) => told_keys(&list),
-                    Err(_) => Reply::Not,
+                let mut listed = $answer;
+                if listed.is_err() {
+                    let $query = Keys($alloc);
+                    listed = $answer;
                 }
+                listed.map_or(Reply::NoMemory, |list| told_keys(&list))
             }
             Act::Pairs => {
                 let $query = Pairs($alloc);
-                match $answer {
-                    Ok(list) => told_pairs(&list),
-                    Err(_) => Reply::Not,
+                let mut listed = $answer;
+                if listed.is_err() {
+                    let $query = Pairs($alloc);
+                    listed = $answer;
                 }
+                listed.map_or(Reply::NoMemory, |list| told_pairs(&list))
             }
             _ => Reply::Not,
         }

@@ -1,102 +1,211 @@
-//! Threads that change the same keys at once, and one that looks meanwhile.
-ghost use Rattle.std.specs.Prelude.{◌≡◌, IfOk};
+//! Threads that change the same keys at once, each again and again, and one that looks meanwhile.
+ghost use Rattle.std.specs.Prelude.{◌≡◌, ◌^◌};
 ghost use Rattle.aug_trie.specs.Round.{table_of};
 
-use super::asking::seen_size;
-use super::rounds::{CrewOf, Half, RoundOf, Trie, opened};
-use super::rows::rows_over;
-use super::working::Deed::{Add, AddAndSub, InsertAndRemove, Watch};
-use super::working::{Deed, Task, Worked, back, done, next_half, work};
+use super::asking::{adds_up, seen_size};
+use super::playing::changed;
+use super::rounds::{CrewOf, Half, OfRound, RoundOf, Stage, Trie, Walker, next_pass};
+use super::rows::{empty, rows_over};
 use crate::assertions::{equal, holds};
+use aug_testing::Host;
+use aug_trie::BeginError;
 use aug_trie::Outcome::{Accepted, Refused};
-use aug_trie::{BeginError, CrewError};
 use aug_trie_testing::rows::Act::{AddsUp, Now, Range, Weight};
-use aug_trie_testing::rows::Change::{Insert, Remove};
+use aug_trie_testing::rows::Change::{Add, Insert, Put, Remove, Sub};
 use aug_trie_testing::rows::Line::{A, B, End, Round};
 use aug_trie_testing::rows::Reply::{Came, Finds, Folded, Number};
 use aug_trie_testing::rows::Way::Begin;
-use aug_trie_testing::rows::{Line, Reply};
-use std::alloc::Global;
-use std::process::Abort;
+use aug_trie_testing::rows::{Change, Line, Reply};
+use std::marker::{Brand, PhantomData};
 use std::sync::Wait;
-use std::thread;
-use std::thread::Threads;
+use std::thread::{Threads, map_vec};
 
-// Halves of the passes of the next four lanes.
-fn four_halves(crew: &mut CrewOf, round: &RoundOf) -> Result<(Half, Half, Half, Half), CrewError>
-    requires together { table_of crew.old.round ≡ round.now }
-    ensures together { crew.new.round ≡ crew.old.round }
-    ensures rounds { IfOk result (λ t. (t.0.round ≡ crew.old.round) × (t.1.round ≡ crew.old.round) × (t.2.round ≡ crew.old.round) × (t.3.round ≡ crew.old.round)) }
-{
-    let one = next_half(crew, round)?;
-    let two = next_half(crew, round)?;
-    let three = next_half(crew, round)?;
-    let four = next_half(crew, round)?;
-    Ok((one, two, three, four))
+// What a lane does with a key.
+#[derive(Clone, Copy)]
+enum Deed {
+    // It puts the key in.
+    Insert,
+    // It puts the key in, and takes it out again.
+    InsertAndRemove,
+    // It puts the key in with a weight that changes from call to call and from lane to lane.
+    Put,
+    // It adds to the key's weight, each lane an amount of its own, and tries again if another lane came between.
+    Add,
+    // It adds to the key's weight, and takes as much of it again.
+    AddAndSub,
+    // It looks whether each snapshot adds up and has no fewer members than the one before.
+    Watch,
 }
 
-// Four halves at work, and a fifth that does something else, each in a thread of its own.
-fn five<R: Threads + Wait + Sync>(
+// What a lane does: this with each of so many keys, and so often.
+type Task = (u32, u32, Deed);
+
+// What a lane adds. A hundred of each show in the weight's decimals how often each lane added.
+fn amount_of(lane: u32) -> u32 {
+    match lane {
+        0 => 1,
+        1 => 1_000,
+        2 => 100_000,
+        _ => 10_000_000,
+    }
+}
+
+// An update until no other lane comes between.
+fn until_made(pass: &mut Walker<'_>, universe: u32, change: Change)
+    requires { universe ≡ 2 ^ pass.old.round.bits }
+    ensures { pass.new.round ≡ pass.old.round }
+{
+    let mut made = false;
+    for _ in 0..pass.budget() {
+        if !made {
+            made = changed(pass, universe, change) != Came(Refused);
+        }
+    }
+}
+
+// One deed.
+fn do_once(pass: &mut Walker<'_>, universe: u32, deed: Deed, key: u32)
+    requires { universe ≡ 2 ^ pass.old.round.bits }
+    ensures { pass.new.round ≡ pass.old.round }
+{
+    match deed {
+        Deed::Insert => {
+            changed(pass, universe, Insert(key));
+        }
+        Deed::InsertAndRemove => {
+            changed(pass, universe, Insert(key));
+            changed(pass, universe, Remove(key));
+        }
+        Deed::Put => {
+            let weight = pass.budget().wrapping_mul(64_000_003);
+            let weight = weight.wrapping_add(pass.lane());
+            changed(pass, universe, Put(key, weight));
+        }
+        Deed::Add => {
+            let amount = amount_of(pass.lane());
+            until_made(pass, universe, Add(key, amount));
+        }
+        Deed::AddAndSub => {
+            let amount = amount_of(pass.lane());
+            until_made(pass, universe, Add(key, amount));
+            until_made(pass, universe, Sub(key, amount));
+        }
+        Deed::Watch => {}
+    }
+}
+
+// All keys of a task once. If it is to look, how many members there are, if they add up and are no fewer than before.
+fn turn(pass: &mut Walker<'_>, universe: u32, task: Task, members: u32) -> Option<u32>
+    requires { universe ≡ 2 ^ pass.old.round.bits }
+    ensures { pass.new.round ≡ pass.old.round }
+{
+    let (keys, _, deed) = task;
+    if matches!(deed, Deed::Watch) {
+        return adds_up(pass).filter(|count| *count >= members);
+    }
+    for key in 0..keys {
+        do_once(pass, universe, deed, key);
+    }
+    Some(0)
+}
+
+// A lane at work in a thread of its own: what it is to do, and how many members it saw right behind that. It saw none if it once looked and saw what does
+// not add up.
+#[derive(Drop)]
+struct Hand<'r, K: OfRound> {
+    round: &'r RoundOf,
+    half: Half,
+    task: Task,
+    saw: Option<u32>,
+    of: PhantomData<K>,
+    ghost together: { table_of K.round ≡ round.now },
+    ghost of_round: { half.round ≡ K.round },
+}
+
+// Does its task.
+fn work<'r, K: OfRound>(hand: Hand<'r, K>) -> Hand<'r, K> {
+    let Hand {
+        round,
+        half,
+        task,
+        ..
+    } = hand;
+    let universe = half.universe();
+    let mut pass = round.pass(half);
+    let mut saw = Some(0);
+    for _ in 0..task.1 {
+        if let Some(members) = saw {
+            saw = turn(&mut pass, universe, task, members);
+        }
+    }
+    if saw.is_some() {
+        saw = Some(seen_size(&mut pass));
+    }
+    Hand {
+        round,
+        half: pass.into_half(),
+        task,
+        saw,
+        of: PhantomData,
+    }
+}
+
+// What each of the lanes saw, and what the last one sees once all are done.
+type Sights = (Vec<Option<u32>>, u32);
+
+// The lanes of a round at work, with as many tasks.
+fn crowded<K: OfRound + Send, R: Host + Threads + Wait + Sync>(
     rt: &R,
     round: &RoundOf,
-    halves: (Half, Half, Half, Half),
-    fifth: Half,
-    tasks: (Task, Task, Task),
-) -> (((Worked, Worked), (Worked, Worked)), Worked)
-    requires rounds { (table_of halves.0.round ≡ round.now) × (table_of halves.1.round ≡ round.now) × (table_of halves.2.round ≡ round.now) × (table_of halves.3.round ≡ round.now) }
-    requires fifth { table_of fifth.round ≡ round.now }
-    ensures four { (result.0.0.0.0.round ≡ halves.0.round) × (result.0.0.1.0.round ≡ halves.1.round) × (result.0.1.0.0.round ≡ halves.2.round) × (result.0.1.1.0.round ≡ halves.3.round) }
-    ensures fifth { result.1.0.round ≡ fifth.round }
+    crew: CrewOf,
+    tasks: &[Task],
+) -> (CrewOf, Sights)
+    requires together { table_of K.round ≡ round.now }
+    requires of_round { crew.round ≡ K.round }
+    ensures { result.0.round ≡ K.round }
 {
-    let (one, two, three, four) = halves;
-    let (first, second, third) = tasks;
-    thread::join(
-        rt,
-        move ||
-            requires { (table_of one.round ≡ round.now) × (table_of two.round ≡ round.now) × (table_of three.round ≡ round.now) × (table_of four.round ≡ round.now) }
-            ensures { (result.0.0.0.round ≡ one.round) × (result.0.1.0.round ≡ two.round) × (result.1.0.0.round ≡ three.round) × (result.1.1.0.round ≡ four.round) }
-        { work(rt, round, (one, two, three, four), first, second) },
-        move ||
-            requires { table_of fifth.round ≡ round.now }
-            ensures { result.0.round ≡ fifth.round }
-        { done(round, fifth, third) },
-    )
+    let mut crew = crew;
+    let mut hands: Vec<Hand<'_, K>> = Vec::new(rt.alloc());
+    for task in tasks {
+        let half = next_pass(&mut crew, round).expect(rt, "a lane").into_half();
+        let hand = Hand {
+            round,
+            half,
+            task: *task,
+            saw: None,
+            of: PhantomData,
+        };
+        hands.push(hand).expect(rt, "memory");
+    }
+    let hands = map_vec(rt, hands, &|hand| work(hand)).expect(rt, "memory");
+    let (mut seen, mut last) = (Vec::new(rt.alloc()), 0);
+    for hand in hands {
+        seen.push(hand.saw).expect(rt, "memory");
+        let mut pass = round.pass(hand.half);
+        last = seen_size(&mut pass);
+        crew.back(pass);
+    }
+    (crew, (seen, last))
 }
 
-// What the four saw, what the fifth saw, and what it sees once all are done.
-type Sights = ([Option<u32>; 4], Option<u32>, u32);
-
-// Five halves at work in a round.
-fn crowded<R: Threads + Wait + Sync + Abort>(
+// A round of such a crowd: the trie after it.
+fn crowd_of<R: Host + Threads + Wait + Sync>(
     rt: &R,
-    round: &RoundOf,
-    crew: &mut CrewOf,
-    tasks: (Task, Task, Task),
-) -> Sights
-    requires together { table_of crew.old.round ≡ round.now }
-    ensures { crew.new.round ≡ crew.old.round }
-{
-    let halves = four_halves(crew, round).expect(rt, "four lanes");
-    let fifth = next_half(crew, round).expect(rt, "lane 4");
-    let (((one, two), (three, four)), fifth) = five(rt, round, halves, fifth, tasks);
-    let mut pass = round.pass(fifth.0);
-    let last = seen_size(&mut pass);
-    crew.back(pass);
-    let seen = [one.1, two.1, three.1, four.1];
-    back(crew, round, four.0);
-    back(crew, round, three.0);
-    back(crew, round, two.0);
-    back(crew, round, one.0);
-    (seen, fifth.1, last)
+    crowd: &Crowd,
+) -> Result<(Trie, Sights), BeginError> {
+    let (_, bits, updates) = crowd.rounds;
+    let lanes = u32::try_from(crowd.tasks.len()).unwrap_or(0);
+    let Stage { round, crew, .. } = empty(rt, (bits, lanes, updates))?;
+    let (crew, sights) = crowded::<Brand, R>(rt, &round, crew, crowd.tasks);
+    Ok((round.end(crew), sights))
 }
 
-// Rounds of 5 lanes over the empty set: how many, their bits and the updates of a lane; what the first two lanes do, what the next two do, and what the
-// fifth does.
+// Rounds over the empty set: how many, their bits and the updates of a lane; and what each lane does.
 struct Crowd {
     shows: &'static str,
     rounds: (u32, u32, u32),
-    tasks: (Task, Task, Task),
-    // How many members each of the four sees as soon as its own updates have returned, if that is known.
+    tasks: &'static [Task],
+    // How many members each of them sees as soon as its own updates have returned, if that is known.
     each_sees: Option<u32>,
     // The least and the most insertions, and the fewest and the most members at the end.
     inserts: (u32, u32),
@@ -105,41 +214,23 @@ struct Crowd {
     then: &'static [Line],
 }
 
-// What a crowd's trie says at rest. Each key that went in and did not go out is a member.
-fn assert_accounts(rt: &impl Abort, ended: &Trie, crowd: &Crowd) {
+// What a crowd's trie says at rest, and what its lanes saw. Each key that went in and did not go out is a member.
+fn assert_accounts(rt: &impl Host, ended: &Trie, sights: &Sights, crowd: &Crowd) {
     let (inserts, members) = (ended.inserts(), ended.size());
     let out = u64::from(ended.removals()) + u64::from(members);
-    let found = (crowd.shows, ended.missing(), out);
-    equal(rt, found, (crowd.shows, 0, u64::from(inserts)));
+    let found = (crowd.shows, ended.missing(), out, sights.1);
+    equal(rt, found, (crowd.shows, 0, u64::from(inserts), members));
     holds(rt, inserts >= crowd.inserts.0 && inserts <= crowd.inserts.1);
     holds(rt, members >= crowd.members.0 && members <= crowd.members.1);
-}
-
-// A round of a crowd, and those after it.
-fn crowd_played<R: Threads + Wait + Sync + Abort>(
-    rt: &R,
-    alloc: Global,
-    crowd: &Crowd,
-) -> Result<(), BeginError> {
-    let (_, bits, updates) = crowd.rounds;
-    let (round, mut crew) = opened(alloc, (bits, 5, updates))?;
-    let (seen, fifth, last) = crowded(rt, &round, &mut crew, crowd.tasks);
-    let ended = round.end(crew);
-    if crowd.each_sees.is_some() {
-        equal(rt, (crowd.shows, seen), (crowd.shows, [crowd.each_sees; 4]));
+    for saw in sights.0.as_slice() {
+        holds(rt, saw.is_some());
+        if crowd.each_sees.is_some() {
+            equal(rt, (crowd.shows, *saw), (crowd.shows, crowd.each_sees));
+        }
     }
-    let found = (crowd.shows, fifth.is_some(), last);
-    equal(rt, found, (crowd.shows, true, ended.size()));
-    assert_accounts(rt, &ended, crowd);
-    rows_over(rt, alloc, Some(ended), crowd.then)?;
-    Ok(())
 }
-
-const IDLE: Task = (0, 0, Deed::Insert);
 
 const PUT_ALL: Task = (4, 125, Deed::Put);
-
-const FILL: Task = (16, 1, Deed::Insert);
 
 // What four lanes added to a key 90 times.
 const ADDED: Reply = Finds(Some(909_090_090));
@@ -149,7 +240,7 @@ const CROWDS: &[Crowd] = &[
     Crowd {
         shows: "one key that two threads put in is accounted for",
         rounds: (1, 1, 200),
-        tasks: ((1, 200, Deed::Put), IDLE, IDLE),
+        tasks: &[(1, 200, Deed::Put); 2],
         each_sees: None,
         inserts: (200, 400),
         members: (1, 1),
@@ -158,7 +249,7 @@ const CROWDS: &[Crowd] = &[
     Crowd {
         shows: "one key that four threads put in and take out is accounted for",
         rounds: (1, 1, 1_000),
-        tasks: ((1, 500, InsertAndRemove), (1, 500, InsertAndRemove), IDLE),
+        tasks: &[(1, 500, Deed::InsertAndRemove); 4],
         each_sees: None,
         inserts: (500, 2_000),
         members: (0, 1),
@@ -167,7 +258,7 @@ const CROWDS: &[Crowd] = &[
     Crowd {
         shows: "each snapshot adds up while four threads put",
         rounds: (1, 2, 500),
-        tasks: (PUT_ALL, PUT_ALL, (0, 20_000, Watch)),
+        tasks: &[PUT_ALL, PUT_ALL, PUT_ALL, PUT_ALL, (0, 20_000, Deed::Watch)],
         each_sees: None,
         inserts: (4, 2_000),
         members: (4, 4),
@@ -177,7 +268,7 @@ const CROWDS: &[Crowd] = &[
     Crowd {
         shows: "each unit that four threads add at ten keys is there, and none twice",
         rounds: (2, 4, 3_600),
-        tasks: ((10, 90, Add), (10, 90, Add), IDLE),
+        tasks: &[(10, 90, Deed::Add); 4],
         each_sees: Some(10),
         inserts: (3_600, 3_600),
         members: (10, 10),
@@ -199,7 +290,7 @@ const CROWDS: &[Crowd] = &[
     Crowd {
         shows: "four threads that take what they added at ten keys leave none of it",
         rounds: (2, 4, 7_200),
-        tasks: ((10, 90, AddAndSub), (10, 90, AddAndSub), IDLE),
+        tasks: &[(10, 90, Deed::AddAndSub); 4],
         each_sees: None,
         inserts: (3_600, 7_200),
         members: (0, 0),
@@ -210,7 +301,7 @@ const CROWDS: &[Crowd] = &[
     Crowd {
         shows: "each of four threads holds all keys once its own insertions returned, and the next round goes on",
         rounds: (500, 4, 16),
-        tasks: (FILL, FILL, IDLE),
+        tasks: &[(16, 1, Deed::Insert); 4],
         each_sees: Some(16),
         inserts: (16, 16),
         members: (16, 16),
@@ -227,7 +318,9 @@ const CROWDS: &[Crowd] = &[
 fn what_threads_do_at_once_is_accounted_for(rt: HostRuntime) -> Result<(), BeginError> {
     for crowd in CROWDS {
         for _ in 0..crowd.rounds.0 {
-            crowd_played(&rt, rt.alloc(), crowd)?;
+            let (ended, sights) = crowd_of(&rt, crowd)?;
+            assert_accounts(&rt, &ended, &sights, crowd);
+            rows_over(&rt, Some(ended), crowd.then)?;
         }
     }
     Ok(())

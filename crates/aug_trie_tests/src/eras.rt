@@ -4,6 +4,7 @@ ghost use Rattle.std.specs.Prelude.{◌≡◌, ◌≢◌, ◌+◌, ◌≤◌, []
 ghost use Rattle.aug_trie.specs.Round.{table_of};
 
 use aug_monoid::{Extent, Sum};
+use aug_query::descent::Size;
 use aug_trie::{Crew, Note, PassHalf, Round};
 
 /// Takes the half of the one pass that is out back, and renews the round. A note of it is of no round that comes after.
@@ -52,4 +53,22 @@ pub fn kept_over(
     let (crew, _, _) = round.renew(crew, list);
     drop(half);
     crew
+}
+
+/// Takes the half of the one pass that is out back, and closes the account of the round, whose table goes on: how many keys the round put in and took out,
+/// and how many there are then.
+pub fn closed_over(
+    round: &Round<Sum, Extent>,
+    crew: &mut Crew<Sum, Extent>,
+    half: PassHalf<Sum, Extent>,
+) -> (u32, u32, u32)
+    requires together { table_of crew.old.round ≡ round.now }
+    requires half { half.round ≡ crew.old.round }
+    requires one_out { crew.old.back + 1 ≡ crew.old.handed }
+{
+    let pass = round.pass(half);
+    crew.back(pass);
+    let (inserts, removals) = crew.over(round);
+    let size = crew.ask(round, Size);
+    (inserts, removals, size)
 }

@@ -1,53 +1,50 @@
 //! Calls that take memory while there is enough: none is refused for want of it, whatever its numbers and its set are.
-ghost use Rattle.std.specs.Prelude.{◌≡◌, ◌^◌, ◌≤◌};
-ghost use Rattle.aug_trie.specs.Round.{table_of};
-
-use super::playing::changed;
-use super::rounds::{CrewOf, RoundOf, Trie, begun, next_pass, opened};
-use crate::assertions::{equal, holds};
+use super::rounds::Trie;
+use super::rows::rows_over;
+use crate::assertions::equal;
 use aug_core::Layout;
+use aug_testing::Host;
 use aug_trie::{BeginError, Ended};
-use aug_trie_testing::rows::Change::Put;
-use aug_trie_testing::rows::{Numbers, Way};
+use aug_trie_testing::rows::Act::{Bits, Fill};
+use aug_trie_testing::rows::Line::{A, End, Rest, Round};
+use aug_trie_testing::rows::Reply::Number;
+use aug_trie_testing::rows::{Line, Numbers, Way};
 use aug_trie_testing::sweeps::{EACH, Sweep, UPDATES, sizes};
-use std::alloc::Global;
-use std::process::Abort;
 
-// A round in which nothing happens: the trie after it.
-fn goes_on(alloc: Global, ended: Trie, way: Way, numbers: Numbers) -> Result<Trie, BeginError> {
-    let (round, crew) = begun(alloc, ended, way, numbers)?;
-    Ok(round.end(crew))
+// These lines over a trie: the trie after them.
+fn goes_on(rt: &impl Host, ended: Trie, lines: &[Line]) -> Result<Trie, BeginError> {
+    let ended = rows_over(rt, Some(ended), lines)?;
+    Ok(ended.expect(rt, "a trie"))
 }
 
-// The words of a table over two members, if there is such a table.
-fn words(numbers: Numbers) -> Option<u64> {
+// Whether a table over two members has at most so many words, if there is such a table.
+fn is_within(numbers: Numbers, most: u64) -> bool {
     let (bits, workers, updates) = numbers;
     match Layout::new(bits, workers, updates, 2) {
-        Ok(layout) => Some(layout.words()),
-        Err(_) => None,
+        Ok(layout) => layout.words() <= most,
+        Err(_) => false,
     }
 }
 
 // Rounds of one number of updates, behind so many others: the trie after them, and how many there were. The three calls take turns.
 fn swept(
-    alloc: Global,
+    rt: &impl Host,
     ended: Trie,
     it: &Sweep,
     bits: u32,
     updates: u32,
     before: u32,
 ) -> Result<(Trie, u32), BeginError> {
-    let mut ended = ended;
-    let mut rounds = before;
+    let (mut ended, mut rounds) = (ended, before);
     for workers in it.1 {
         let numbers = (bits, *workers, updates);
-        if words(numbers).is_some_and(|words| words <= it.3) {
+        if is_within(numbers, it.3) {
             let way = match rounds.saturating_add(bits) % 3 {
                 0 => Way::Begin,
                 1 => Way::Wider,
                 _ => Way::OverList,
             };
-            ended = goes_on(alloc, ended, way, numbers)?;
+            ended = goes_on(rt, ended, &[Round(way, numbers, 0)])?;
             rounds = rounds.saturating_add(1);
         }
     }
@@ -55,23 +52,22 @@ fn swept(
 }
 
 // How many rounds of a row begin with one number of bits.
-fn rounds(rt: &impl Abort, alloc: Global, it: &Sweep, bits: u32) -> Result<u32, BeginError> {
-    holds(rt, bits <= 16);
-    let mut ended = grown(rt, alloc, Ended::empty(alloc, bits)?, bits, 2)?;
+fn rounds(rt: &impl Host, it: &Sweep, bits: u32) -> Result<u32, BeginError> {
+    let mut ended = grown(rt, Ended::empty(rt.alloc(), bits)?, bits, 2)?;
     let mut rounds = 0u32;
     for updates in it.2 {
-        let (next, more) = swept(alloc, ended, it, bits, *updates, rounds)?;
-        ended = next;
-        rounds = more;
+        (ended, rounds) = swept(rt, ended, it, bits, *updates, rounds)?;
     }
     equal(rt, (ended.bits(), ended.size()), (bits, 2));
     Ok(rounds)
 }
 
-// Compares how many rounds of a row begin.
-fn assert_begin(rt: &impl Abort, alloc: Global, it: &Sweep) -> Result<(), BeginError> {
-    for bits in it.0.0..=it.0.1 {
-        equal(rt, (bits, rounds(rt, alloc, it, bits)?), (bits, it.4));
+// Compares how many rounds begin.
+fn assert_begin(rt: &impl Host, table: &[Sweep]) -> Result<(), BeginError> {
+    for it in table {
+        for bits in it.0.0..=it.0.1 {
+            equal(rt, (bits, rounds(rt, it, bits)?), (bits, it.4));
+        }
     }
     Ok(())
 }
@@ -97,10 +93,7 @@ const SMALL: &[Sweep] = &[
 
 #[test]
 fn no_round_is_refused_for_its_workers(rt: HostRuntime) -> Result<(), BeginError> {
-    for it in SMALL {
-        assert_begin(&rt, rt.alloc(), it)?;
-    }
-    Ok(())
+    assert_begin(&rt, SMALL)
 }
 
 // Each number of updates.
@@ -117,117 +110,55 @@ const GREAT: &[Sweep] = &[
 
 #[test]
 fn no_round_is_refused_for_its_updates(rt: HostRuntime) -> Result<(), BeginError> {
-    for it in GREAT {
-        assert_begin(&rt, rt.alloc(), it)?;
-    }
-    Ok(())
-}
-
-// Puts the keys from the first up to the second in, as long as updates are left.
-fn fill(round: &RoundOf, crew: &mut CrewOf, universe: u32, keys: (u32, u32), less: u32)
-    requires together { table_of crew.old.round ≡ round.now }
-    requires universe { universe ≡ 2 ^ crew.old.round.bits }
-    ensures { crew.new.round ≡ crew.old.round }
-{
-    if let Ok(mut pass) = next_pass(crew, round) {
-        let mut weight = u32::MAX;
-        for key in keys.0..keys.1 {
-            changed(&mut pass, universe, Put(key, weight));
-            weight = weight.wrapping_sub(less);
-        }
-        crew.back(pass);
-    }
+    assert_begin(&rt, GREAT)
 }
 
 // Rounds of `bits` bits over a trie by each call, in the first of which the keys are put in that it does not have of the `members` least ones.
-fn grown(
-    rt: &impl Abort,
-    alloc: Global,
-    ended: Trie,
-    bits: u32,
-    members: u32,
-) -> Result<Trie, BeginError>
-    requires { bits ≤ 16 }
-{
+fn grown(rt: &impl Host, ended: Trie, bits: u32, members: u32) -> Result<Trie, BeginError> {
     let from = ended.size();
-    let updates = members.saturating_sub(from).max(1);
-    let (round, mut crew) = begun(alloc, ended, Way::Wider, (bits, 1, updates))?;
-    fill(&round, &mut crew, 1 << bits, (from, members), 1);
-    let ended = goes_on(alloc, round.end(crew), Way::Begin, (bits, 1, 1))?;
-    let ended = goes_on(alloc, ended, Way::OverList, (bits, 1, 1))?;
-    equal(rt, (ended.bits(), ended.size()), (bits, members));
-    Ok(ended)
+    let more = members.saturating_sub(from);
+    let lines = [
+        Round(Way::Wider, (bits, 1, more.max(1)), 1),
+        A(Fill(from, more), Number(more)),
+        Round(Way::Begin, (bits, 1, 1), 0),
+        Round(Way::OverList, (bits, 1, 1), 0),
+        Rest(Bits, Number(bits)),
+        End(members, (0, 0, 0)),
+    ];
+    goes_on(rt, ended, &lines)
 }
 
-// Rounds of a trie that has half of the keys of `bits` bits or fewer: the trie with all of them.
-fn filled(rt: &impl Abort, alloc: Global, ended: Trie, bits: u32) -> Result<Trie, BeginError>
-    requires { bits ≤ 16 }
-{
-    let mut ended = ended;
-    for members in sizes(bits) {
-        if ended.size() <= members {
-            ended = grown(rt, alloc, ended, bits, members)?;
-        }
-    }
-    Ok(ended)
-}
-
-// Rounds over sets of each size up to 300.
-#[test]
-fn no_round_is_refused_for_few_members(rt: HostRuntime) -> Result<(), BeginError> {
-    let mut ended: Trie = Ended::empty(rt.alloc(), 9)?;
-    for members in 0..=300 {
-        ended = grown(&rt, rt.alloc(), ended, 9, members)?;
-    }
-    Ok(())
-}
-
+// Rounds over sets of each size up to 300, and of each number of bits over sets up to that of all keys.
 #[test]
 fn no_round_is_refused_for_its_members(rt: HostRuntime) -> Result<(), BeginError> {
+    let mut ended: Trie = Ended::empty(rt.alloc(), 9)?;
+    for members in 0..=300 {
+        ended = grown(&rt, ended, 9, members)?;
+    }
     let mut ended: Trie = Ended::empty(rt.alloc(), 1)?;
     for bits in 1..=16 {
-        ended = filled(&rt, rt.alloc(), ended, bits)?;
+        for members in sizes(bits) {
+            if ended.size() <= members {
+                ended = grown(&rt, ended, bits, members)?;
+            }
+        }
     }
     equal(&rt, ended.size(), 65_536);
     Ok(())
 }
 
-// A trie of `bits` bits with so many members goes on to a round of `more` bits by a call.
-fn widens(
-    rt: &impl Abort,
-    alloc: Global,
-    members: u32,
-    bits: u32,
-    numbers: Numbers,
-    way: Way,
-) -> Result<(), BeginError>
-    requires { bits ≤ 16 }
-{
-    let (round, mut crew) = opened(alloc, (bits, 1, 128))?;
-    fill(&round, &mut crew, 1 << bits, (0, members), 1);
-    let ended = goes_on(alloc, round.end(crew), way, numbers)?;
-    equal(rt, (ended.bits(), ended.size()), (numbers.0, members));
-    Ok(())
-}
-
-// It goes on to rounds of each number of bits by both calls.
-fn widens_to_each(rt: &impl Abort, alloc: Global, members: u32, bits: u32) -> Result<(), BeginError>
-    requires { bits ≤ 16 }
-{
+// A trie of `bits` bits with so many members goes on to rounds of each number of bits by both calls.
+fn widens(rt: &impl Host, members: u32, bits: u32) -> Result<(), BeginError> {
     for more in bits..=16 {
-        widens(rt, alloc, members, bits, (more, 1, 1), Way::Wider)?;
-        widens(rt, alloc, members, bits, (more, 2, 1), Way::OverList)?;
-    }
-    Ok(())
-}
-
-// Tries of `bits` bits with few members, or up to all, do.
-fn widen(rt: &impl Abort, alloc: Global, bits: u32) -> Result<(), BeginError>
-    requires { bits ≤ 16 }
-{
-    for members in sizes(bits) {
-        if members <= 128 {
-            widens_to_each(rt, alloc, members, bits)?;
+        for (workers, way) in [(1, Way::Wider), (2, Way::OverList)] {
+            let lines = [
+                Round(Way::Begin, (bits, 1, 128), 1),
+                A(Fill(0, members), Number(members)),
+                Round(way, (more, workers, 1), 0),
+                Rest(Bits, Number(more)),
+                End(members, (0, 0, 0)),
+            ];
+            rows_over(rt, None, &lines)?;
         }
     }
     Ok(())
@@ -236,7 +167,11 @@ fn widen(rt: &impl Abort, alloc: Global, bits: u32) -> Result<(), BeginError>
 #[test]
 fn no_round_is_refused_for_its_bits(rt: HostRuntime) -> Result<(), BeginError> {
     for bits in 1..=16 {
-        widen(&rt, rt.alloc(), bits)?;
+        for members in sizes(bits) {
+            if members <= 128 {
+                widens(&rt, members, bits)?;
+            }
+        }
     }
     Ok(())
 }

@@ -6,20 +6,10 @@ mod asking;
 #[cfg(test)]
 mod assertions;
 #[cfg(test)]
-mod batching;
-#[cfg(test)]
-mod comparing;
-#[cfg(test)]
 mod crowds;
-#[cfg(test)]
-mod ending;
 pub mod eras;
 #[cfg(test)]
 mod granting;
-#[cfg(test)]
-mod listing;
-#[cfg(test)]
-mod looking;
 #[cfg(test)]
 mod playing;
 #[cfg(test)]
@@ -40,5 +30,3 @@ mod telling;
 mod turning;
 #[cfg(test)]
 mod updates;
-#[cfg(test)]
-mod working;

@@ -1,58 +1,21 @@
 //! Rounds as scripts: what the lanes of a round do, one step after the other, and what each step comes to. The heavy contracts of passes are
 //! met here once, so that the proof of a test is that of its data.
-ghost use Rattle.std.specs.Prelude.{◌≡◌, ◌^◌, IfSome};
+ghost use Rattle.std.specs.Prelude.{◌≡◌, ◌^◌, ◌<◌, IfOk, IfErr, IfSome};
 ghost use Rattle.aug_trie.specs.Round.{table_of};
 
 use super::asking::{look_closer, seen_weight};
-use super::rounds::{Climber, CrewOf, RoundOf, Walker, next_pass};
+use super::rounds::{Climber, CrewOf, News, OfRound, RoundOf, Stage, Trie, Walker, next_pass};
 use super::turning::{last, to_the_end, turns};
 use crate::assertions::equal;
 use aug_monoid::{Extent, Sum};
+use aug_query::descent::Has;
 use aug_query::rank;
-use aug_trie::Pass;
+use aug_testing::Host;
+use aug_trie::{BeginError, Note, Pass};
 use aug_trie_testing::rows::{Act, Change, Line, Reply, key_of, made, request_of, tells};
 use std::alloc::Global;
-use std::process::Abort;
-
-// A lane of a round: its pass, or the update that its pass makes by turns. It has neither if no pass is out.
-#[derive(Drop)]
-struct Lane<'r> {
-    pass: Option<Walker<'r>>,
-    climb: Option<Climber<'r>>,
-}
-
-// A lane whose pass is not out.
-fn out<'r>() -> Lane<'r>
-    ensures pass { result.pass ≡ None }
-    ensures climb { result.climb ≡ None }
-{
-    Lane {
-        pass: None,
-        climb: None,
-    }
-}
-
-// The lane of a pass.
-fn walking<'r>(pass: Walker<'r>) -> Lane<'r>
-    ensures pass { result.pass ≡ Some pass.entry }
-    ensures climb { result.climb ≡ None }
-{
-    Lane {
-        pass: Some(pass),
-        climb: None,
-    }
-}
-
-// The lane of an update by turns.
-fn climbing<'r>(climb: Climber<'r>) -> Lane<'r>
-    ensures pass { result.pass ≡ None }
-    ensures climb { result.climb ≡ Some climb.entry }
-{
-    Lane {
-        pass: None,
-        climb: Some(climb),
-    }
-}
+use std::marker::{Brand, PhantomData};
+use std::mem::replace;
 
 // Makes an update, if one is left.
 pub(super) fn changed(pass: &mut Pass<Sum, Extent>, universe: u32, change: Change) -> Reply
@@ -97,75 +60,17 @@ fn told(pass: &mut Walker, universe: u32, change: Change) -> Reply
     }
 }
 
-// Begins an update by turns, if one is left.
-fn start<'r>(pass: Walker<'r>, universe: u32, change: Change) -> (Lane<'r>, Reply)
-    requires universe { universe ≡ 2 ^ pass.round.bits }
-    ensures pass { IfSome result.0.pass (λ p. p.round ≡ pass.entry.round) }
-    ensures climb { IfSome result.0.climb (λ c. c.start.round ≡ pass.entry.round) }
+// Puts keys in with great weights, as long as updates are left: how many.
+fn filled(pass: &mut Pass<Sum, Extent>, universe: u32, from: u32, count: u32) -> Reply
+    requires { universe ≡ 2 ^ pass.old.round.bits }
+    ensures { pass.new.round ≡ pass.old.round }
 {
-    if pass.budget() == 0 {
-        return (walking(pass), Reply::Not);
+    let mut made = 0u32;
+    for k in from..from.saturating_add(count) {
+        let reply = changed(pass, universe, Change::Put(k, u32::MAX - k));
+        made = made.saturating_add(u32::from(matches!(reply, Reply::Came(_))));
     }
-    match change {
-        Change::Insert(k) if k < universe => (climbing(pass.start_insert(k)), Reply::Done),
-        Change::Remove(k) if k < universe => (climbing(pass.start_remove(k)), Reply::Done),
-        Change::Put(k, weight) if k < universe => {
-            (climbing(pass.start_put(k, weight)), Reply::Done)
-        }
-        Change::Add(k, amount) if k < universe => {
-            (climbing(pass.start_add(k, amount)), Reply::Done)
-        }
-        Change::Sub(k, amount) if k < universe => {
-            (climbing(pass.start_sub(k, amount)), Reply::Done)
-        }
-        Change::Take(k, weight) if k < universe => {
-            (climbing(pass.start_take(k, weight)), Reply::Done)
-        }
-        _ => (walking(pass), Reply::Not),
-    }
-}
-
-// The lane of an update by turns, and what these come to.
-fn goes_on<'r>(climb: Climber<'r>, count: u32) -> (Lane<'r>, Reply)
-    ensures pass { IfSome result.0.pass (λ p. p.round ≡ climb.entry.start.round) }
-    ensures climb { IfSome result.0.climb (λ c. c.start.round ≡ climb.entry.start.round) }
-{
-    match turns(climb, count) {
-        Some(climb) => (climbing(climb), Reply::Done),
-        None => (out(), Reply::Not),
-    }
-}
-
-// An update is begun by turns, and so many of these are made.
-fn begun<'r>(pass: Walker<'r>, universe: u32, change: Change, count: u32) -> (Lane<'r>, Reply)
-    requires universe { universe ≡ 2 ^ pass.round.bits }
-    ensures pass { IfSome result.0.pass (λ p. p.round ≡ pass.entry.round) }
-    ensures climb { IfSome result.0.climb (λ c. c.start.round ≡ pass.entry.round) }
-{
-    let (lane, reply) = start(pass, universe, change);
-    let Lane { pass, climb } = lane;
-    match climb {
-        Some(climb) => goes_on(climb, count),
-        None => (Lane { pass, climb: None }, reply),
-    }
-}
-
-// An update is made by turns.
-fn by_turns<'r>(pass: Walker<'r>, universe: u32, change: Change) -> (Lane<'r>, Reply)
-    requires universe { universe ≡ 2 ^ pass.round.bits }
-    ensures pass { IfSome result.0.pass (λ p. p.round ≡ pass.entry.round) }
-    ensures climb { IfSome result.0.climb (λ c. c.start.round ≡ pass.entry.round) }
-{
-    let (lane, reply) = start(pass, universe, change);
-    let Lane { pass, climb } = lane;
-    let Some(climb) = climb else {
-        return (Lane { pass, climb: None }, reply);
-    };
-    let left = climb.turns_left();
-    match to_the_end(climb) {
-        Some((pass, outcome, made)) => (walking(pass), Reply::Ended(left, outcome, made)),
-        None => (out(), Reply::Not),
-    }
+    Reply::Number(made)
 }
 
 // What a pass does that stays with its lane.
@@ -177,220 +82,320 @@ fn walk(pass: &mut Pass<Sum, Extent>, alloc: Global, universe: u32, act: Act) ->
         Act::Now(change) => changed(pass, universe, change),
         Act::See(change) => seen(pass, universe, change),
         Act::Tell(change) => told(pass, universe, change),
+        Act::Fill(from, count) => filled(pass, universe, from, count),
         Act::Lane => Reply::Number(pass.lane()),
         Act::Counts => Reply::Counted(pass.inserts(), pass.removals(), pass.budget()),
         _ => look_closer(pass, alloc, universe, act),
     }
 }
 
-// What a lane does whose pass makes whole updates.
-fn walked<'r>(
-    round: &'r RoundOf,
-    crew: &mut CrewOf,
-    pass: Walker<'r>,
-    alloc: Global,
-    universe: u32,
-    act: Act,
-) -> (Lane<'r>, Reply)
-    requires together { table_of crew.old.round ≡ round.now }
-    requires universe { universe ≡ 2 ^ crew.old.round.bits }
-    requires lane { pass.round ≡ crew.old.round }
-    ensures together { crew.new.round ≡ crew.old.round }
-    ensures pass { IfSome result.0.pass (λ pass. pass.round ≡ crew.old.round) }
-    ensures climb { IfSome result.0.climb (λ climb. climb.start.round ≡ crew.old.round) }
+// Begins an update by turns, if one is left.
+fn start<'r>(pass: Walker<'r>, universe: u32, change: Change) -> Result<Climber<'r>, Walker<'r>>
+    requires universe { universe ≡ 2 ^ pass.round.bits }
+    ensures climb { IfOk result (λ c. c.start.round ≡ pass.entry.round) }
+    ensures pass { IfErr result (λ p. p.round ≡ pass.entry.round) }
 {
-    match act {
-        Act::Back => {
-            crew.back(pass);
-            (out(), Reply::Done)
-        }
-        Act::GiveUp => (out(), Reply::Done),
-        Act::RankByView(key) => {
-            let mut pass = pass;
-            let snapshot = pass.snapshot();
-            let found = rank(&mut pass.view(snapshot), key);
-            (out(), Reply::Number(found))
-        }
-        Act::Halve => {
-            let half = pass.into_half();
-            (walking(round.pass(half)), Reply::Done)
-        }
-        Act::Start(change, count) => begun(pass, universe, change, count),
-        Act::ByTurns(change) => by_turns(pass, universe, change),
-        _ => {
-            let mut pass = pass;
-            let reply = walk(&mut pass, alloc, universe, act);
-            (walking(pass), reply)
-        }
+    if pass.budget() == 0 {
+        return Err(pass);
+    }
+    match change {
+        Change::Insert(k) if k < universe => Ok(pass.start_insert(k)),
+        Change::Remove(k) if k < universe => Ok(pass.start_remove(k)),
+        Change::Put(k, weight) if k < universe => Ok(pass.start_put(k, weight)),
+        Change::Add(k, amount) if k < universe => Ok(pass.start_add(k, amount)),
+        Change::Sub(k, amount) if k < universe => Ok(pass.start_sub(k, amount)),
+        Change::Take(k, weight) if k < universe => Ok(pass.start_take(k, weight)),
+        _ => Err(pass),
+    }
+}
+
+// A pass of the round, and an update that such a pass makes by turns.
+#[derive(Drop)]
+struct PassOf<'r, K: OfRound> {
+    pass: Walker<'r>,
+    of: PhantomData<K>,
+    ghost of_round: { pass.round ≡ K.round },
+}
+
+#[derive(Drop)]
+struct ClimbOf<'r, K: OfRound> {
+    climb: Climber<'r>,
+    of: PhantomData<K>,
+    ghost of_round: { climb.start.round ≡ K.round },
+}
+
+// What a lane of the round has out.
+#[derive(Drop)]
+enum Lane<'r, K: OfRound> {
+    Out,
+    Walks(PassOf<'r, K>),
+    Climbs(ClimbOf<'r, K>),
+}
+
+// The lane of a pass.
+fn walks<'r, K: OfRound>(pass: Walker<'r>) -> Lane<'r, K>
+    requires { pass.round ≡ K.round }
+{
+    Lane::Walks(PassOf {
+        pass,
+        of: PhantomData,
+    })
+}
+
+// The lane of an update by turns once so many of these are made, and what they come to.
+fn goes_on<'r, K: OfRound>(climb: Climber<'r>, count: u32) -> (Lane<'r, K>, Reply)
+    requires { climb.start.round ≡ K.round }
+{
+    match turns(climb, count) {
+        Some(climb) => (
+            Lane::Climbs(ClimbOf {
+                climb,
+                of: PhantomData,
+            }),
+            Reply::Done,
+        ),
+        None => (Lane::Out, Reply::Not),
+    }
+}
+
+// The lane of an update by turns once it is made, and what all of its turns come to.
+fn ends<'r, K: OfRound>(climb: Climber<'r>) -> (Lane<'r, K>, Reply)
+    requires { climb.start.round ≡ K.round }
+{
+    let left = climb.turns_left();
+    match to_the_end(climb) {
+        Some((pass, outcome, made)) => (walks(pass), Reply::Ended(left, outcome, made)),
+        None => (Lane::Out, Reply::Not),
     }
 }
 
 // What a lane does whose pass makes an update by turns.
-fn climbed<'r>(climb: Climber<'r>, act: Act) -> (Lane<'r>, Reply)
-    ensures pass { IfSome result.0.pass (λ p. p.round ≡ climb.entry.start.round) }
-    ensures climb { IfSome result.0.climb (λ c. c.start.round ≡ climb.entry.start.round) }
+fn climbed<'r, K: OfRound>(climb: Climber<'r>, act: Act) -> (Lane<'r, K>, Reply)
+    requires { climb.start.round ≡ K.round }
 {
     match act {
         Act::TurnsLeft => {
             let left = climb.turns_left();
-            (climbing(climb), Reply::Number(left))
+            (goes_on(climb, 0).0, Reply::Number(left))
         }
         Act::Turns(count) => goes_on(climb, count),
         Act::Last(count) => match last(climb, count) {
-            Some((pass, outcome)) => (walking(pass), Reply::Came(outcome)),
-            None => (out(), Reply::Not),
+            Some((pass, outcome)) => (walks(pass), Reply::Came(outcome)),
+            None => (Lane::Out, Reply::Not),
         },
         Act::Finish => match to_the_end(climb) {
-            Some((pass, outcome, _)) => (walking(pass), Reply::Came(outcome)),
-            None => (out(), Reply::Not),
+            Some((pass, outcome, _)) => (walks(pass), Reply::Came(outcome)),
+            None => (Lane::Out, Reply::Not),
         },
-        Act::GiveUp => (out(), Reply::Done),
-        _ => (climbing(climb), Reply::Not),
+        Act::GiveUp => (Lane::Out, Reply::Done),
+        _ => (goes_on(climb, 0).0, Reply::Not),
     }
 }
 
-// A lane that is opened, if it is one that is.
-fn opened<'r>(round: &'r RoundOf, crew: &mut CrewOf, opens: bool) -> (Lane<'r>, Reply)
-    requires together { table_of crew.old.round ≡ round.now }
-    ensures together { crew.new.round ≡ crew.old.round }
-    ensures pass { IfSome result.0.pass (λ pass. pass.round ≡ crew.old.round) }
-    ensures climb { IfSome result.0.climb (λ climb. climb.start.round ≡ crew.old.round) }
-{
-    if !opens {
-        return (out(), Reply::Not);
-    }
-    match next_pass(crew, round) {
-        Ok(pass) => (walking(pass), Reply::Done),
-        Err(_) => (out(), Reply::Not),
-    }
-}
-
-// The pass of a lane comes back, if it makes no update by turns.
-fn back(crew: &mut CrewOf, lane: Lane<'_>)
-    requires { IfSome lane.pass (λ pass. pass.round ≡ crew.old.round) }
-    ensures { crew.new.round ≡ crew.old.round }
-{
-    let Lane { pass, climb } = lane;
-    drop(climb);
-    if let Some(pass) = pass {
-        crew.back(pass);
-    }
-}
-
-// What a lane does.
-fn done<'r>(
-    round: &'r RoundOf,
-    crew: &mut CrewOf,
-    lane: Lane<'r>,
-    alloc: Global,
-    universe: u32,
-    act: Act,
-) -> (Lane<'r>, Reply)
-    requires together { table_of crew.old.round ≡ round.now }
-    requires universe { universe ≡ 2 ^ crew.old.round.bits }
-    requires pass { IfSome lane.pass (λ pass. pass.round ≡ crew.old.round) }
-    requires climb { IfSome lane.climb (λ climb. climb.start.round ≡ crew.old.round) }
-    ensures together { crew.new.round ≡ crew.old.round }
-    ensures pass { IfSome result.0.pass (λ pass. pass.round ≡ crew.old.round) }
-    ensures climb { IfSome result.0.climb (λ climb. climb.start.round ≡ crew.old.round) }
-{
-    let Lane { pass, climb } = lane;
-    if let Some(pass) = pass {
-        return walked(round, crew, pass, alloc, universe, act);
-    }
-    if let Some(climb) = climb {
-        return climbed(climb, act);
-    }
-    match act {
-        Act::Open => opened(round, crew, true),
-        Act::Handed => (out(), Reply::Number(crew.handed())),
-        _ => (out(), Reply::Not),
-    }
-}
-
-// The lanes of a script.
+// What the lanes of a round share: the round, its crew, how many keys there are, and the last note.
 #[derive(Drop)]
-struct Lanes<'r> {
-    a: Lane<'r>,
-    b: Lane<'r>,
-    c: Lane<'r>,
+struct Scene<'r, K: OfRound> {
+    round: &'r RoundOf,
+    crew: CrewOf,
+    universe: u32,
+    news: Option<News<K>>,
+    of: PhantomData<K>,
+    ghost together: { table_of K.round ≡ round.now },
+    ghost of_round: { crew.round ≡ K.round },
+    ghost keys: { universe ≡ 2 ^ K.round.bits },
 }
 
-// What one of three lanes does, and what that comes to and should come to, if the line is a step.
-fn acted<'r>(
-    round: &'r RoundOf,
-    crew: &mut CrewOf,
-    lanes: Lanes<'r>,
-    alloc: Global,
-    universe: u32,
-    line: Line,
-) -> (Lanes<'r>, Option<(Reply, Reply)>)
-    requires together { table_of crew.old.round ≡ round.now }
-    requires universe { universe ≡ 2 ^ crew.old.round.bits }
-    requires pass_a { IfSome lanes.a.pass (λ pass. pass.round ≡ crew.old.round) }
-    requires climb_a { IfSome lanes.a.climb (λ climb. climb.start.round ≡ crew.old.round) }
-    requires pass_b { IfSome lanes.b.pass (λ pass. pass.round ≡ crew.old.round) }
-    requires climb_b { IfSome lanes.b.climb (λ climb. climb.start.round ≡ crew.old.round) }
-    requires pass_c { IfSome lanes.c.pass (λ pass. pass.round ≡ crew.old.round) }
-    requires climb_c { IfSome lanes.c.climb (λ climb. climb.start.round ≡ crew.old.round) }
-    ensures together { crew.new.round ≡ crew.old.round }
-    ensures pass_a { IfSome result.0.a.pass (λ pass. pass.round ≡ crew.old.round) }
-    ensures climb_a { IfSome result.0.a.climb (λ climb. climb.start.round ≡ crew.old.round) }
-    ensures pass_b { IfSome result.0.b.pass (λ pass. pass.round ≡ crew.old.round) }
-    ensures climb_b { IfSome result.0.b.climb (λ climb. climb.start.round ≡ crew.old.round) }
-    ensures pass_c { IfSome result.0.c.pass (λ pass. pass.round ≡ crew.old.round) }
-    ensures climb_c { IfSome result.0.c.climb (λ climb. climb.start.round ≡ crew.old.round) }
-{
-    let Lanes { a, b, c } = lanes;
-    match line {
-        Line::A(act, expected) => {
-            let (a, reply) = done(round, crew, a, alloc, universe, act);
-            (Lanes { a, b, c }, Some((reply, expected)))
+impl<'r, K: OfRound> Scene<'r, K> {
+    // A note takes the place of the last one.
+    fn keep(&mut self, note: Note<Sum, Extent>)
+        requires { note.round ≡ K.round }
+    {
+        self.news = Some(News::new(note));
+    }
+
+    // The last note, made once more.
+    fn heard(&mut self) -> Option<Note<Sum, Extent>>
+        ensures { IfSome result (λ note. note.round ≡ K.round) }
+    {
+        let News { mut note, of: _ } = self.news.take()?;
+        let again = note.again(self.round);
+        self.keep(again);
+        Some(note)
+    }
+
+    // What a lane does whose pass makes whole updates.
+    fn walked(&mut self, pass: Walker<'r>, alloc: Global, act: Act) -> (Lane<'r, K>, Reply)
+        requires { pass.round ≡ K.round }
+    {
+        let mut pass = pass;
+        let reply = match act {
+            Act::Back => {
+                self.crew.back(pass);
+                return (Lane::Out, Reply::Done);
+            }
+            Act::GiveUp => return (Lane::Out, Reply::Done),
+            Act::RankByView(key) => {
+                let snapshot = pass.snapshot();
+                let found = rank(&mut pass.view(snapshot), key);
+                return (Lane::Out, Reply::Number(found));
+            }
+            Act::Halve => {
+                let half = pass.into_half();
+                return (walks(self.round.pass(half)), Reply::Done);
+            }
+            Act::Start(change, count) => match start(pass, self.universe, change) {
+                Ok(climb) => return goes_on(climb, count),
+                Err(pass) => return (walks(pass), Reply::Not),
+            },
+            Act::ByTurns(change) => match start(pass, self.universe, change) {
+                Ok(climb) => return ends(climb),
+                Err(pass) => return (walks(pass), Reply::Not),
+            },
+            Act::Note => {
+                self.keep(pass.note());
+                Reply::Done
+            }
+            Act::Learn(key) => match self.heard() {
+                Some(note) => {
+                    let snapshot = pass.learn(note);
+                    Reply::Is(pass.ask(snapshot, Has(key)))
+                }
+                None => Reply::Not,
+            },
+            _ => walk(&mut pass, alloc, self.universe, act),
+        };
+        (walks(pass), reply)
+    }
+
+    // A lane that is opened, or that there is none.
+    fn opened(&mut self) -> (Lane<'r, K>, Reply) {
+        match next_pass(&mut self.crew, self.round) {
+            Ok(pass) => (walks(pass), Reply::Done),
+            Err(_) => (Lane::Out, Reply::Not),
         }
-        Line::B(act, expected) => {
-            let (b, reply) = done(round, crew, b, alloc, universe, act);
-            (Lanes { a, b, c }, Some((reply, expected)))
+    }
+
+    fn opened_if(&mut self, opens: bool) -> Lane<'r, K> {
+        if opens { self.opened().0 } else { Lane::Out }
+    }
+
+    // What is done in the place of a pass that is not out.
+    fn led(&mut self, act: Act) -> (Lane<'r, K>, Reply) {
+        let reply = match act {
+            Act::Open => return self.opened(),
+            Act::Handed => Reply::Number(self.crew.handed()),
+            Act::Note => {
+                let note = self.crew.note(self.round);
+                self.keep(note);
+                Reply::Done
+            }
+            Act::Learn(_) => match self.heard() {
+                Some(note) => {
+                    self.crew.learn(self.round, note);
+                    Reply::Done
+                }
+                None => Reply::Not,
+            },
+            _ => Reply::Not,
+        };
+        (Lane::Out, reply)
+    }
+
+    // What a lane does.
+    fn done(&mut self, lane: Lane<'r, K>, alloc: Global, act: Act) -> (Lane<'r, K>, Reply) {
+        match lane {
+            Lane::Walks(PassOf { pass, of: _ }) => self.walked(pass, alloc, act),
+            Lane::Climbs(ClimbOf { climb, of: _ }) => climbed(climb, act),
+            Lane::Out => self.led(act),
         }
-        Line::C(act, expected) => {
-            let (c, reply) = done(round, crew, c, alloc, universe, act);
-            (Lanes { a, b, c }, Some((reply, expected)))
+    }
+
+    // The pass of a lane comes back, if it makes no update by turns.
+    fn back(&mut self, lane: Lane<'r, K>) {
+        if let Lane::Walks(PassOf { pass, of: _ }) = lane {
+            self.crew.back(pass);
         }
-        _ => (Lanes { a, b, c }, None),
     }
 }
 
-// The first lines of a script, up to one that is no step, over so many lanes that are open: how many there were. At their end all passes come back.
-pub(super) fn steps(
-    rt: &impl Abort,
+// Which of three lanes acts, what it does, and what that should come to, if the line is a step.
+fn step_of(line: Line) -> Option<(usize, Act, Reply)>
+    ensures { IfSome result (λ step. step.0 < 3) }
+{
+    match line {
+        Line::A(act, expected) => Some((0, act, expected)),
+        Line::B(act, expected) => Some((1, act, expected)),
+        Line::C(act, expected) => Some((2, act, expected)),
+        _ => None,
+    }
+}
+
+// The first lines of a script, up to one that is no step, over so many lanes that are open: how many came to what they should, and what the next one
+// came to and should have come to. At their end all passes come back.
+fn played<K: OfRound>(
     alloc: Global,
     round: &RoundOf,
-    crew: &mut CrewOf,
+    crew: CrewOf,
     universe: u32,
+    open: u32,
+    lines: &[Line],
+) -> (CrewOf, usize, Option<(Reply, Reply)>)
+    requires together { table_of K.round ≡ round.now }
+    requires of_round { crew.round ≡ K.round }
+    requires keys { universe ≡ 2 ^ K.round.bits }
+    ensures { result.0.round ≡ K.round }
+{
+    let mut scene: Scene<'_, K> = Scene {
+        round,
+        crew,
+        universe,
+        news: None,
+        of: PhantomData,
+    };
+    let mut lanes = [
+        scene.opened_if(open > 0),
+        scene.opened_if(open > 1),
+        scene.opened_if(open > 2),
+    ];
+    let (mut count, mut missed) = (0usize, None);
+    for line in lines {
+        let Some((lane, act, expected)) = step_of(*line) else {
+            break;
+        };
+        let now = replace(&mut lanes[lane], Lane::Out);
+        let (next, found) = scene.done(now, alloc, act);
+        lanes[lane] = next;
+        if found != expected {
+            missed = Some((found, expected));
+            break;
+        }
+        count = count.saturating_add(1);
+    }
+    for lane in lanes {
+        scene.back(lane);
+    }
+    (scene.crew, count, missed)
+}
+
+// The same of a round: the trie after it, and how many steps there were, if each came to what it should.
+pub(super) fn steps(
+    rt: &impl Host,
+    stage: Stage,
     open: u32,
     shows: &str,
     lines: &[Line],
-) -> usize
-    requires together { table_of crew.old.round ≡ round.now }
-    requires universe { universe ≡ 2 ^ crew.old.round.bits }
-    ensures { crew.new.round ≡ crew.old.round }
-{
-    let (a, _) = opened(round, crew, open > 0);
-    let (b, _) = opened(round, crew, open > 1);
-    let (c, _) = opened(round, crew, open > 2);
-    let mut lanes = Lanes { a, b, c };
-    let mut count = 0;
-    for (number, line) in lines.iter().enumerate() {
-        let (next, found) = acted(round, crew, lanes, alloc, universe, *line);
-        lanes = next;
-        let Some((reply, expected)) = found else {
-            break;
-        };
-        equal(rt, (shows, number, reply), (shows, number, expected));
-        count = number.saturating_add(1);
+) -> Result<(Trie, usize), BeginError> {
+    let Stage {
+        round,
+        crew,
+        universe,
+    } = stage;
+    let (crew, count, missed) = played::<Brand>(rt.alloc(), &round, crew, universe, open, lines);
+    if let Some((found, expected)) = missed {
+        if found == Reply::NoMemory {
+            return Err(BeginError::OutOfMemory);
+        }
+        equal(rt, (shows, count, found), (shows, count, expected));
     }
-    let Lanes { a, b, c } = lanes;
-    back(crew, a);
-    back(crew, b);
-    back(crew, c);
-    count
+    Ok((round.end(crew), count))
 }

@@ -1,8 +1,9 @@
 //! Updates by single turns: how many there are, schedules in which they meet others, and passes that are given up.
-ghost use Rattle.std.specs.Prelude.{◌≡◌, ◌+◌, IfSome};
+ghost use Rattle.std.specs.Prelude.{◌≡◌, IfSome};
 
 use super::rounds::{Climber, Walker};
-use super::rows::{rows, rows_over};
+use super::rows::rows;
+use aug_testing::Host;
 use aug_trie::Outcome::{Accepted, Refused, Replaced, TooGreat, TooLittle, Unchanged};
 use aug_trie::{BeginError, Outcome, Turn};
 use aug_trie_testing::rows::Act::*;
@@ -11,8 +12,6 @@ use aug_trie_testing::rows::Line::*;
 use aug_trie_testing::rows::Reply::*;
 use aug_trie_testing::rows::Way::*;
 use aug_trie_testing::rows::{Change, Line, made};
-use std::alloc::Global;
-use std::process::Abort;
 
 // Makes `count` turns. None of them is the last.
 pub(super) fn turns<'r>(climb: Climber<'r>, count: u32) -> Option<Climber<'r>>
@@ -40,8 +39,7 @@ pub(super) fn last<'r>(climb: Climber<'r>, count: u32) -> Option<(Walker<'r>, Ou
 
 // All turns: the pass, what the update came to, and how many there were.
 pub(super) fn to_the_end<'r>(climb: Climber<'r>) -> Option<(Walker<'r>, Outcome, u32)>
-    ensures round { IfSome result (λ t. t.0.round ≡ climb.entry.start.round) }
-    ensures spent { IfSome result (λ t. t.0.spent ≡ climb.entry.start.spent + 1) }
+    ensures { IfSome result (λ t. t.0.round ≡ climb.entry.start.round) }
 {
     let most = climb.turns_left();
     let mut climb = climb;
@@ -54,27 +52,48 @@ pub(super) fn to_the_end<'r>(climb: Climber<'r>) -> Option<(Walker<'r>, Outcome,
     None
 }
 
-const BY_TURNS: &[Line] = &[
-    Row("turns of an insertion alone in a round of 1 bits are the least"),
-    Round(Begin, (1, 1, 2), 1),
+// An update that its leaf prevents has no exchange.
+const ALONE: &[Line] = &[
+    Row("turns alone in a round of 1 bit are the least"),
+    Round(Begin, (1, 1, 16), 1),
     A(ByTurns(Insert(0)), Ended(20, Accepted, 11)),
     A(ByTurns(Insert(0)), Ended(20, Refused, 10)),
-    A(Counts, Counted(1, 0, 0)),
     A(Size, Number(1)),
-    Row("turns of an insertion alone in a round of 4 bits are the least"),
-    Round(Begin, (4, 1, 2), 1),
-    A(ByTurns(Insert(0)), Ended(110, Accepted, 56)),
-    A(ByTurns(Insert(0)), Ended(110, Refused, 55)),
-    A(Counts, Counted(1, 0, 0)),
-    A(Size, Number(1)),
+    A(ByTurns(Put(0, 8)), Ended(20, Replaced, 11)),
+    A(Weight(0), Finds(Some(8))),
+    A(ByTurns(Add(0, 5)), Ended(20, Replaced, 11)),
+    A(ByTurns(Add(0, u32::MAX)), Ended(20, TooGreat, 10)),
+    A(ByTurns(Add(0, 0)), Ended(20, Unchanged, 10)),
+    A(ByTurns(Sub(0, 3)), Ended(20, Replaced, 11)),
+    A(ByTurns(Sub(0, 11)), Ended(20, TooLittle, 10)),
+    A(ByTurns(Take(0, 9)), Ended(20, Refused, 10)),
+    A(Weight(0), Finds(Some(10))),
+    A(Counts, Counted(4, 3, 7)),
+    A(ByTurns(Sub(0, 10)), Ended(20, Accepted, 11)),
+    A(ByTurns(Sub(0, 10)), Ended(20, TooLittle, 10)),
+    A(ByTurns(Put(0, 7)), Ended(20, Accepted, 11)),
+    A(ByTurns(Take(0, 7)), Ended(20, Accepted, 11)),
+    A(ByTurns(Add(0, 5)), Ended(20, Accepted, 11)),
+    A(Counts, Counted(6, 5, 2)),
     Row("a removal by turns takes the key out"),
     Round(Begin, (2, 1, 3), 1),
     A(Now(Insert(3)), Came(Accepted)),
     A(ByTurns(Remove(3)), Ended(50, Accepted, 26)),
     A(ByTurns(Remove(3)), Ended(50, Refused, 25)),
     A(Counts, Counted(1, 1, 0)),
-    A(Size, Number(0)),
     End(0, (1, 1, 0)),
+    Row("turns alone in a round of 4 bits are the least"),
+    Round(Begin, (4, 1, 6), 1),
+    A(ByTurns(Insert(0)), Ended(110, Accepted, 56)),
+    A(ByTurns(Insert(0)), Ended(110, Refused, 55)),
+    A(ByTurns(Put(0, 8)), Ended(110, Replaced, 56)),
+    A(ByTurns(Add(9, 7)), Ended(110, Accepted, 56)),
+    A(ByTurns(Sub(9, 8)), Ended(110, TooLittle, 55)),
+    A(Counts, Counted(3, 1, 1)),
+    A(Range(0, 16), Folded(2, 15, Some((0, 9)))),
+];
+
+const MEET: &[Line] = &[
     // Both tries of one pass fail at both levels, and what it put in is shown.
     Row("an update whose tries all fail is shown"),
     Round(Begin, (2, 3, 2), 3),
@@ -124,38 +143,8 @@ const BY_TURNS: &[Line] = &[
     B(Has(1), Is(true)),
     B(Size, Number(2)),
     End(2, (1, 0, 1)),
-];
-
-#[test]
-fn updates_by_turns_come_to_what_they_meet(rt: HostRuntime) -> Result<(), BeginError> {
-    rows(&rt, rt.alloc(), BY_TURNS)
-}
-
-const AMOUNTS: &[Line] = &[
-    // An update that its leaf prevents has no exchange.
-    Row("turns of additions and subtractions alone in a round of 1 bit"),
-    Round(Begin, (1, 1, 8), 1),
-    A(ByTurns(Add(0, 5)), Ended(20, Accepted, 11)),
-    A(ByTurns(Add(0, 5)), Ended(20, Replaced, 11)),
-    A(ByTurns(Add(0, u32::MAX)), Ended(20, TooGreat, 10)),
-    A(ByTurns(Add(0, 0)), Ended(20, Unchanged, 10)),
-    A(Weight(0), Finds(Some(10))),
-    A(ByTurns(Sub(0, 3)), Ended(20, Replaced, 11)),
-    A(ByTurns(Sub(0, 8)), Ended(20, TooLittle, 10)),
-    A(Weight(0), Finds(Some(7))),
-    A(ByTurns(Sub(0, 7)), Ended(20, Accepted, 11)),
-    A(ByTurns(Sub(0, 7)), Ended(20, TooLittle, 10)),
-    A(Counts, Counted(3, 3, 0)),
-    A(Size, Number(0)),
-    Row("turns of an addition alone in a round of 4 bits"),
-    Round(Begin, (4, 1, 2), 1),
-    A(ByTurns(Add(9, 7)), Ended(110, Accepted, 56)),
-    A(ByTurns(Sub(9, 8)), Ended(110, TooLittle, 55)),
-    A(Counts, Counted(1, 0, 0)),
     // The other lane comes between the turn that loads the leaf and the turn that exchanges its word.
-    Row(
-        "an addition that meets another one is refused, and reckons from its weight when it is made again",
-    ),
+    Row("an addition that meets another one is refused, and made again reckons from its weight"),
     Round(Begin, (1, 2, 3), 2),
     A(Now(Add(0, 1)), Came(Accepted)),
     A(Start(Add(0, 10), 1), Done),
@@ -182,28 +171,6 @@ const AMOUNTS: &[Line] = &[
     B(Now(Add(0, 4)), Came(Accepted)),
     A(Finish, Came(TooLittle)),
     A(Weight(0), Finds(Some(4))),
-];
-
-#[test]
-fn amounts_by_turns_come_to_what_they_meet(rt: HostRuntime) -> Result<(), BeginError> {
-    rows(&rt, rt.alloc(), AMOUNTS)
-}
-
-const WEIGHTS: &[Line] = &[
-    Row("turns of a put alone in a round of 1 bits are as many whether it replaces"),
-    Round(Begin, (1, 1, 2), 1),
-    A(ByTurns(Put(0, 7)), Ended(20, Accepted, 11)),
-    A(Counts, Counted(1, 0, 1)),
-    A(ByTurns(Put(0, 8)), Ended(20, Replaced, 11)),
-    A(Counts, Counted(2, 1, 0)),
-    A(Weight(0), Finds(Some(8))),
-    Row("turns of a put alone in a round of 4 bits are as many whether it replaces"),
-    Round(Begin, (4, 1, 2), 1),
-    A(ByTurns(Put(0, 7)), Ended(110, Accepted, 56)),
-    A(Counts, Counted(1, 0, 1)),
-    A(ByTurns(Put(0, 8)), Ended(110, Replaced, 56)),
-    A(Counts, Counted(2, 1, 0)),
-    A(Weight(0), Finds(Some(8))),
     // The replacement comes between the turn that loads the leaf and the turn that exchanges its word.
     Row("a removal that meets a replacement is refused"),
     Round(Begin, (1, 1, 1), 1),
@@ -237,22 +204,14 @@ const WEIGHTS: &[Line] = &[
     A(Finish, Came(Refused)),
     A(Size, Number(0)),
     End(0, (1, 1, 0)),
-    Row("takes by turns, alone and against another lane"),
-    Round(Begin, (1, 2, 8), 2),
-    A(Now(Put(0, 3)), Came(Accepted)),
-    A(ByTurns(Take(0, 3)), Ended(20, Accepted, 11)),
-    A(ByTurns(Take(0, 3)), Ended(20, Refused, 10)),
+    Row("a take that meets a put of the same weight is refused"),
+    Round(Begin, (1, 2, 2), 2),
     A(Now(Put(0, 4)), Came(Accepted)),
     A(Start(Take(0, 4), 1), Done),
     B(Now(Put(0, 4)), Came(Replaced)),
     A(Finish, Came(Refused)),
     A(Weight(0), Finds(Some(4))),
 ];
-
-#[test]
-fn puts_and_takes_by_turns_come_to_what_they_meet(rt: HostRuntime) -> Result<(), BeginError> {
-    rows(&rt, rt.alloc(), WEIGHTS)
-}
 
 // A look shows what others changed since the last one: by itself, and behind an update that changed nothing, which still brings what it found in its
 // leaf to the root.
@@ -280,16 +239,6 @@ const LOOKS: &[Line] = &[
     A(See(Insert(0)), Seen(Refused, Some(0))),
     C(Finish, Came(Accepted)),
     C(Size, Number(1)),
-    Row("a refused removal shows that the key is gone"),
-    Round(Begin, (1, 1, 1), 1),
-    A(Now(Insert(0)), Came(Accepted)),
-    Round(Begin, (1, 3, 1), 2),
-    B(Start(Remove(0), 2), Done),
-    A(Has(0), Is(true)),
-    A(Has(0), Is(true)),
-    A(See(Remove(0)), Seen(Refused, None)),
-    B(Finish, Came(Accepted)),
-    B(Size, Number(0)),
     Row("a refused update by turns shows what it found"),
     Round(Begin, (1, 1, 1), 1),
     A(Now(Insert(0)), Came(Accepted)),
@@ -304,14 +253,6 @@ const LOOKS: &[Line] = &[
     C(Has(0), Is(true)),
     B(Finish, Came(Accepted)),
     B(Has(0), Is(true)),
-    // The leaf is changed between the first turn and the second.
-    Row("an insertion that lost its leaf shows who won"),
-    Round(Begin, (1, 2, 1), 2),
-    A(Start(Insert(0), 1), Done),
-    B(Start(Insert(0), 2), Done),
-    A(Finish, Came(Refused)),
-    A(Has(0), Is(true)),
-    B(Finish, Came(Accepted)),
     Row("a put that lost its leaf shows the weight that won"),
     Round(Begin, (1, 1, 1), 1),
     A(Now(Insert(0)), Came(Accepted)),
@@ -332,69 +273,84 @@ const LOOKS: &[Line] = &[
     B(Weight(0), Finds(Some(9))),
 ];
 
+const TABLES: &[&[Line]] = &[ALONE, MEET, LOOKS];
+
 #[test]
-fn each_look_shows_what_others_changed_since_the_last(rt: HostRuntime) -> Result<(), BeginError> {
-    rows(&rt, rt.alloc(), LOOKS)
-}
-
-// A round of 2 bits that leaves 0, which weighs 0, and one that leaves nothing.
-const ZERO: &[Line] = &[
-    Round(Begin, (2, 1, 1), 1),
-    A(Now(Insert(0)), Came(Accepted)),
-];
-
-const NOTHING: &[Line] = &[Round(Begin, (2, 1, 1), 0)];
-
-// What it shows that a pass makes a change of 0 and is given up after some of its turns, and another pass puts a key in: the change, that key, what 0
-// weighs before the change and after it, and the turn that leaves the change to be shown.
-type GivenUp = (&'static str, (Change, u32, Option<u32>, Option<u32>, u32));
-
-// The rest of the round shows the change or does not, and in the next round 0 goes in if it is not there.
-fn given_up(rt: &impl Abort, alloc: Global, row: &GivenUp, turned: u32) -> Result<(), BeginError> {
-    let (shows, (change, other, before, after, shown_from)) = *row;
-    let weight = if turned < shown_from { before } else { after };
-    let members = if weight.is_some() { 2 } else { 1 };
-    let first = if before.is_some() { ZERO } else { NOTHING };
-    let table = [
-        And(shows),
-        Round(Begin, (2, 2, 1), 2),
-        A(Start(change, turned), Done),
-        A(GiveUp, Done),
-        B(See(Insert(other)), Seen(Accepted, Some(other))),
-        B(Size, Number(members)),
-        B(Weight(0), Finds(weight)),
-        End(members, (1, 0, 1)),
-        Rest(Weight(0), Finds(weight)),
-        Round(Begin, (2, 1, 1), 1),
-        A(Now(Insert(0)), Came(made(weight.is_none()))),
-    ];
-    let ended = rows_over(rt, alloc, None, first)?;
-    rows_over(rt, alloc, ended, &table)?;
+fn updates_by_turns_and_looks_come_to_what_they_meet(rt: HostRuntime) -> Result<(), BeginError> {
+    for table in TABLES {
+        rows(&rt, table)?;
+    }
     Ok(())
 }
 
-// The second turn exchanges the leaf's word. From it on the change is shown if the other pass brings the node over both keys up to date
-// with its children. It is shown from the eleventh on if only the pass that is given up can bring that node up to date.
+// What it shows that a pass makes a change of 0 and is given up after some of its turns, and another pass puts a key in: the change, that key, what 0
+// weighs before the change and after it, and the turn that leaves the change to be shown. The second turn exchanges the leaf's word. From it on the
+// change is shown if the other pass brings the node over both keys up to date with its children. It is shown from the eleventh on if only the pass
+// that is given up can bring that node up to date.
+type GivenUp = (&'static str, Change, u32, Option<u32>, Option<u32>, u32);
+
 const GIVEN_UP: &[GivenUp] = &[
     (
-        "an insertion is given up below a node that its neighbour refreshes",
-        (Insert(0), 1, None, Some(0), 2),
+        "an insertion below a node that its neighbour refreshes",
+        Insert(0),
+        1,
+        None,
+        Some(0),
+        2,
     ),
     (
-        "an insertion is given up below a node that nobody else refreshes",
-        (Insert(0), 2, None, Some(0), 11),
+        "an insertion below a node that nobody else refreshes",
+        Insert(0),
+        2,
+        None,
+        Some(0),
+        11,
     ),
     (
-        "a replacement that is given up leaves one weight or the other",
-        (Put(0, 8), 1, Some(0), Some(8), 2),
+        "a replacement leaves one weight or the other",
+        Put(0, 8),
+        1,
+        Some(0),
+        Some(8),
+        2,
     ),
 ];
+
+// The rest of the round shows the change or does not, and in the next round 0 goes in if it is not there.
+fn given_up(rt: &impl Host, row: &GivenUp, turned: u32) -> Result<(), BeginError> {
+    let (shows, change, other, before, after, shown_from) = *row;
+    let weight = if turned < shown_from { before } else { after };
+    let members = if weight.is_some() { 2 } else { 1 };
+    let first = if before.is_some() {
+        Insert(0)
+    } else {
+        Remove(0)
+    };
+    rows(
+        rt,
+        &[
+            Row(shows),
+            Round(Begin, (2, 1, 1), 1),
+            A(Now(first), Came(made(before.is_some()))),
+            Round(Begin, (2, 2, 1), 2),
+            A(Start(change, turned), Done),
+            A(GiveUp, Done),
+            B(See(Insert(other)), Seen(Accepted, Some(other))),
+            B(Size, Number(members)),
+            B(Weight(0), Finds(weight)),
+            End(members, (1, 0, 1)),
+            Rest(Weight(0), Finds(weight)),
+            Round(Begin, (2, 1, 1), 1),
+            A(Now(Insert(0)), Came(made(weight.is_none()))),
+        ],
+    )
+}
 
 #[test]
 fn a_pass_given_up_after_each_turn_harms_nobody(rt: HostRuntime) -> Result<(), BeginError> {
     for row in GIVEN_UP {
         for turned in 0..26 {
-            given_up(&rt, rt.alloc(), row, turned)?;
+            given_up(&rt, row, turned)?;
         }
     }
     Ok(())

@@ -41,7 +41,7 @@ pub pairs_fit : (o : Opening) → All FitsPair o.members → (q : ℕ) → All F
 pairs_fit o fit q = All-filter _ FitsPair o.members fit
 
 -- as many pairs as keys
-count_same : (o : Opening) (l p : ℕ) → length (pairs_below o.members l p) ≡ length (keys_below (keys_of o.members) l p)
+pub count_same : (o : Opening) (l p : ℕ) → length (pairs_below o.members l p) ≡ length (keys_below (keys_of o.members) l p)
 count_same o l p = sym (length-keys_of (pairs_below o.members l p)) ∙ ap length (keys_of-range o.members (p * 2 ^ l) ((p + 1) * 2 ^ l))
 
 module _ (o : Opening) (set : IsKeySet o.shape.bits (keys_of o.members)) where
@@ -266,7 +266,7 @@ pub record MarksFirst (old new : List ℕ) (members : List (ℕ × ℕ)) (n : �
   pub long : length new ≡ length old
 
 -- the word of a member's leaf
-member_word : (members : List (ℕ × ℕ)) (i : ℕ) → IsStrictlyIncreasing (keys_of members) → i < length members → opening_leaf_word members (get_or members i (0, 0)).0 ≡ 2 ^ 32 + (get_or members i (0, 0)).1
+pub member_word : (members : List (ℕ × ℕ)) (i : ℕ) → IsStrictlyIncreasing (keys_of members) → i < length members → opening_leaf_word members (get_or members i (0, 0)).0 ≡ 2 ^ 32 + (get_or members i (0, 0)).1
 member_word members i up low =
     let key : ℕ = (get_or members i (0, 0)).0 in let weighs = weight_at_place members i up low in
     let there : is_member (keys_of members) key ≡ true = list_any_at (λ x. eqb x key) (keys_of members) i 0 (let long = length-keys_of members in omega arith) (eq-eqb _ key (key_at members i (0, 0) low)) in

@@ -1,5 +1,5 @@
 -- The seat of a lead, and the table that it sits at.
-use Rattle.std.proofs.Common.{◌≡◌, ℕ, ◌+◌, ◌<◌, ◌≤◌, List, [], ◌++◌, length, All, Option, Some, option_map, sym, refl, ap, ◌∙◌, subst, arith}
+use Rattle.std.proofs.Common.{◌≡◌, ℕ, ◌+◌, ◌<◌, ◌≤◌, List, [], ◌∷◌, ◌++◌, length, All, Option, Some, option_map, sym, refl, ap, ◌∙◌, subst, arith}
 use Rattle.std.specs.Prelude.{unwrap_or}
 use Rattle.aug_core.specs.Lanes.{IsOfLane}
 use Rattle.aug_core.specs.Addresses.{IsInner, root_place}
@@ -7,9 +7,10 @@ use Rattle.aug_core.specs.Places.{word_count}
 use Rattle.aug_core.specs.Book.{Book, ArePrefixes, IsNewest, GoesOnFromBoth}
 use Rattle.aug_core.specs.Pasts.{IsLearnt, learnt_of}
 use Rattle.aug_core.specs.Learning.{learning}
-use Rattle.aug_core.specs.Effects.{Sat, LoadsNode, handing_out, handed_out, taking, taking_back, in_state, new_lane, own_lane_place, MayStore, MayChange}
+use Rattle.aug_core.specs.Effects.{Sat, stepping, LoadsNode, handing_out, handed_out, taking, taking_back, in_state, new_lane, own_lane_place, MayStore, MayChange}
 use Rattle.aug_core.specs.declared.view.LaneState.TheVariants.{Taken}
 use Rattle.aug_core.specs.declared.view.PastEra.{PastEra}
+use Rattle.aug_core.specs.declared.step.StepTaken.{StepTaken}
 use Rattle.aug_core.specs.declared.view.SeatView.{SeatView}
 use Rattle.aug_core.proofs.PlaceLemmas.{keys-within}
 use Rattle.aug_core.proofs.Sizes.{twice}
@@ -31,7 +32,7 @@ use mathlib.Core.Option.{some}
 use lib.ListN.{get_elem?}
 use Rattle.aug_words.specs.Leads.{HandsLaneOut}
 use Rattle.aug_words.specs.Notes.{LearnsNote}
-use Rattle.aug_words.specs.inside.SeatState.{SitsAt, IsPassSeat, IsLeadSeat, IsStore, IsDraft}
+use Rattle.aug_words.specs.inside.SeatState.{SitsAt, IsPassSeat, IsLeadSeat, IsStore}
 use Rattle.aug_words.specs.Seats.{IsNextLane}
 
 -- a table has a word
@@ -50,9 +51,9 @@ pub root_inner : (s : Shape) → 1 ≤ s.bits → s.bits ≤ 16 → IsInner s (r
 root_inner s some_bits few = let b = (keys-within s.bits some_bits few).0 in let t = twice s.bits in record { past_leaves = omega arith; inside = omega arith }
 
 -- the seat that opens a table, which has the number of the root's opening record
-pub opening_seat : (face : ℕ → ℕ → List (ℕ × ℕ) → List ℕ) (o : Opening) (past : List PastEra) (era : ℕ) (words : List ℕ) (number : ℕ) (draft : List ℕ) → IsLayout o.shape → IsKeySet o.shape.bits (keys_of o.members) → All FitsPair o.members → length (keys_of o.members) ≤ o.shape.members
-    → number ≡ opening_number o (root_place o.shape) → IsDraft o.shape draft → IsLeadSeat face 0 number draft (opener face o past era words, [])
-opening_seat face o past era words number draft laid_out set fit few named drafts = let inner = root_inner o.shape laid_out.bits.0 laid_out.bits.1 in let only = inner_history face o (root_place o.shape) inner in record {
+pub opening_seat : (face : ℕ → ℕ → List (ℕ × ℕ) → List ℕ) (o : Opening) (past : List PastEra) (era : ℕ) (words : List ℕ) (number : ℕ) → IsLayout o.shape → IsKeySet o.shape.bits (keys_of o.members) → All FitsPair o.members → length (keys_of o.members) ≤ o.shape.members
+    → number ≡ opening_number o (root_place o.shape) → IsLeadSeat face 0 number (opener face o past era words, [])
+opening_seat face o past era words number laid_out set fit few named = let inner = root_inner o.shape laid_out.bits.0 laid_out.bits.1 in let only = inner_history face o (root_place o.shape) inner in record {
   live = refl;
   no_slot = refl;
   hands_out = refl;
@@ -63,12 +64,11 @@ opening_seat face o past era words number draft laid_out set fit few named draft
     newest = record { at = subst (λ (z : List Entry). get_elem? z 0 ≡ some (opening_entry face o (root_place o.shape))) (sym only) refl; last = ap (λ (z : List Entry). length z) only };
     named = named;
   };
-  drafts = drafts;
 }
 
-module _ (face : ℕ → ℕ → List (ℕ × ℕ) → List ℕ) (next root : ℕ) (draft : List ℕ) (me me' : Sat) (seat : IsLeadSeat face next root draft me) where
+module _ (face : ℕ → ℕ → List (ℕ × ℕ) → List ℕ) (next root : ℕ) (me me' : Sat) (seat : IsLeadSeat face next root me) where
   -- a lead that loaded the root's word
-  pub lead_loaded : (found : ℕ) → me'.1 ≡ [] → LoadsNode face me.0 (root_place me.0.shape) found me'.0 → IsLeadSeat face next found draft me'
+  pub lead_loaded : (found : ℕ) → me'.1 ≡ [] → LoadsNode face me.0 (root_place me.0.shape) found me'.0 → IsLeadSeat face next found me'
   lead_loaded found empty did = let is = did.stepped in record {
     live = ap (λ (z : SeatView). z.live) is ∙ seat.live;
     no_slot = empty;
@@ -80,40 +80,46 @@ module _ (face : ℕ → ℕ → List (ℕ × ℕ) → List ℕ) (next root : �
       newest = subst (λ (z : Shape). IsNewest me'.0.seen (root_place z) did.index did.entry) (sym (ap (λ (z : SeatView). z.shape) is)) did.newest;
       named = did.found;
     };
-    drafts = subst (λ (z : SeatView). IsDraft z.shape draft) (sym is) seat.drafts;
+  }
+
+  -- one that loaded a word of a record
+  pub lead_looked : (taken : StepTaken) → me'.0 ≡ stepping me.0 taken → me'.1 ≡ [] → IsLeadSeat face next root me'
+  lead_looked taken is empty = subst (IsLeadSeat face next root) (λ i. (sym is i, sym empty i)) record {
+    live = seat.live;
+    no_slot = refl;
+    hands_out = seat.hands_out;
+    knows = knows_same face me.0 me.0.live me.0.also me.0.held me.0.spare me.0.began (me.0.steps ++ taken ∷ []) seat.knows;
+    names_root = let at = seat.names_root in record { index = at.index; entry = at.entry; newest = at.newest; named = at.named };
   }
 
   -- one that handed a lane out
-  pub lead_handed : me'.0 ≡ handing_out me.0 → me'.1 ≡ me.1 → IsLeadSeat face (next + 1) root draft me'
-  lead_handed is same = subst (IsLeadSeat face (next + 1) root draft) (λ i. (sym is i, sym same i)) record {
+  pub lead_handed : me'.0 ≡ handing_out me.0 → me'.1 ≡ me.1 → IsLeadSeat face (next + 1) root me'
+  lead_handed is same = subst (IsLeadSeat face (next + 1) root) (λ i. (sym is i, sym same i)) record {
     live = seat.live;
     no_slot = seat.no_slot;
     hands_out = ap (option_map (λ n. n + 1)) seat.hands_out;
     knows = knows_same face me.0 me.0.live me.0.also me.0.held (option_map (λ n. n + 1) me.0.spare) me.0.began me.0.steps seat.knows;
     names_root = let at = seat.names_root in record { index = at.index; entry = at.entry; newest = at.newest; named = at.named };
-    drafts = seat.drafts;
   }
 
   -- one that took a pass in
-  pub lead_joined : (w : SeatView) → me'.0 ≡ taking_back me.0 w → me'.1 ≡ me.1 → IsLeadSeat face next root draft me'
-  lead_joined w is same = subst (IsLeadSeat face next root draft) (λ i. (sym is i, sym same i)) record {
+  pub lead_joined : (w : SeatView) → me'.0 ≡ taking_back me.0 w → me'.1 ≡ me.1 → IsLeadSeat face next root me'
+  lead_joined w is same = subst (IsLeadSeat face next root) (λ i. (sym is i, sym same i)) record {
     live = seat.live;
     no_slot = seat.no_slot;
     hands_out = seat.hands_out;
     knows = knows_same face me.0 me.0.live w.seen (me.0.held ++ w.held) me.0.spare me.0.began me.0.steps seat.knows;
     names_root = let at = seat.names_root in record { index = at.index; entry = at.entry; newest = at.newest; named = at.named };
-    drafts = seat.drafts;
   }
 
   -- one that took in a note
-  pub lead_learnt : (w : SeatView) → me'.0 ≡ learning me.0 w → me'.1 ≡ me.1 → IsLeadSeat face next root draft me'
-  lead_learnt w is same = subst (IsLeadSeat face next root draft) (λ i. (sym is i, sym same i)) record {
+  pub lead_learnt : (w : SeatView) → me'.0 ≡ learning me.0 w → me'.1 ≡ me.1 → IsLeadSeat face next root me'
+  lead_learnt w is same = subst (IsLeadSeat face next root) (λ i. (sym is i, sym same i)) record {
     live = seat.live;
     no_slot = seat.no_slot;
     hands_out = seat.hands_out;
     knows = knows_told face me.0 (seen_in me.0.era w).seen (Some (learnt_of w)) seat.knows;
     names_root = let at = seat.names_root in record { index = at.index; entry = at.entry; newest = at.newest; named = at.named };
-    drafts = seat.drafts;
   }
 
 -- a lead that may hand a lane out may do so after it loaded a node
@@ -123,8 +129,8 @@ may_hand_out face old new q found lane next did room spare =
     let shaped = ap (λ (z : SeatView). z.shape) did.stepped in subst (λ (z : Shape). next < z.workers) (sym shaped) (let low = room.exists in omega arith)
 
 -- the seat that was split off a lead's, once it took its lane
-pub new_pass : (face : ℕ → ℕ → List (ℕ × ℕ) → List ℕ) (next root place : ℕ) (draft : List ℕ) (lead me : Sat) → IsLeadSeat face next root draft lead → next < lead.0.shape.workers → me.1 ≡ [] → me.0 ≡ taking (handed_out lead.0) place → IsPassSeat face next me
-new_pass face next root place draft lead me seat low empty is =
+pub new_pass : (face : ℕ → ℕ → List (ℕ × ℕ) → List ℕ) (next root place : ℕ) (lead me : Sat) → IsLeadSeat face next root lead → next < lead.0.shape.workers → me.1 ≡ [] → me.0 ≡ taking (handed_out lead.0) place → IsPassSeat face next me
+new_pass face next root place lead me seat low empty is =
     let which : unwrap_or lead.0.spare 0 ≡ next = ap (λ (z : Option ℕ). unwrap_or z 0) seat.hands_out in
     subst (IsPassSeat face next) (λ i. (sym is i, sym empty i)) record {
       live = seat.live;

@@ -3,7 +3,7 @@ use Rattle.std.proofs.Common.{◌≡◌, ℕ, ◌+◌, ◌-◌, ◌*◌, ◌^◌
 use mathlib.Core.Option.{some}
 use lib.ListN.{get_elem?}
 use Rattle.atomic_table.specs.Seated.{TableId}
-use Rattle.aug_core.specs.Places.{Shape, record_start, record_count, record_words}
+use Rattle.aug_core.specs.Places.{Shape, lane_place, record_start, record_count, record_words, word_count}
 use Rattle.aug_core.specs.Lanes.{IsOfLane, block_start, block_size}
 use Rattle.aug_core.specs.Book.{Book, history_of}
 use Rattle.aug_core.proofs.Books.{at_below}
@@ -11,7 +11,7 @@ use Rattle.std.proofs.Math.Nat.{mul_comm}
 use Rattle.std.proofs.lemmas.Bool.{cases_eq}
 use Rattle.aug_core.specs.Pasts.{learnt_of}
 use Rattle.aug_core.specs.Learning.{learning}
-use Rattle.aug_core.specs.Effects.{Sat, stepping, old_word, new_word, made_by, with_changes, with_published, Sees, LoadsLeaf, BeginsAtLeaf, LoadsNode, TriesLeaf, TriesNode, HoldsOnly, HasSeen, Owns, MayStore, ReadsRecord, on_first, with_word, storing, beginning, own_lane}
+use Rattle.aug_core.specs.Effects.{Sat, stepping, old_word, new_word, made_by, with_changes, with_published, Sees, LoadsLeaf, BeginsAtLeaf, LoadsNode, TriesLeaf, TriesNode, HoldsOnly, HasSeen, KnowsTable, Owns, MayStore, ReadsRecord, on_first, with_word, storing, beginning, own_lane}
 use Rattle.aug_core.specs.Eras.{IsAtWork, seen_in}
 use Rattle.aug_core.specs.inside.LaneStates.{HasTakenLane}
 use Rattle.aug_core.specs.Kinds.{load_leaf, try_leaf, load_node, try_node, load_record_word, store_record_word}
@@ -26,7 +26,23 @@ use Rattle.aug_core.proofs.Fits.{knows_shown, knows_same, knows_told}
 use Rattle.aug_core.proofs.Stores.{alone, one_held}
 use Rattle.aug_core.proofs.Eras.{holds_lane}
 use Rattle.aug_words.specs.inside.SeatState.{SitsAt, IsPassSeat, HasReached}
-use Rattle.aug_words.specs.Seats.{MayLoad, LoadsRecordWord}
+use Rattle.aug_words.specs.Seats.{AreTogether, Known, MayLoad, LoadsRecordWord, Store}
+
+-- a seat that belongs to a table sits there
+pub sits_at : (k now : Known) (store words : Store) (lanes records : ℕ) → k ≡ now → store ≡ words → AreTogether words now → word_count store.shape ≡ store.table.words → lanes ≡ lane_place store.shape 0 → records ≡ record_start store.shape 0
+    → SitsAt k.table store.table lanes records k.view.shape
+sits_at k now store words lanes records is stored together wide l r =
+    let shape : store.shape ≡ k.view.shape = ap (λ (s : Store). s.shape) stored ∙ sym together.one_shape ∙ sym (ap (λ (z : Known). z.view.shape) is) in
+    record {
+      seated = ap (λ (z : Known). z.table) is ∙ together.one_table ∙ sym (ap (λ (s : Store). s.table) stored);
+      wide = sym wide ∙ ap word_count shape;
+      lanes_are = l ∙ ap (λ (s : Shape). lane_place s 0) shape;
+      records_are = r ∙ ap (λ (s : Shape). record_start s 0) shape;
+    }
+
+-- a record that was seen is one of the table
+pub seen_inside : (face : ℕ → ℕ → List (ℕ × ℕ) → List ℕ) (v : SeatView) (number : ℕ) → KnowsTable face v → HasSeen v number → number < record_count v.shape
+seen_inside face v number knows seen = subst (λ (z : ℕ). z < record_count v.shape) seen.numbered (knows.book.below seen.place seen.index seen.entry seen.inner seen.at)
 
 -- a seat whose shape and table stayed
 pub sits_on : (a a' t : TableId) (l r : ℕ) (s s' : Shape) → SitsAt a t l r s → a' ≡ a → s' ≡ s → SitsAt a' t l r s'
@@ -140,7 +156,7 @@ module _ (face : ℕ → ℕ → List (ℕ × ℕ) → List ℕ) (lane : ℕ) (m
   -- a record that a pass owns or has seen is one of the table
   pub loads_inside : (number : ℕ) → MayLoad me.0 number → number < record_count me.0.shape
   loads_inside number may = ⊎_elim
-      (λ (seen : HasSeen me.0 number). subst (λ (z : ℕ). z < record_count me.0.shape) seen.numbered (seat.knows.book.below seen.place seen.index seen.entry seen.inner seen.at))
+      (seen_inside face me.0 number seat.knows)
       (λ (owns : Owns me.0 number). let t = alone seat.held owns.lane owns.index (subst (λ (z : List Held). get_elem? z owns.index ≡ some owns.lane) seat.only owns.at) in
       let is : owns.lane.lane ≡ lane = ap (λ (z : Held). z.lane) (sym t.1) ∙ seat.named in
       record_inside me.0.shape lane number seat.exists (subst (λ (z : ℕ). IsOfLane me.0.shape z number) is owns.of_lane)) may

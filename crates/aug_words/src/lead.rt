@@ -2,18 +2,20 @@
 ghost use Rattle.std.specs.Prelude.{◌≡◌, ◌<◌, ℕ, [], true};
 ghost use Rattle.aug_core.specs.Faces.{face};
 ghost use Rattle.aug_core.specs.Addresses.{root_place};
-ghost use Rattle.aug_core.specs.Effects.{LoadsNode, KnowsTable, taking, finishing, own_lane_place};
+ghost use Rattle.aug_core.specs.Fields.{field_offset};
+ghost use Rattle.aug_core.specs.Effects.{HasSeen, KnowsTable, taking, finishing, own_lane_place};
+ghost use Rattle.aug_core.specs.Renewals.{Surveys};
 ghost use Rattle.aug_core.specs.inside.LaneStates.{MayTake, HasTakenLane};
 ghost use Rattle.aug_words.specs.Leads.{HandsLaneOut, TakesLaneBack};
-ghost use Rattle.aug_words.specs.Seats.{AreTogether, IsOfLead, IsNextLane, NamesRoot};
+ghost use Rattle.aug_words.specs.Seats.{AreTogether, IsOfLead, IsNextLane, LoadsRecordWord, NamesRoot};
 
 use crate::half::WordHalf;
-use crate::pass::WordPass;
+use crate::pass::{WordPass, record_word};
 use crate::words::Words;
 use atomic_table::Seat;
 use aug_core::{
-    FinishOwnLane, HandOut, LANE_ENDED, LANE_FREE, LANE_TAKEN, LoadAnyNode, SeatView, SharedWords,
-    TakeBack, TakeOwnLane,
+    FinishOwnLane, HandOut, LANE_ENDED, LANE_FREE, LANE_TAKEN, LoadAnyRecord, RecordField,
+    SeatView, SharedWords, Survey, TakeBack, TakeOwnLane,
 };
 use aug_monoid::Monoid;
 use std::marker::{Model, PhantomData};
@@ -26,8 +28,6 @@ pub struct Lead<A: Monoid, B: Monoid> {
     pub(crate) next: u32,
     // The number of the newest record of the root that the lead has seen.
     pub(crate) root: u64,
-    // Room for the words with which the table is opened again.
-    pub(crate) draft: Vec<u64>,
     pub(crate) sums: PhantomData<(A, B)>,
 }
 
@@ -40,7 +40,7 @@ impl<A: Monoid, B: Monoid> Model for Lead<A, B> {
 
     ghost view = { λ p. record { table = p.seat.table_id; view = p.seat.me.0 } };
 
-    ghost invariant = { λ p. IsLeadSeat (face A.parts B.parts) p.next p.root p.draft.items p.seat.me };
+    ghost invariant = { λ p. IsLeadSeat (face A.parts B.parts) p.next p.root p.seat.me };
 }
 
 // Takes the lane of a seat that was just split off: a compare-exchange of its word from free to taken.
@@ -100,15 +100,39 @@ impl<A: Monoid, B: Monoid> Lead<A, B> {
     }
 
     // Loads the root's word: the lead then knows all that was published, and all that a pass or a note that it took in knew.
-    pub(crate) fn load_root(&mut self, words: &SharedWords<A, B>, root: usize)
+    fn load_root(&mut self, words: &SharedWords<A, B>, root: usize) -> u64
         requires table { self.old.table ≡ words.now.table_id }
         requires inside { root < words.now.table_id.words }
         requires root { root ≡ root_place self.old.view.shape }
         ensures table { self.new.table ≡ self.old.table }
-        ensures view { (found : ℕ) × LoadsNode (face A.parts B.parts) self.old.view (root_place self.old.view.shape) found self.new.view }
+        ensures view { Surveys (face A.parts B.parts) self.old.view (root_place self.old.view.shape) result self.new.view }
     {
-        let number = words.load::<LoadAnyNode<A, B>>(&mut self.seat, root);
+        let number = words.load::<Survey<A, B>>(&mut self.seat, root);
         self.root = number;
+        number
+    }
+
+    /// Loads the root: the number of its newest record. The lead then knows all that was published, and with that the table met the rule. So once all
+    /// passes are back, it knows all that they came to, while its table is still at work.
+    pub fn survey(&mut self, words: &Words<A, B>) -> u64
+        requires together { AreTogether words.now self.old }
+        ensures table { self.new.table ≡ self.old.table }
+        ensures surveys { Surveys (face A.parts B.parts) self.old.view (root_place self.old.view.shape) result self.new.view }
+    {
+        self.load_root(&words.table.shared, words.lanes - 1)
+    }
+
+    /// Loads one of the five words of a record that the lead has seen, as a pass does.
+    #[inline(always)]
+    pub fn load_record_word(&mut self, words: &Words<A, B>, number: u64, field: RecordField) -> u64
+        requires together { AreTogether words.now self.old }
+        requires seen { HasSeen self.old.view number }
+        ensures table { self.new.table ≡ self.old.table }
+        ensures view { LoadsRecordWord self.old.view number (field_offset field) result self.new.view }
+    {
+        let seat = &mut self.seat;
+        let place = record_word(words.records, number, field.offset());
+        words.table.shared.load::<LoadAnyRecord>(seat, place)
     }
 
     /// Makes a pass with the next lane: loads the root, splits off a seat that knows what the lead knows after that load, and

@@ -44,7 +44,7 @@ impl<'r, A: Monoid, B: Monoid> Model for WordPass<'r, A, B> {
 
 // The place of a word of a record.
 #[inline(always)]
-fn record_word(records: usize, number: u64, field: usize) -> usize
+pub(crate) fn record_word(records: usize, number: u64, field: usize) -> usize
     requires { records + record_words * number + field < 2 ^ 60 }
     ensures { result ≡ records + record_words * number + field }
 {

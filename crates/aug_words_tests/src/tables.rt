@@ -82,7 +82,7 @@ pub(super) fn join<A: Monoid, B: Monoid>(
 }
 
 // The five words of a record at rest.
-fn record_at(rest: &Rest, number: u64) -> [u64; 5]
+pub(super) fn record_at(rest: &Rest, number: u64) -> [u64; 5]
     requires { number < record_count rest.now.shape }
 {
     [

@@ -3,9 +3,6 @@ use Rattle.std.specs.Prelude.{◌≡◌, ℕ, ℤ}
 use Rattle.aug_model.specs.Keys.{SetFacts}
 use Rattle.aug_live.specs.LiveHandles.{LookFacts, IsAsked, set_of_look}
 use Rattle.aug_c.specs.UserCalls.{span_of}
-use Rattle.aug_c.specs.declared.seat.Seat.{Seat}
-use Rattle.aug_c.specs.declared.seat.Seat.TheVariants.{Free, Looking}
-use Rattle.aug_c.specs.Codes as codes
 
 -- a query is answered right for the snapshot's set, by a number, and changes nothing that a later one could see
 pub record AnswersLook {X : Type 0} (is_answer : SetFacts → X → Type 0) (number_of : X → ℤ) (old new : LookFacts) (code : ℤ) : Type 0 where
@@ -14,8 +11,3 @@ pub record AnswersLook {X : Type 0} (is_answer : SetFacts → X → Type 0) (num
   pub says : code ≡ number_of answer
   pub most : ℕ
   pub asked : IsAsked span_of most old new
-
--- the same of a user
-abbrev pub AnsweredBy : {X : Type 0} → (SetFacts → X → Type 0) → (X → ℤ) → Seat → Seat → ℤ → Type 0
-AnsweredBy is_answer number_of (Free access) new code = (new ≡ Free access) × (code ≡ codes.not_looking)
-AnsweredBy is_answer number_of (Looking old) new code = (look : LookFacts) × (new ≡ Looking look) × AnswersLook is_answer number_of old look code

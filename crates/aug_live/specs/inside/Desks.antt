@@ -1,12 +1,8 @@
 -- What lies on the desk.
-use Rattle.std.specs.Prelude.{◌≡◌, ℕ, ◌+◌, ◌<◌, ◌≤◌, ◌^◌, List, [], ◌∷◌, ◌++◌, true, length, All, map, flat_map}
+use Rattle.std.specs.Prelude.{◌≡◌, ℕ, ◌+◌, ◌<◌, ◌≤◌, ◌^◌, List, length, All, map, flat_map}
 use Rattle.std.specs.List.{sum_by}
-use mathlib.Core.Option.{some}
-use lib.ListN.{get_elem?}
 use Rattle.aug_core.specs.Layout.{IsLayout}
 use Rattle.aug_core.specs.Places.{shape_of}
-use Rattle.aug_trie.specs.Chains.{IsPart}
-use Rattle.aug_trie.specs.Pass.{chain_of}
 use Rattle.aug_trie.specs.Round.{TableFacts, table_of}
 use Rattle.aug_trie.specs.Crew.{CrewFacts}
 use Rattle.aug_live.specs.declared.counts.LiveCounts.{LiveCounts}
@@ -15,9 +11,9 @@ use Rattle.aug_live.specs.declared.known.Whose.{Whose}
 use Rattle.aug_live.specs.declared.known.Whose.TheVariants.{Alone, Roller, Free, Idle, Handle, Gone}
 use Rattle.aug_live.specs.Carrying.{Leads}
 use Rattle.aug_live.specs.Ledgers.{Made, made_in}
-use Rattle.aug_live.specs.LiveTries.{AreCountsOf, LaneKnown, TrieFacts, ids_of, lost_of}
+use Rattle.aug_live.specs.LiveTries.{AreCountsOf, lost_of}
 use Rattle.aug_live.specs.inside.LaneKnowledge.{EndFacts, knows_nothing}
-use Rattle.aug_live.specs.inside.Rolls.{IsHandleEnd, IsOf, kept_of, rounds_in}
+use Rattle.aug_live.specs.inside.Rolls.{IsOf, kept_of, rounds_in}
 use Rattle.aug_live.specs.inside.SameChanges.{SameChanges}
 
 -- a lane that no handle had yet
@@ -73,24 +69,3 @@ pub record IsWorking (lanes updates : ℕ) (counts : LiveCounts) (table : TableF
   pub few_removals : counts.removals + 2 ^ 32 ≤ 2 ^ 64
   pub laid_out : IsLayout (shape_of table.bits lanes updates (2 ^ table.bits))
   pub room : 2 ^ table.bits ≤ table.room
-
--- the handle of this lane is done, through which this was made
-pub record TakesEnd (number : ℕ) (made : List Made) (old new : TrieFacts) : Type 0 where
-  pub lane : LaneKnown
-  pub later : LaneKnown
-  pub was : get_elem? old.lanes number ≡ some lane
-  pub is : get_elem? new.lanes number ≡ some later
-  pub done : later.done ≡ lane.done ++ (true, made) ∷ []
-
--- the end of a new handle of this lane, at this table, which knows all that is known of the trie
-pub record GivesLane (lane : ℕ) (trie : TrieFacts) (end : EndFacts) (table : TableFacts) (bits number : ℕ) : Type 0 where
-  pub is_end : IsHandleEnd number table end
-  pub id : get_elem? (ids_of trie) lane ≡ some end.lock
-  pub known : LaneKnown
-  pub last : get_elem? trie.lanes lane ≡ some known
-  pub is_last : (known.number ≡ number) × (known.is_out ≡ true)
-  pub none_made : end.known.made ≡ []
-  pub of_trie : table.table ≡ trie.table
-  pub bits_are : bits ≡ table.bits
-  pub of_bits : bits ≡ trie.bits
-  pub knows : IsPart trie.rounds (chain_of end.known.at.half)

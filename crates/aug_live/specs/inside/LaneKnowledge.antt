@@ -1,14 +1,14 @@
 -- What lies in a lane, what the passes of its lock know, and the rule between them.
-use Rattle.std.specs.Prelude.{◌≡◌, ◌≢◌, ◌⊎◌, ℕ, ◌<◌, ◌≤◌, List, [], ◌∷◌, ◌++◌, length, drop, Option, Some, None, unwrap_or, Bool, true, false}
+use Rattle.std.specs.Prelude.{◌≡◌, ◌≢◌, ◌⊎◌, ℕ, ◌+◌, ◌<◌, ◌≤◌, List, [], ◌∷◌, ◌++◌, length, drop, Option, Some, None, unwrap_or, Bool, true, false}
 use mathlib.Core.Option.{some}
 use lib.ListN.{get_elem?}
 use Rattle.aug_trie.specs.Chains.{Chapter}
-use Rattle.aug_trie.specs.Pass.{PassFacts, GoesOn}
+use Rattle.aug_trie.specs.Pass.{PassFacts}
 use Rattle.aug_trie.specs.Round.{RoundFacts, table_of}
 use Rattle.aug_core.specs.Prefixes.{IsPrefix}
 use Rattle.atomic_table.specs.Seated.{TableId}
 use Rattle.aug_live.specs.Ledgers.{Made, dated}
-use Rattle.aug_live.specs.LiveHandles.{HandleFacts, WhoFacts, Follows, added}
+use Rattle.aug_live.specs.LiveHandles.{HandleFacts, IsSuccessor, WhoFacts, Follows, added}
 use Rattle.aug_live.specs.LiveTries.{Done, LaneKnown, TrieFacts, made_through}
 use Rattle.aug_live.specs.declared.lane.Obstacle.{Obstacle}
 use Rattle.aug_live.specs.declared.lane.Obstacle.TheVariants.{Held, Round, Replaced}
@@ -62,9 +62,9 @@ pub record LaneFacts : Type 0 where
   pub is_out : Bool
   pub at : HandleFacts
 
--- no pass of its round lies in the lane, or one that has no update left
-abbrev pub IsSpent : LaneFacts → Type 0
-IsSpent lane = (lane.works ≡ false) ⊎ (lane.at.half.spent ≡ lane.at.half.round.updates)
+-- no pass of its round lies in the lane, or one that has fewer updates left than so many
+abbrev pub LacksUpdates : ℕ → LaneFacts → Type 0
+LacksUpdates least lane = (lane.works ≡ false) ⊎ (lane.at.half.round.updates < lane.at.half.spent + least)
 
 -- a pass of a lane's lock: whose it is; the number of the lane's handle; whether it saw that the lane has a newer one; the lane as it put it back; the handles of the
 -- lane that are done. The roller's knows what was made with the passes that are back at their crew, and the handle's what was made through it
@@ -254,9 +254,11 @@ is_out_by Gone = false
 abbrev pub lane_by : EndFacts → LaneKnown
 lane_by e = record { id = e.lock; number = e.known.number; is_out = is_out_by e.known.whose; done = e.known.done }
 
--- a pass that does `does` in its round, with so many updates
-pub record WorksHere (updates : ℕ) (does : PassFacts → PassFacts → Type 0) (old new : HandleFacts) : Type 0 where
+-- a pass that does this in its round
+pub record RunsHere (does : PassFacts → PassFacts → Type 0) (old new : HandleFacts) : Type 0 where
   pub same_era : new.era ≡ old.era
   pub done : does old.half new.half
-  pub steps : ℕ
-  pub goes_on : GoesOn updates steps old.half new.half
+
+-- it makes no update, and knows as much as before, or more
+abbrev pub MakesNothing : PassFacts → PassFacts → Type 0
+MakesNothing old new = IsSuccessor old new × (new.knows.accepted ≡ old.knows.accepted)

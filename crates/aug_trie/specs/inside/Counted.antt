@@ -1,8 +1,8 @@
 -- The numbers that a pass or a crew keeps of its changes as it runs.
 use Rattle.std.specs.Prelude.{◌≡◌, ℕ, List}
 use Rattle.aug_core.specs.declared.view.Change.{Change}
-use Rattle.aug_trie.specs.declared.updates.outcome.Outcome.{Outcome}
-use Rattle.aug_trie.specs.declared.updates.outcome.Outcome.TheVariants.{Accepted, Replaced}
+use Rattle.aug_model.specs.declared.outcome.Outcome.{Outcome}
+use Rattle.aug_model.specs.declared.outcome.Outcome.TheVariants.{Accepted, Replaced}
 use Rattle.aug_trie.specs.Knowledge.{inserts_of, removals_of}
 use Rattle.aug_trie.specs.declared.updates.request.Request.{Request}
 use Rattle.aug_trie.specs.declared.updates.request.Request.TheVariants.{Insert, Remove, Put, Add, Sub, Take}

@@ -1,5 +1,5 @@
 -- What the fields of a crew keep, and how what contracts see of it comes of them.
-use Rattle.std.specs.Prelude.{◌≡◌, ℕ, ◌%◌, ◌^◌, ◌≤◌, Some, unwrap_or, List, length}
+use Rattle.std.specs.Prelude.{◌≡◌, ℕ, ◌%◌, ◌^◌, ◌≤◌, Option, Some, unwrap_or, List, length}
 use Rattle.aug_core.specs.Counts.{changes_of}
 use Rattle.aug_core.specs.declared.view.SeatView.{SeatView}
 use Rattle.aug_words.specs.Seats.{Known}
@@ -29,3 +29,9 @@ pub record HoldsCrew (face : ℕ → ℕ → List (ℕ × ℕ) → List ℕ) (v 
   pub back_is : back ≡ length v.held % 2 ^ 32
   pub inserts_are : inserts ≡ inserts_of (changes_of v.held) % 2 ^ 32
   pub removals_are : removals ≡ removals_of (changes_of v.held) % 2 ^ 32
+
+-- and a crew that has its lead
+pub record HasCrew (face : ℕ → ℕ → List (ℕ × ℕ) → List ℕ) (lead : Option Known) (back inserts removals : ℕ) : Type 0 where
+  pub known : Known
+  pub there : lead ≡ Some known
+  pub holds : HoldsCrew face known.view back inserts removals

@@ -10,7 +10,7 @@ use Rattle.aug_core.specs.declared.view.SeatView.{SeatView}
 use Rattle.aug_trie.specs.inside.RoundState.{eras_of}
 use Rattle.aug_trie.specs.inside.Goes.{Goes, Took, TookBetween, HasRoom, part_words, part_steps, try_steps, level_steps, least_rise_steps}
 use Rattle.aug_trie.specs.inside.Climbing.{Updated, FitsRequest}
-use Rattle.aug_trie.specs.declared.updates.outcome.Outcome.{Outcome}
+use Rattle.aug_model.specs.declared.outcome.Outcome.{Outcome}
 use Rattle.aug_trie.specs.inside.PassState.{IsPass}
 use Rattle.aug_trie.specs.Pass.{most_update_steps, most_rise_steps}
 use Rattle.aug_trie.specs.Requests.{goes_from}

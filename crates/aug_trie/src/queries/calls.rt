@@ -22,9 +22,9 @@ impl<'r, A: Monoid, B: Monoid> Pass<'r, A, B> {
         ensures answer { Q.Answers query (set_at self.old s) result }
         ensures reads { Reads (summary_of A.parts B.parts) (steps_for (Q.most query (set_at self.old s))) self.old self.new }
     {
-        let mut walk = SnapshotWalk::over(self.words.take(), s, self.account.bits);
+        let mut walk = SnapshotWalk::of_pass(self.words.take(), s, self.account.bits);
         let answer = query.run(&mut walk);
-        self.words = walk.into_words();
+        self.words = Some(walk.into_words());
         answer
     }
 

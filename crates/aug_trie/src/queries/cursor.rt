@@ -29,9 +29,9 @@ impl<'r, A: Monoid, B: Monoid> Pass<'r, A, B> {
         ensures gap { result.cursor.gap ≡ min k (2 ^ self.old.round.bits) }
         ensures reads { Reads (summary_of A.parts B.parts) (self.old.round.bits + 2) self.old self.new }
     {
-        let mut walk = SnapshotWalk::over(self.words.take(), s, self.account.bits);
+        let mut walk = SnapshotWalk::of_pass(self.words.take(), s, self.account.bits);
         let cursor = Cursor::from(&mut walk, k);
-        self.words = walk.into_words();
+        self.words = Some(walk.into_words());
         SnapshotCursor {
             snapshot: s,
             cursor,
@@ -47,9 +47,9 @@ impl<'r, A: Monoid, B: Monoid> Pass<'r, A, B> {
         ensures answer { YieldsNext (set_at self.old at.old.snapshot) at.old.cursor.gap at.new.cursor.gap result }
         ensures reads { Reads (summary_of A.parts B.parts) (5 * self.old.round.bits - 3) self.old self.new }
     {
-        let mut walk = SnapshotWalk::over(self.words.take(), at.snapshot, self.account.bits);
+        let mut walk = SnapshotWalk::of_pass(self.words.take(), at.snapshot, self.account.bits);
         let found = at.cursor.next(&mut walk);
-        self.words = walk.into_words();
+        self.words = Some(walk.into_words());
         found
     }
 
@@ -61,9 +61,9 @@ impl<'r, A: Monoid, B: Monoid> Pass<'r, A, B> {
         ensures answer { YieldsPrevious (set_at self.old at.old.snapshot) at.old.cursor.gap at.new.cursor.gap result }
         ensures reads { Reads (summary_of A.parts B.parts) (5 * self.old.round.bits - 3) self.old self.new }
     {
-        let mut walk = SnapshotWalk::over(self.words.take(), at.snapshot, self.account.bits);
+        let mut walk = SnapshotWalk::of_pass(self.words.take(), at.snapshot, self.account.bits);
         let found = at.cursor.previous(&mut walk);
-        self.words = walk.into_words();
+        self.words = Some(walk.into_words());
         found
     }
 }

@@ -10,6 +10,7 @@ ghost use Rattle.aug_trie.specs.inside.NamedCuts.{cut_named};
 ghost use Rattle.aug_trie.specs.inside.Goes.{Looks};
 
 use crate::queries::node::Node;
+use crate::queries::record_words::RecordWords;
 use crate::queries::snapshot::Snapshot;
 use crate::updates::parts::leaf_part;
 use aug_core::RecordField;
@@ -32,25 +33,25 @@ pub(crate) fn leaf_summary<A: Monoid, B: Monoid>(key: u32, word: u64) -> Summary
 
 // The summary of the node at a level and a place of a snapshot's tree, by its word: at most three steps.
 #[inline(always)]
-pub(crate) fn summary_at<A: Monoid, B: Monoid>(
-    pass: &mut WordPass<A, B>,
+pub(crate) fn summary_at<A: Monoid, B: Monoid, W: RecordWords>(
+    words: &mut W,
     snapshot: Snapshot,
     level: u32,
     place: u32,
     word: u64,
 ) -> Summary<A, B>
-    requires knows { KnowsTable (face A.parts B.parts) pass.old.view }
-    requires node { IsNodeAt pass.old.view.shape pass.old.view.seen (cut_named pass.old.view.shape pass.old.view.seen snapshot.number) level place word }
-    ensures table { pass.new.table ≡ pass.old.table }
-    ensures looks { Looks 3 pass.old.view pass.new.view }
-    ensures tells { IsTreeOf (summary_of A.parts B.parts) pass.old.view.shape.bits (cut_named pass.old.view.shape pass.old.view.seen snapshot.number) level place result }
+    requires knows { KnowsTable (face A.parts B.parts) (W.known words.old).view }
+    requires node { IsNodeAt (W.known words.old).view.shape (W.known words.old).view.seen (cut_named (W.known words.old).view.shape (W.known words.old).view.seen snapshot.number) level place word }
+    ensures table { (W.known words.new).table ≡ (W.known words.old).table }
+    ensures looks { Looks 3 (W.known words.old).view (W.known words.new).view }
+    ensures tells { IsTreeOf (summary_of A.parts B.parts) (W.known words.old).view.shape.bits (cut_named (W.known words.old).view.shape (W.known words.old).view.seen snapshot.number) level place result }
 {
     if level == 0 {
         return leaf_summary(place, word);
     }
-    let count = pass.load_record_word(word, RecordField::Count);
-    let a = pass.load_record_word(word, RecordField::A);
-    let b = pass.load_record_word(word, RecordField::B);
+    let count = words.load_word(word, RecordField::Count);
+    let a = words.load_word(word, RecordField::A);
+    let b = words.load_word(word, RecordField::B);
     Summary {
         count: count as u32,
         a: A::from_word(a),

@@ -1,9 +1,11 @@
-//! Loads of single words of a snapshot's tree, over a pass that knows only its words. A snapshot, a level and a place are for the contracts alone:
-//! they say of which node the word is.
+//! Loads of single words of a snapshot's tree, by whoever has seen it. A snapshot, a level and a place are for the contracts alone: they say of which
+//! node the word is.
 ghost use Rattle.std.specs.Prelude.{◌≡◌, ℕ, ◌+◌, ◌*◌, ◌^◌, ◌<◌, ◌≤◌, length};
 ghost use Rattle.aug_core.specs.Cuts.{set_of_cut};
 ghost use Rattle.aug_core.specs.Faces.{face};
-ghost use Rattle.aug_core.specs.Effects.{KnowsTable};
+ghost use Rattle.aug_core.specs.Effects.{HasSeen, KnowsTable};
+ghost use Rattle.aug_core.specs.Fields.{field_offset};
+ghost use Rattle.aug_words.specs.Seats.{Known, LoadsRecordWord};
 ghost use Rattle.aug_model.specs.NodeKeys.{keys_below};
 ghost use Rattle.aug_trie.specs.inside.NodeWords.{IsNodeAt};
 ghost use Rattle.aug_trie.specs.inside.Goes.{Looks};
@@ -13,64 +15,112 @@ use crate::queries::snapshot::Snapshot;
 use crate::updates::leaf_words::leaf_serial;
 use aug_core::RecordField;
 use aug_monoid::Monoid;
-use aug_words::WordPass;
+use aug_words::{Lead, WordPass, Words};
+use std::marker::Model;
+
+/// Who may load words of records: a pass, or a crew that has the words of its round at hand.
+pub(crate) trait RecordWords {
+    // What it knows of its table.
+    ghost known: { Self → Known };
+
+    // One of the five words of a record that it has seen: one step.
+    fn load_word(&mut self, number: u64, field: RecordField) -> u64
+        requires { HasSeen (known self.old).view number }
+        ensures table { (known self.new).table ≡ (known self.old).table }
+        ensures view { LoadsRecordWord (known self.old).view number (field_offset field) result (known self.new).view };
+}
+
+impl<A: Monoid, B: Monoid> RecordWords for WordPass<'_, A, B> {
+    ghost known = { λ p. p };
+
+    #[inline(always)]
+    fn load_word(&mut self, number: u64, field: RecordField) -> u64 {
+        self.load_record_word(number, field)
+    }
+}
+
+/// The words of a round, with the lead of its crew taken out.
+#[derive(Drop)]
+pub(crate) struct CrewWords<'r, A: Monoid, B: Monoid> {
+    pub(crate) lead: Lead<A, B>,
+    pub(crate) words: &'r Words<A, B>,
+}
+
+impl<'r, A: Monoid, B: Monoid> Model for CrewWords<'r, A, B> {
+    ghost use Rattle.aug_words.specs.Seats.{AreTogether, Known};
+
+    ghost Value = { Known };
+
+    ghost view = { λ c. c.lead };
+
+    ghost invariant = { λ c. AreTogether c.words.now c.lead };
+}
+
+impl<A: Monoid, B: Monoid> RecordWords for CrewWords<'_, A, B> {
+    ghost known = { λ c. c };
+
+    #[inline(always)]
+    fn load_word(&mut self, number: u64, field: RecordField) -> u64 {
+        self.lead.load_record_word(self.words, number, field)
+    }
+}
 
 // The word of the left child, at this level, of the node above it at this place, by that node's word.
 #[inline(always)]
-pub(crate) fn left_word<A: Monoid, B: Monoid>(
-    pass: &mut WordPass<A, B>,
+pub(crate) fn left_word<A: Monoid, B: Monoid, W: RecordWords>(
+    words: &mut W,
     snapshot: Snapshot,
     level: u32,
     place: u32,
     word: u64,
 ) -> u64
-    requires knows { KnowsTable (face A.parts B.parts) pass.old.view }
-    requires node { IsNodeAt pass.old.view.shape pass.old.view.seen (cut_named pass.old.view.shape pass.old.view.seen snapshot.number) (level + 1) place word }
-    ensures table { pass.new.table ≡ pass.old.table }
-    ensures looks { Looks 1 pass.old.view pass.new.view }
-    ensures node { IsNodeAt pass.old.view.shape pass.old.view.seen (cut_named pass.old.view.shape pass.old.view.seen snapshot.number) level (2 * place) result }
+    requires knows { KnowsTable (face A.parts B.parts) (W.known words.old).view }
+    requires node { IsNodeAt (W.known words.old).view.shape (W.known words.old).view.seen (cut_named (W.known words.old).view.shape (W.known words.old).view.seen snapshot.number) (level + 1) place word }
+    ensures table { (W.known words.new).table ≡ (W.known words.old).table }
+    ensures looks { Looks 1 (W.known words.old).view (W.known words.new).view }
+    ensures node { IsNodeAt (W.known words.old).view.shape (W.known words.old).view.seen (cut_named (W.known words.old).view.shape (W.known words.old).view.seen snapshot.number) level (2 * place) result }
 {
     let _ = (snapshot, level, place);
-    pass.load_record_word(word, RecordField::Left)
+    words.load_word(word, RecordField::Left)
 }
 
 // The word of the right child.
 #[inline(always)]
-pub(crate) fn right_word<A: Monoid, B: Monoid>(
-    pass: &mut WordPass<A, B>,
+pub(crate) fn right_word<A: Monoid, B: Monoid, W: RecordWords>(
+    words: &mut W,
     snapshot: Snapshot,
     level: u32,
     place: u32,
     word: u64,
 ) -> u64
-    requires knows { KnowsTable (face A.parts B.parts) pass.old.view }
-    requires node { IsNodeAt pass.old.view.shape pass.old.view.seen (cut_named pass.old.view.shape pass.old.view.seen snapshot.number) (level + 1) place word }
-    ensures table { pass.new.table ≡ pass.old.table }
-    ensures looks { Looks 1 pass.old.view pass.new.view }
-    ensures node { IsNodeAt pass.old.view.shape pass.old.view.seen (cut_named pass.old.view.shape pass.old.view.seen snapshot.number) level (2 * place + 1) result }
+    requires knows { KnowsTable (face A.parts B.parts) (W.known words.old).view }
+    requires node { IsNodeAt (W.known words.old).view.shape (W.known words.old).view.seen (cut_named (W.known words.old).view.shape (W.known words.old).view.seen snapshot.number) (level + 1) place word }
+    ensures table { (W.known words.new).table ≡ (W.known words.old).table }
+    ensures looks { Looks 1 (W.known words.old).view (W.known words.new).view }
+    ensures node { IsNodeAt (W.known words.old).view.shape (W.known words.old).view.seen (cut_named (W.known words.old).view.shape (W.known words.old).view.seen snapshot.number) level (2 * place + 1) result }
 {
     let _ = (snapshot, level, place);
-    pass.load_record_word(word, RecordField::Right)
+    words.load_word(word, RecordField::Right)
 }
 
 // How many members the node at a level and a place covers, by its word: a leaf's word says it itself.
 #[inline(always)]
-pub(crate) fn count_at<A: Monoid, B: Monoid>(
-    pass: &mut WordPass<A, B>,
+pub(crate) fn count_at<A: Monoid, B: Monoid, W: RecordWords>(
+    words: &mut W,
     snapshot: Snapshot,
     level: u32,
     place: u32,
     word: u64,
 ) -> u32
-    requires knows { KnowsTable (face A.parts B.parts) pass.old.view }
-    requires node { IsNodeAt pass.old.view.shape pass.old.view.seen (cut_named pass.old.view.shape pass.old.view.seen snapshot.number) level place word }
-    ensures table { pass.new.table ≡ pass.old.table }
-    ensures looks { Looks 1 pass.old.view pass.new.view }
-    ensures value { result ≡ length (keys_below (set_of_cut (cut_named pass.old.view.shape pass.old.view.seen snapshot.number)) level place) }
+    requires knows { KnowsTable (face A.parts B.parts) (W.known words.old).view }
+    requires node { IsNodeAt (W.known words.old).view.shape (W.known words.old).view.seen (cut_named (W.known words.old).view.shape (W.known words.old).view.seen snapshot.number) level place word }
+    ensures table { (W.known words.new).table ≡ (W.known words.old).table }
+    ensures looks { Looks 1 (W.known words.old).view (W.known words.new).view }
+    ensures value { result ≡ length (keys_below (set_of_cut (cut_named (W.known words.old).view.shape (W.known words.old).view.seen snapshot.number)) level place) }
 {
     let _ = (snapshot, place);
     if level == 0 {
         return leaf_serial(word) as u32 % 2;
     }
-    pass.load_record_word(word, RecordField::Count) as u32
+    words.load_word(word, RecordField::Count) as u32
 }

@@ -1,71 +1,115 @@
-//! A snapshot as a descent walks it, over the words of its pass.
-ghost use Rattle.std.specs.Prelude.{◌≡◌, ℕ, Some};
+//! A snapshot as a descent walks it, over the words of its pass or of its crew.
+ghost use Rattle.std.specs.Prelude.{◌≡◌, Some};
+ghost use Rattle.aug_core.specs.Effects.{KnowsTable};
 ghost use Rattle.aug_core.specs.Faces.{face};
-ghost use Rattle.aug_trie.specs.inside.SnapshotWalk.{HasWalk};
+ghost use Rattle.aug_words.specs.Seats.{AreTogether, NamesRoot};
+ghost use Rattle.aug_trie.specs.inside.SnapshotWalk.{HasWalk, IsWalk};
 
 use crate::queries::nodes::summary_at;
-use crate::queries::record_words::{count_at, left_word, right_word};
+use crate::queries::record_words::{CrewWords, RecordWords, count_at, left_word, right_word};
 use crate::queries::snapshot::Snapshot;
 use crate::updates::leaf_words::leaf_weight;
 use aug_model::Summary;
 use aug_monoid::Monoid;
 use aug_query::{Descend, Loaded};
-use aug_words::WordPass;
-use std::marker::Model;
+use aug_words::{Lead, WordPass, Words};
+use std::marker::{Model, PhantomData};
 
-/// A snapshot of a pass, while its words are taken out: what names a node is the word that its parent's record has of it. So the
+/// A snapshot of a pass or of a crew, while its words are taken out: what names a node is the word that its parent's record has of it. So the
 /// words stay in registers, and each call loads one word, and `summary`, `past_left`, `past_right` and `child_past` three.
 #[derive(Drop)]
-pub(crate) struct SnapshotWalk<'r, A: Monoid, B: Monoid> {
-    words: WordPass<'r, A, B>,
+pub(crate) struct SnapshotWalk<W: RecordWords, A: Monoid, B: Monoid> {
+    words: W,
     snapshot: Snapshot,
     bits: u32,
     loaded: Loaded,
+    monoids: PhantomData<(A, B)>,
 }
 
-impl<'r, A: Monoid, B: Monoid> Model for SnapshotWalk<'r, A, B> {
+impl<W: RecordWords, A: Monoid, B: Monoid> Model for SnapshotWalk<W, A, B> {
     ghost use Rattle.aug_core.specs.Faces.{face};
     ghost use Rattle.aug_trie.specs.inside.SnapshotWalk.{IsWalk, Walking};
 
     ghost Value = { Walking };
 
-    ghost view = { λ w. record { words = w.words; snapshot = w.snapshot; bits = w.bits; loaded = w.loaded } };
+    ghost view = { λ w. record { words = W.known w.words; snapshot = w.snapshot; bits = w.bits; loaded = w.loaded } };
 
-    ghost invariant = { λ w. IsWalk (face A.parts B.parts) w.words.view w.snapshot w.bits };
+    ghost invariant = { λ w. IsWalk (face A.parts B.parts) (W.known w.words).view w.snapshot w.bits };
 }
 
-impl<'r, A: Monoid, B: Monoid> SnapshotWalk<'r, A, B> {
-    // A walk over a snapshot of the pass that has these words.
+impl<W: RecordWords, A: Monoid, B: Monoid> SnapshotWalk<W, A, B> {
+    // A walk over a snapshot of the pass or the crew that has these words.
     #[inline(always)]
-    pub(crate) fn over(
-        words: Option<WordPass<'r, A, B>>,
-        snapshot: Snapshot,
-        bits: u32,
-    ) -> SnapshotWalk<'r, A, B>
-        requires { HasWalk (face A.parts B.parts) words snapshot bits }
-        ensures words { words.entry ≡ Some result.words }
+    pub(crate) fn over(words: W, snapshot: Snapshot, bits: u32) -> SnapshotWalk<W, A, B>
+        requires { IsWalk (face A.parts B.parts) (W.known words).view snapshot bits }
+        ensures words { result.words ≡ W.known words }
         ensures snapshot { result.snapshot ≡ snapshot }
     {
-        let Some(words) = words else { unreachable!() };
         SnapshotWalk {
             words,
             snapshot,
             bits,
             loaded: Loaded::nothing(),
+            monoids: PhantomData,
         }
     }
 
     // The words again.
     #[inline(always)]
-    pub(crate) fn into_words(self) -> Option<WordPass<'r, A, B>>
-        ensures { result ≡ Some self.entry.words }
+    pub(crate) fn into_words(self) -> W
+        ensures { W.known result ≡ self.words }
     {
         let SnapshotWalk { words, .. } = self;
-        Some(words)
+        words
     }
 }
 
-impl<A: Monoid, B: Monoid> Descend<A, B> for SnapshotWalk<'_, A, B> {
+impl<'r, A: Monoid, B: Monoid> SnapshotWalk<WordPass<'r, A, B>, A, B> {
+    // A walk over a snapshot of the pass whose words these are.
+    #[inline(always)]
+    pub(crate) fn of_pass(
+        words: Option<WordPass<'r, A, B>>,
+        snapshot: Snapshot,
+        bits: u32,
+    ) -> SnapshotWalk<WordPass<'r, A, B>, A, B>
+        requires { HasWalk (face A.parts B.parts) words snapshot bits }
+        ensures words { words.entry ≡ Some result.words }
+        ensures snapshot { result.snapshot ≡ snapshot }
+    {
+        let Some(words) = words else { unreachable!() };
+        SnapshotWalk::over(words, snapshot, bits)
+    }
+}
+
+impl<'r, A: Monoid, B: Monoid> SnapshotWalk<CrewWords<'r, A, B>, A, B> {
+    // A walk over the last cut that the crew with this lead knows.
+    #[inline(always)]
+    pub(crate) fn of_crew(
+        lead: Lead<A, B>,
+        words: &'r Words<A, B>,
+        bits: u32,
+    ) -> SnapshotWalk<CrewWords<'r, A, B>, A, B>
+        requires together { AreTogether words.now lead }
+        requires bits { bits ≡ lead.view.shape.bits }
+        ensures words { result.words ≡ lead }
+        ensures newest { NamesRoot lead.view result.snapshot.number }
+        ensures knows { KnowsTable (face A.parts B.parts) lead.view }
+    {
+        let number = lead.root();
+        SnapshotWalk::over(CrewWords { lead, words }, Snapshot { number }, bits)
+    }
+
+    // The lead again.
+    #[inline(always)]
+    pub(crate) fn into_lead(self) -> Lead<A, B>
+        ensures { result ≡ self.entry.words }
+    {
+        let CrewWords { lead, .. } = self.into_words();
+        lead
+    }
+}
+
+impl<W: RecordWords, A: Monoid, B: Monoid> Descend<A, B> for SnapshotWalk<W, A, B> {
     type Name = u64;
 
     ghost use Rattle.aug_trie.specs.inside.SnapshotWalk.{set_seen, IsNamed, KeepsWords};
@@ -101,30 +145,36 @@ impl<A: Monoid, B: Monoid> Descend<A, B> for SnapshotWalk<'_, A, B> {
     #[inline(always)]
     fn left(&mut self, level: u32, place: u32, node: &u64) -> u64 {
         self.loaded.one_node();
-        left_word(&mut self.words, self.snapshot, level, place, *node)
+        left_word::<A, B, W>(&mut self.words, self.snapshot, level, place, *node)
     }
 
     #[inline(always)]
     fn right(&mut self, level: u32, place: u32, node: &u64) -> u64 {
         self.loaded.one_node();
-        right_word(&mut self.words, self.snapshot, level, place, *node)
+        right_word::<A, B, W>(&mut self.words, self.snapshot, level, place, *node)
     }
 
     #[inline(always)]
     fn past_left(&mut self, level: u32, place: u32, node: &u64) -> (u64, u32) {
         self.loaded.one_past();
-        let left = left_word(&mut self.words, self.snapshot, level, place, *node);
-        let passed = count_at(&mut self.words, self.snapshot, level, 2 * place, left);
-        let right = right_word(&mut self.words, self.snapshot, level, place, *node);
+        let left = left_word::<A, B, W>(&mut self.words, self.snapshot, level, place, *node);
+        let passed = count_at::<A, B, W>(&mut self.words, self.snapshot, level, 2 * place, left);
+        let right = right_word::<A, B, W>(&mut self.words, self.snapshot, level, place, *node);
         (right, passed)
     }
 
     #[inline(always)]
     fn past_right(&mut self, level: u32, place: u32, node: &u64) -> (u64, u32) {
         self.loaded.one_past();
-        let right = right_word(&mut self.words, self.snapshot, level, place, *node);
-        let passed = count_at(&mut self.words, self.snapshot, level, 2 * place + 1, right);
-        let left = left_word(&mut self.words, self.snapshot, level, place, *node);
+        let right = right_word::<A, B, W>(&mut self.words, self.snapshot, level, place, *node);
+        let passed = count_at::<A, B, W>(
+            &mut self.words,
+            self.snapshot,
+            level,
+            2 * place + 1,
+            right,
+        );
+        let left = left_word::<A, B, W>(&mut self.words, self.snapshot, level, place, *node);
         (left, passed)
     }
 
@@ -132,16 +182,16 @@ impl<A: Monoid, B: Monoid> Descend<A, B> for SnapshotWalk<'_, A, B> {
     #[inline(always)]
     fn child_past(&mut self, level: u32, place: u32, node: &u64, right: bool) -> (u64, u32) {
         self.loaded.one_past();
-        let low = left_word(&mut self.words, self.snapshot, level, place, *node);
-        let passed = count_at(&mut self.words, self.snapshot, level, 2 * place, low);
-        let high = right_word(&mut self.words, self.snapshot, level, place, *node);
+        let low = left_word::<A, B, W>(&mut self.words, self.snapshot, level, place, *node);
+        let passed = count_at::<A, B, W>(&mut self.words, self.snapshot, level, 2 * place, low);
+        let high = right_word::<A, B, W>(&mut self.words, self.snapshot, level, place, *node);
         if right { (high, passed) } else { (low, 0) }
     }
 
     #[inline(always)]
     fn count(&mut self, level: u32, place: u32, node: &u64) -> u32 {
         self.loaded.one_count();
-        count_at(&mut self.words, self.snapshot, level, place, *node)
+        count_at::<A, B, W>(&mut self.words, self.snapshot, level, place, *node)
     }
 
     #[inline(always)]

@@ -2,8 +2,8 @@
 ghost use Rattle.std.specs.Prelude.{◌≡◌, ◌+◌, ◌-◌, ◌^◌, ◌<◌, ◌≤◌};
 ghost use Rattle.aug_trie.specs.inside.Counted.{insertions_by as insertions, removals_by as removals};
 
-use crate::updates::outcome::Outcome;
 use crate::updates::request::{Request, insertions_by, removals_by};
+use aug_model::Outcome;
 
 // How far a pass is in its lane, and the results of its updates. It goes unchanged from a pass to its half and back, and through the
 // turns of an update. Its fields leave no padding, which would be copied too.

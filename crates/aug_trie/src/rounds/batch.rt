@@ -7,8 +7,8 @@ ghost use Rattle.aug_trie.specs.Pass.{GoesOn};
 
 use crate::rounds::pass::Pass;
 use crate::updates::batch::{at_leaves, propagate_all};
-use crate::updates::outcome::Outcome;
 use crate::updates::request::Request;
+use aug_model::Outcome;
 use aug_monoid::Monoid;
 
 impl<'r, A: Monoid, B: Monoid> Pass<'r, A, B> {

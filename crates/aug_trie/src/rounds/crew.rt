@@ -1,20 +1,25 @@
 //! The crew of a round, which hands its passes out and takes them back.
-ghost use Rattle.std.specs.Prelude.{◌≡◌, ◌↔◌, IsErr, OnErr, IfOk};
-ghost use Rattle.aug_trie.specs.Crew.{HandsOut, TakesBack};
+ghost use Rattle.std.specs.Prelude.{◌≡◌, ◌↔◌, ◌^◌, ◌≤◌, [], IsErr, OnErr, IfOk, vec_capacity};
+ghost use Rattle.aug_query.specs.Tree.{IsTreeSet};
+ghost use Rattle.aug_trie.specs.Crew.{HandsOut, TakesBack, CrewLooks, CrewReads, IsOver, set_of_crew};
+ghost use Rattle.aug_trie.specs.Node.{steps_for};
 ghost use Rattle.aug_trie.specs.Round.{table_of};
 
 use crate::error::CrewError;
+use crate::queries::snapshot_walk::SnapshotWalk;
 use crate::rounds::account::Account;
 use crate::rounds::pass::Pass;
 use crate::rounds::round::Round;
 use aug_monoid::Monoid;
+use aug_query::{Query, descent};
 use aug_words::Lead;
 use std::marker::Model;
 
 /// The crew of a round. It hands the round's passes out, and takes them back.
 #[derive(Drop)]
 pub struct Crew<A: Monoid, B: Monoid> {
-    pub(crate) lead: Lead<A, B>,
+    // What it knows of the words. A query takes it out and puts it back.
+    pub(crate) lead: Option<Lead<A, B>>,
     // How many passes came back, and the keys that they put in and took out. They wrap, which no round comes to: what its
     // words come to at its end says so.
     pub(crate) back: u32,
@@ -25,13 +30,14 @@ pub struct Crew<A: Monoid, B: Monoid> {
 impl<A: Monoid, B: Monoid> Model for Crew<A, B> {
     ghost use Rattle.aug_core.specs.Faces.{face};
     ghost use Rattle.aug_trie.specs.Crew.{CrewFacts};
-    ghost use Rattle.aug_trie.specs.inside.CrewState.{crew_facts, HoldsCrew};
+    ghost use Rattle.aug_trie.specs.inside.CrewState.{crew_facts, HasCrew};
+    ghost use Rattle.aug_trie.specs.inside.PassState.{known_in};
 
     ghost Value = { CrewFacts };
 
-    ghost view = { λ c. crew_facts c.lead };
+    ghost view = { λ c. crew_facts (known_in c.lead) };
 
-    ghost invariant = { λ c. HoldsCrew (face A.parts B.parts) c.lead.view c.back c.inserts c.removals };
+    ghost invariant = { λ c. HasCrew (face A.parts B.parts) c.lead c.back c.inserts c.removals };
 }
 
 impl<A: Monoid, B: Monoid> Crew<A, B> {
@@ -43,11 +49,14 @@ impl<A: Monoid, B: Monoid> Crew<A, B> {
         ensures refused { OnErr result (self.new ≡ self.old) }
         ensures handed { IfOk result (λ pass. HandsOut self.old self.new pass) }
     {
-        let lane = self.lead.handed();
+        let Some(lead) = &mut self.lead else {
+            unreachable!()
+        };
+        let lane = lead.handed();
         if lane == round.layout.workers() {
             return Err(CrewError::NoLane);
         }
-        let words = self.lead.split(&round.words);
+        let words = lead.split(&round.words);
         Ok(Pass {
             words: Some(words),
             account: Account {
@@ -68,16 +77,80 @@ impl<A: Monoid, B: Monoid> Crew<A, B> {
     {
         let Pass { words, account } = pass;
         let Some(words) = words else { unreachable!() };
-        self.lead.join(words);
+        let Some(lead) = &mut self.lead else {
+            unreachable!()
+        };
+        lead.join(words);
         self.back = self.back.wrapping_add(1);
         self.inserts = self.inserts.wrapping_add(account.inserts);
         self.removals = self.removals.wrapping_add(account.removals);
+    }
+
+    /// Loads the root. The crew then knows all that was published, and the set of the last cut is a snapshot.
+    pub fn look(&mut self, round: &Round<A, B>)
+        requires together { table_of self.old.round ≡ round.now }
+        ensures { CrewLooks self.old self.new }
+    {
+        let Some(lead) = &mut self.lead else {
+            unreachable!()
+        };
+        lead.survey(&round.words);
+    }
+
+    /// Asks the set of the last cut that the crew knows. It makes as many steps as [`Pass::ask`] with the same query.
+    pub fn ask<Q: Query<A, B>>(&mut self, round: &Round<A, B>, query: Q) -> Q::Answer
+        requires together { table_of self.old.round ≡ round.now }
+        ensures answer { Q.Answers query (set_of_crew self.old) result }
+        ensures reads { CrewReads (steps_for (Q.most query (set_of_crew self.old))) self.old self.new }
+    {
+        let Some(lead) = self.lead.take() else {
+            unreachable!()
+        };
+        let mut walk = SnapshotWalk::of_crew(lead, &round.words, round.layout.bits());
+        let answer = query.run(&mut walk);
+        self.lead = Some(walk.into_lead());
+        answer
+    }
+
+    // Lists that set. The list is empty, and has room for all keys.
+    pub(crate) fn list(&mut self, round: &Round<A, B>, list: &mut Vec<(u32, u32)>)
+        requires together { table_of self.old.round ≡ round.now }
+        requires empty { list.old.items ≡ [] }
+        requires room { 2 ^ self.old.round.bits ≤ vec_capacity list.old }
+        ensures same { self.new ≡ record self.old { steps = self.new.steps } }
+        ensures set { list.new.items ≡ (set_of_crew self.old).pairs }
+        ensures is_set { IsTreeSet (set_of_crew self.old) }
+        ensures room { vec_capacity list.new ≡ vec_capacity list.old }
+    {
+        let Some(lead) = self.lead.take() else {
+            unreachable!()
+        };
+        let mut walk = SnapshotWalk::of_crew(lead, &round.words, round.layout.bits());
+        descent::put_pairs(&mut walk, list);
+        self.lead = Some(walk.into_lead());
+    }
+
+    /// Closes the account of the round, to which all passes have come back, with a load of the root: how many keys the round put in, and how many it took
+    /// out. Its table is still there afterwards, and the crew knows all of the round's history.
+    pub fn over(&mut self, round: &Round<A, B>) -> (u32, u32)
+        requires together { table_of self.old.round ≡ round.now }
+        requires all_back { self.old.back ≡ self.old.handed }
+        ensures { IsOver self.old self.new result.0 result.1 }
+    {
+        let Some(lead) = &mut self.lead else {
+            unreachable!()
+        };
+        lead.survey(&round.words);
+        (self.inserts, self.removals)
     }
 
     /// How many passes were handed out.
     pub fn handed(&self) -> u32
         ensures { result ≡ self.now.handed }
     {
-        self.lead.handed()
+        match &self.lead {
+            Some(lead) => lead.handed(),
+            None => unreachable!(),
+        }
     }
 }

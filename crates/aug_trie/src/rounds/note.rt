@@ -104,8 +104,11 @@ impl<A: Monoid, B: Monoid> Crew<A, B> {
         ensures same { self.new ≡ self.old }
         ensures note { result ≡ record { round = self.old.round; past = self.old.past; history = self.old.knows.history } }
     {
+        let Some(lead) = &mut self.lead else {
+            unreachable!()
+        };
         Note {
-            words: self.lead.note(&round.words),
+            words: lead.note(&round.words),
             sums: PhantomData,
         }
     }
@@ -121,6 +124,9 @@ impl<A: Monoid, B: Monoid> Crew<A, B> {
             words: noted,
             sums: _,
         } = note;
-        self.lead.learn(&round.words, noted);
+        let Some(lead) = &mut self.lead else {
+            unreachable!()
+        };
+        lead.learn(&round.words, noted);
     }
 }

@@ -4,12 +4,8 @@ ghost use Rattle.aug_monoid.specs.Weighted.{FitsPair};
 ghost use Rattle.aug_model.specs.Keys.{IsKeySet, keys_of};
 ghost use Rattle.aug_core.specs.Layout.{IsLayout, IsWithin, IsOutside, IsRefused};
 ghost use Rattle.aug_core.specs.Places.{shape_of};
-ghost use Rattle.aug_core.specs.Faces.{face};
-ghost use Rattle.aug_core.specs.Renewals.{HoldsAll};
-ghost use Rattle.aug_words.specs.Seats.{AreTogether};
 ghost use Rattle.aug_trie.specs.Crew.{BeginsIn, CrewFacts, Ends, RollsOver};
 ghost use Rattle.aug_trie.specs.Round.{table_of};
-ghost use Rattle.aug_trie.specs.inside.RestWalks.{ListsRest};
 
 use crate::error::BeginError;
 use crate::rounds::crew::Crew;
@@ -17,11 +13,10 @@ use crate::rounds::ended::Ended;
 use crate::rounds::half::PassHalf;
 use crate::rounds::members::Members;
 use crate::rounds::pass::Pass;
-use crate::rounds::rest_walk::RestWalk;
 use aug_core::{Layout, LayoutError};
 use aug_monoid::Monoid;
-use aug_query::{Loaded, descent, pairs};
-use aug_words::{IdleLead, Lead, Words};
+use aug_query::pairs;
+use aug_words::Words;
 use std::alloc::{AllocError, Global};
 use std::marker::Model;
 
@@ -186,7 +181,7 @@ impl<A: Monoid, B: Monoid> Round<A, B> {
     {
         let (words, lead) = Words::open(alloc, &layout, members)?;
         let crew = Crew {
-            lead,
+            lead: Some(lead),
             back: 0,
             inserts: 0,
             removals: 0,
@@ -209,6 +204,7 @@ impl<A: Monoid, B: Monoid> Round<A, B> {
             inserts,
             removals,
         } = crew;
+        let Some(lead) = lead else { unreachable!() };
         let handed = lead.handed();
         let mut ended = Ended::at_rest(words, lead, layout.bits());
         ended.inserts = inserts;
@@ -231,16 +227,15 @@ impl<A: Monoid, B: Monoid> Round<A, B> {
         ensures fit { All FitsPair list.new.items }
         ensures list_room { vec_capacity list.new ≡ vec_capacity list.old }
     {
-        let Crew {
-            lead,
-            back: _,
-            inserts,
-            removals,
-        } = crew;
-        let idle = rest_and_list(&self.words, lead, self.layout.bits(), list);
+        let mut crew = crew;
+        let (inserts, removals) = crew.over(self);
+        crew.list(self, list);
+        let Crew { lead, .. } = crew;
+        let Some(lead) = lead else { unreachable!() };
+        let (idle, _) = self.words.rest(lead);
         let lead = self.words.open_again(idle, list.as_slice());
         let crew = Crew {
-            lead,
+            lead: Some(lead),
             back: 0,
             inserts: 0,
             removals: 0,
@@ -278,36 +273,4 @@ impl<A: Monoid, B: Monoid> Round<A, B> {
             account,
         }
     }
-}
-
-// Brings the table of a round to rest to which all passes have come back, and lists its set in a list that is empty and has room for it.
-fn rest_and_list<A: Monoid, B: Monoid>(
-    words: &Words<A, B>,
-    lead: Lead<A, B>,
-    bits: u32,
-    list: &mut Vec<(u32, u32)>,
-) -> IdleLead<A, B>
-    requires bits { bits ≡ words.now.shape.bits }
-    requires together { AreTogether words.now lead }
-    requires all { HoldsAll lead.view }
-    requires empty { list.old.items ≡ [] }
-    requires room { 2 ^ words.now.shape.bits ≤ vec_capacity list.old }
-    ensures table { result.table ≡ words.now.table }
-    ensures shape { result.view.shape ≡ words.now.shape }
-    ensures lists { ListsRest (face A.parts B.parts) lead.view result.view.era result.view.past list.new.items }
-    ensures keys { IsKeySet words.now.shape.bits (keys_of list.new.items) }
-    ensures fit { All FitsPair list.new.items }
-    ensures room { vec_capacity list.new ≡ vec_capacity list.old }
-{
-    let (idle, root) = words.rest(lead);
-    let mut walk = RestWalk {
-        words,
-        idle,
-        root,
-        bits,
-        loaded: Loaded::nothing(),
-    };
-    descent::put_pairs(&mut walk, list);
-    let RestWalk { idle, .. } = walk;
-    idle
 }

@@ -1,7 +1,7 @@
 //! Updates by single turns.
 ghost use Rattle.std.specs.Prelude.{◌≡◌, ℕ, ◌+◌, ◌-◌, ◌*◌, ◌^◌, ◌<◌, ◌≤◌};
 ghost use Rattle.aug_model.specs.Folds.{summary_of};
-ghost use Rattle.aug_trie.specs.declared.updates.outcome.Outcome.{Outcome as OutcomeFacts};
+ghost use Rattle.aug_model.specs.declared.outcome.Outcome.{Outcome as OutcomeFacts};
 ghost use Rattle.aug_core.specs.Layout.{IsWithin};
 ghost use Rattle.aug_trie.specs.Pass.{PassFacts, most_update_steps};
 ghost use Rattle.aug_trie.specs.inside.Goes.{part_words, try_steps};
@@ -16,10 +16,10 @@ use crate::rounds::pass::Pass;
 use crate::turns::ascents::Ascent;
 use crate::turns::points::{Point, READING_WORDS};
 use crate::turns::stages::{Next, Stage, next_stage};
-use crate::updates::outcome::Outcome;
 use crate::updates::parts::PART_WORDS;
 use crate::updates::refreshing::PUBLISH_STEPS;
 use crate::updates::request::Request;
+use aug_model::Outcome;
 use aug_monoid::Monoid;
 use aug_words::WordPass;
 use std::marker::Model;

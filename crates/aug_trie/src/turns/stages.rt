@@ -8,9 +8,9 @@ ghost use Rattle.aug_trie.specs.Requests.{word_after as word_of_request};
 ghost use Rattle.aug_trie.specs.inside.Stages.{StageAt, Climbs, StageFalls};
 
 use crate::turns::ascents::{Ascent, ascend};
-use crate::updates::outcome::Outcome;
 use crate::updates::request::Request;
 use crate::updates::update::{at_once, goes_on, outcome_of, word_after};
+use aug_model::Outcome;
 use aug_monoid::Monoid;
 use aug_words::WordPass;
 

@@ -11,10 +11,10 @@ ghost use Rattle.aug_trie.specs.inside.Counted.{HasCounts};
 ghost use Rattle.aug_trie.specs.inside.PassState.{IsPass};
 
 use crate::rounds::account::Account;
-use crate::updates::outcome::Outcome;
 use crate::updates::propagate::propagate;
 use crate::updates::request::Request;
 use crate::updates::update::{at_once, goes_on, outcome_of, word_after};
+use aug_model::Outcome;
 use aug_monoid::Monoid;
 use aug_words::WordPass;
 

@@ -2,7 +2,7 @@
 ghost use Rattle.std.specs.Prelude.{◌≡◌, ◌≤◌};
 ghost use Rattle.aug_trie.specs.inside.Counted.{insertions_by as insertions, removals_by as removals};
 
-use crate::updates::outcome::Outcome;
+use aug_model::Outcome;
 
 /// What an update does to its key.
 #[derive(Clone, Copy)]

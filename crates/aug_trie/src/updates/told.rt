@@ -3,7 +3,7 @@ ghost use Rattle.std.specs.Prelude.{◌≡◌};
 ghost use Rattle.aug_trie.specs.Requests.{weight_told};
 
 use crate::updates::leaf_words::{leaf_serial, leaf_weight};
-use crate::updates::outcome::Outcome;
+use aug_model::Outcome;
 
 /// What an update came to, and the weights that it tells of its key. Nobody changed the key between the one and the other, so that the amounts which the
 /// updates of a key took and added are those by which these differ.

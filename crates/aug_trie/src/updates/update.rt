@@ -3,17 +3,17 @@ ghost use Rattle.std.specs.Prelude.{◌≡◌, ℕ, ◌+◌, ◌*◌, ◌^◌, �
 ghost use Rattle.aug_core.specs.Faces.{face};
 ghost use Rattle.aug_core.specs.Counts.{changes_of};
 ghost use Rattle.aug_core.specs.Effects.{KnowsTable};
-ghost use Rattle.aug_trie.specs.declared.updates.outcome.Outcome.TheVariants as outcome;
+ghost use Rattle.aug_model.specs.declared.outcome.Outcome.TheVariants as outcome;
 ghost use Rattle.aug_trie.specs.inside.Climbing.{UpdatedFrom, FitsRequest};
 ghost use Rattle.aug_trie.specs.inside.Goes.{HasLeaves, HasRoom};
 ghost use Rattle.aug_trie.specs.LeafWords.{serial_in_word};
 ghost use Rattle.aug_trie.specs.Requests.{goes_from, outcome_by, outcome_at_once, word_after as word_of_request, word_left};
 
 use crate::updates::leaf_words::{leaf_serial, leaf_weight, leaf_word};
-use crate::updates::outcome::Outcome;
 use crate::updates::propagate::propagate;
 use crate::updates::request::Request;
 use crate::updates::told::LeafUpdate;
+use aug_model::Outcome;
 use aug_monoid::Monoid;
 use aug_words::WordPass;
 

@@ -5,13 +5,14 @@ use Rattle.aug_core.specs.Places.{Shape, lane_place, record_start, word_count}
 use Rattle.aug_core.specs.Layout.{IsLayout}
 use Rattle.aug_core.specs.Lanes.{block_size}
 use Rattle.aug_core.specs.Book.{At}
-use Rattle.aug_core.specs.Opening.{Opening}
+use Rattle.aug_core.specs.Opening.{Opening, shared_words}
 use Rattle.aug_core.specs.Effects.{Sat, HoldsOnly, KnowsTable}
 use Rattle.aug_core.specs.declared.view.Entry.{Entry}
 use Rattle.aug_core.specs.declared.view.Held.{Held}
 use Rattle.aug_core.specs.declared.view.SeatView.{SeatView}
 use Rattle.aug_core.specs.declared.view.LaneState.TheVariants.{Taken}
 use Rattle.aug_words.specs.Seats.{NamesRoot}
+use Rattle.aug_words.specs.inside.Builds.{AreWords}
 
 -- what a table's fields keep: it was made with this layout, and its lanes and records begin at these words
 pub record IsStore (table : TableId) (made : Opening) (layout : Shape) (lanes records : ℕ) : Type 0 where
@@ -21,10 +22,6 @@ pub record IsStore (table : TableId) (made : Opening) (layout : Shape) (lanes re
   pub no_slots : table.slots ≡ 0
   pub lanes_are : lanes ≡ lane_place layout 0
   pub records_are : records ≡ record_start layout 0
-
--- room for the words with which a table is opened again
-abbrev pub IsDraft : Shape → List ℕ → Type 0
-IsDraft s draft = length draft ≡ word_count record s { updates = 1 }
 
 -- a seat sits at its table, whose lanes and records begin at these words
 pub record SitsAt (seat_table table : TableId) (lanes records : ℕ) (s : Shape) : Type 0 where
@@ -58,19 +55,17 @@ module _ (face : ℕ → ℕ → List (ℕ × ℕ) → List ℕ) where
     pub exists : lane < me.0.shape.workers
     pub knows : KnowsTable face me.0
 
-  -- what holds for the seat of a lead: it hands out the lanes from the next one on, knows its table, and has the number of the root's newest record; and
-  -- what lies beside it is a draft
-  pub record IsLeadSeat (next root : ℕ) (draft : List ℕ) (me : Sat) : Type 0 where
+  -- what holds for the seat of a lead: it hands out the lanes from the next one on, knows its table, and has the number of the root's newest record
+  pub record IsLeadSeat (next root : ℕ) (me : Sat) : Type 0 where
     pub live : me.0.live ≡ true
     pub no_slot : me.1 ≡ []
     pub hands_out : me.0.spare ≡ Some next
     pub knows : KnowsTable face me.0
     pub names_root : NamesRoot me.0 root
-    pub drafts : IsDraft me.0.shape draft
 
--- what holds for the seat of a lead at rest: it renews the table, and knows all words; and what lies beside it is a draft
-pub record IsIdleSeat (draft : List ℕ) (me : Sat) : Type 0 where
-  pub renews : me.0.renews ≡ true
-  pub no_slot : me.1 ≡ []
-  pub wide : length me.0.words ≡ word_count me.0.shape
-  pub drafts : IsDraft me.0.shape draft
+  -- what holds for the seat of a lead at rest: it renews the table, and knows all words, in which each level has its shared record
+  pub record IsIdleSeat (me : Sat) : Type 0 where
+    pub renews : me.0.renews ≡ true
+    pub no_slot : me.1 ≡ []
+    pub wide : length me.0.words ≡ word_count me.0.shape
+    pub shared : (level : ℕ) → level < me.0.shape.bits → AreWords me.0.words (record_start me.0.shape level) (shared_words face level)

@@ -1,7 +1,7 @@
 use Rattle.std.proofs.Common.{◌≡◌, ◌≤◌, ◌∙◌, ◌∷◌, [], length, take, get_or, ap, arith}
 use Rattle.std.proofs.lemmas.List.{take_all, take_more}
-use Rattle.aug_trie.specs.declared.updates.outcome.Outcome.{Outcome}
-use Rattle.aug_trie.specs.declared.updates.outcome.Outcome.TheVariants.{Accepted}
+use Rattle.aug_model.specs.declared.outcome.Outcome.{Outcome}
+use Rattle.aug_model.specs.declared.outcome.Outcome.TheVariants.{Accepted}
 use Rattle.aug_c.specs.ArrayCalls.{change_by, changes}
 use Rattle.aug_c.proofs.Turns.{changes-append}
 use Rattle.aug_c.proofs.array_updates.changed_in.Goals as goal

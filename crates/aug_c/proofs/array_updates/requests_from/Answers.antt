@@ -9,7 +9,7 @@ pub loop-place-preserved : goal.loop-place-preserved
 loop-place-preserved c = let inv = c.loop-place.invariant in let place = c.loop-place.place in let requests = c.loop-place.requests in let all = inv.long in
     let test = c.loop-place-test.true in let few = c.min-place-end.ensures in let long : place < length requests = omega (arith, all, test, few) in record {
       asks = λ i below. ⊎_elim
-          (λ (same : i ≡ place). subst (λ (z : ℕ). get_or (set requests place c.request.result) z Insert ≡ requests_of c.args.each c.args.weights.now (c.args.first + z)) (sym same) (get_or-set_same requests place c.request.result Insert long ∙ c.request.ensures))
-          (λ other. get_or-set_other requests place i c.request.result Insert other ∙ inv.asks i (omega (arith, below, other))) (cases_eq i place);
-      long = length-set requests place c.request.result ∙ all;
+          (λ (same : i ≡ place). subst (λ (z : ℕ). get_or (set requests place c.with_weight.result) z Insert ≡ requests_of c.args.each c.args.weights.now (c.args.first + z)) (sym same) (get_or-set_same requests place c.with_weight.result Insert long ∙ c.with_weight.ensures))
+          (λ other. get_or-set_other requests place i c.with_weight.result Insert other ∙ inv.asks i (omega (arith, below, other))) (cases_eq i place);
+      long = length-set requests place c.with_weight.result ∙ all;
     }

@@ -3,7 +3,7 @@ use Rattle.std.proofs.lemmas.List.{length-map}
 use Rattle.aug_model.specs.declared.difference.Difference.{Difference}
 use Rattle.aug_live.specs.LiveHandles.{set_before, set_of_look}
 use Rattle.aug_c.specs.ChangeCalls.{change_of, page_from}
-use Rattle.aug_c.specs.declared.changes.Change.{Change}
+use Rattle.aug_c.specs.declared.changes.WeightChange.{WeightChange}
 use Rattle.aug_c.proofs.changes.page_of.Goals as goal
 
 pub returns : goal.returns
@@ -12,8 +12,8 @@ returns c =
     let page : map change_of items ≡ page_from (set_before c.args.look.now) (set_of_look c.args.look.now) c.args.from = ap (map change_of) (c.as_slice.ensures.value ∙ c.changes-page.ensures.answer) in record {
       count = c.put.result;
       says = search rules;
-      counts = put.counts ∙ ap (min (length out)) (sym (length-map items change_of) ∙ ap (λ (xs : List Change). length xs) page);
-      written = put.written ∙ ap (λ (xs : List Change). take c.put.result xs ++ drop c.put.result out) page;
+      counts = put.counts ∙ ap (min (length out)) (sym (length-map items change_of) ∙ ap (λ (xs : List WeightChange). length xs) page);
+      written = put.written ∙ ap (λ (xs : List WeightChange). take c.put.result xs ++ drop c.put.result out) page;
       most = _;
       asked = c.changes-page.ensures.asked;
     }

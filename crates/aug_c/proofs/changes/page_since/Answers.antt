@@ -2,7 +2,7 @@ use Rattle.std.proofs.Common.{rules, ◌≡◌, ◌∙◌, ◌++◌, List, lengt
 use Rattle.std.proofs.lemmas.List.{length-map}
 use Rattle.aug_live.specs.LiveHandles.{set_of_look}
 use Rattle.aug_c.specs.ChangeCalls.{change_of, page_from, set_of_arrays}
-use Rattle.aug_c.specs.declared.changes.Change.{Change}
+use Rattle.aug_c.specs.declared.changes.WeightChange.{WeightChange}
 use Rattle.aug_c.proofs.changes.page_since.Goals as goal
 
 pub returns : goal.returns
@@ -16,8 +16,8 @@ returns c =
       lists = λ _ _. record {
         count = c.put.result;
         says = search rules;
-        counts = put.counts ∙ ap (min (length out)) (sym (length-map items change_of) ∙ ap (λ (xs : List Change). length xs) page);
-        written = put.written ∙ ap (λ (xs : List Change). take c.put.result xs ++ drop c.put.result out) page;
+        counts = put.counts ∙ ap (min (length out)) (sym (length-map items change_of) ∙ ap (λ (xs : List WeightChange). length xs) page);
+        written = put.written ∙ ap (λ (xs : List WeightChange). take c.put.result xs ++ drop c.put.result out) page;
         most = _;
         asked = c.changes_since-page.ensures.asked;
       };

@@ -1,12 +1,7 @@
-use Rattle.std.proofs.Common.{rules, ◌≡◌, subst}
-use Rattle.aug_c.specs.Codes.{again}
-use Rattle.aug_c.specs.Handles.{trie_of}
-use Rattle.aug_c.specs.TrieCalls.{ClosesTrie}
-use Rattle.aug_c.specs.declared.seat.Opened.{Opened}
+use Rattle.std.proofs.Common.{rules, ap}
+use Rattle.aug_c.specs.Handles.{state_in, state_of}
 use Rattle.aug_c.proofs.Opening.{goes_on}
 use Rattle.aug_c.proofs.trie_calls.aug_try_close.Goals as goal
 
 pub returns-in-Err-clause-closes : goal.returns-in-Err-clause-closes
-returns-in-Err-clause-closes c old is = let same : c.in-Some.old ≡ old = search rules in
-    subst (λ (o : Opened). ClosesTrie o (trie_of c.give.new.self) c.args.out.now c.args.out.now again) same
-    (goes_on c.in-Some.old (record { live = c.in-Err.live; spare = c.in-Some.old.spare }) (trie_of c.give.new.self) c.args.out.now c.give.ensures c.in-Err.ensures.more (search rules))
+returns-in-Err-clause-closes c _ = goes_on c.in-Trie.opened (record { live = c.in-Err.live; spare = c.in-Trie.opened.spare }) (state_of c.args.trie.now) c.put.new.self c.args.out.now (search rules) (ap state_in c.put.ensures.value) c.put.ensures.mark c.in-Err.ensures.goes_on.more (search rules)

@@ -3,4 +3,4 @@ use Rattle.std.specs.Arc.{arc_value}
 use Rattle.aug_live.proofs.rolling.next_round.Given as goal
 
 abbrev pub invariant-loop : goal.invariant-loop
-invariant-loop g l = All (λ s. arc_value s ≡ arc_value l.round) l.shares.items × (vec_len l.shares ≡ l.counter) × (l.handles ≤ vec_capacity l.shares)
+invariant-loop g l = All (λ s. s ≡ (arc_value l.round, (arc_value l.desk).table.shared.table_id)) l.shares.items × (vec_len l.shares ≡ l.counter) × (l.handles ≤ vec_capacity l.shares)

@@ -2,4 +2,4 @@ use Rattle.aug_live.proofs.Lanes.{ids_more}
 use Rattle.aug_live_crowd_tests.proofs.telling.waits.Goals as goal
 
 pub returns-clause-ids : goal.returns-clause-ids
-returns-clause-ids c = ids_more c.args.live.now c.try_roll.new.self c.try_roll.ensures.more
+returns-clause-ids c = ids_more c.args.live.now c.try_roll.new.self c.try_roll.ensures.goes_on.more

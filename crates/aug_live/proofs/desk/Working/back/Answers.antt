@@ -2,6 +2,7 @@ use Rattle.std.proofs.Common.{◌≡◌, ◌≢◌, ◌⊎◌, false, ◌-◌, �
 use Rattle.std.specs.Arc.{arc_value}
 use mathlib.Core.Option.{some}
 use lib.ListN.{get_elem?}
+use Rattle.aug_core.proofs.PrefixLemmas.{prefix_refl}
 use Rattle.aug_trie.proofs.Chaining.{part_refl}
 use Rattle.aug_trie.specs.Crew.{crew_chain}
 use Rattle.aug_live.specs.LiveErrors.{RefusesBack}
@@ -11,7 +12,7 @@ use Rattle.aug_live.specs.inside.LaneKnowledge.{EndFacts, is_out_by, lane_by, ta
 use Rattle.aug_live.specs.inside.Rolls.{IsOf, kept_of, rounds_in}
 use Rattle.aug_live.specs.declared.known.Whose.TheVariants.{Roller, Idle}
 use Rattle.aug_live.proofs.Accounting.{accounts_kept}
-use Rattle.aug_live.proofs.Counted.{desk_on}
+use Rattle.aug_live.proofs.Counted.{desk_keeps}
 use Rattle.aug_live.proofs.Dealing.{port_rolls, taken_counts}
 use Rattle.aug_live.proofs.Desks.{kept_on, lanes_settled, no_lanes, ports_many, settled, unsettled}
 use Rattle.aug_live.proofs.Carries.{why_map}
@@ -102,11 +103,11 @@ invariant_of-self-in-Err g c =
 lane_done : (old port end : EndFacts) → kept_of port ≡ kept_of (record old { known = record (taken_in old.known end.known) { whose = Idle } }) → LaneGoesOn (lane_by old) (lane_by port)
 lane_done old port end kept = record { id = ap (λ (e : EndFacts). e.lock) kept; number = (let is = ap (λ (e : EndFacts). e.known.number) kept in omega arith); done = ((true, end.known.made) ∷ [], ap (λ (e : EndFacts). e.known.done) kept) }
 
-pub returns-in-Ok-clause-more : goal.returns-in-Ok-clause-more
-returns-in-Ok-clause-more g c =
+pub returns-in-Ok-clause-goes_on : goal.returns-in-Ok-clause-goes_on
+returns-in-Ok-clause-goes_on g c =
     let inv = c.self.invariant in let w = c.self.inside in let few : vec_len w.held ≡ 0 = ap (λ (z : TrieFacts). z.held) c.self.view_is ∙ c.requires.settled in let none : length w.held.items ≡ 0 = omega (arith, few) in
     let was = settled w.ports.items w.held.items (vec_len w.ports) (vec_len w.held) none few inv.0 in let many = ports_many c.args.self.now w.ports.items w.held.items none (ap (λ (z : TrieFacts). z.lanes) c.self.view_is) in let low : c.args.lane < length w.ports.items = omega (arith, many, c.requires.lane) in
-    desk_on _ (arc_value w.round) w.crew w.crew _ _ c.self.view_is
+    desk_keeps _ (arc_value w.round) w.crew w.crew _ _ c.self.view_is
     (lanes_settled w.ports.items c.put_in.new.ports.items w.held.items none (lanes_on w.ports.items _ _ c.args.lane c.remove.result c.in-Ok.port low c.remove.ensures.value c.remove.ensures.items c.put_in.ensures.items (lane_done c.remove.result c.in-Ok.port c.args.end c.in-Ok.ensures.done)))
     (part_refl (crew_chain w.crew))
 
@@ -116,20 +117,23 @@ returns-in-Ok-clause-takes g c =
     let was = settled w.ports.items w.held.items (vec_len w.ports) (vec_len w.held) none few inv.0 in let many = ports_many c.args.self.now w.ports.items w.held.items none (ap (λ (z : TrieFacts). z.lanes) c.self.view_is) in let low : c.args.lane < length w.ports.items = omega (arith, many, c.requires.lane) in
     let old = c.remove.result in let port = c.in-Ok.port in
     let stood = subst (λ (z : List EndFacts). get_elem? (map lane_by z) c.args.lane ≡ some (lane_by old)) (sym (no_lanes w.ports.items w.held.items none)) (lane_stood w.ports.items c.args.lane old low c.remove.ensures.value) in record {
+      number = c.args.lane;
       lane = lane_by old;
       later = lane_by port;
       was = subst (λ (z : TrieFacts). get_elem? z.lanes c.args.lane ≡ some (lane_by old)) c.self.view_is stood;
       is = subst (λ (z : List EndFacts). get_elem? (map lane_by z) c.args.lane ≡ some (lane_by port)) (sym (no_lanes c.put_in.new.ports.items w.held.items none))
           (lane_is w.ports.items _ _ c.args.lane old port low c.remove.ensures.value c.remove.ensures.items c.put_in.ensures.items);
+      before = old.known.done;
+      goes_on = prefix_refl old.known.done;
       done = ap (λ (e : EndFacts). e.known.done) c.in-Ok.ensures.done;
     }
 
-pub returns-in-Err-clause-more : goal.returns-in-Err-clause-more
-returns-in-Err-clause-more g c =
+pub returns-in-Err-clause-goes_on : goal.returns-in-Err-clause-goes_on
+returns-in-Err-clause-goes_on g c =
     let inv = c.self.invariant in let w = c.self.inside in let few : vec_len w.held ≡ 0 = ap (λ (z : TrieFacts). z.held) c.self.view_is ∙ c.requires.settled in let none : length w.held.items ≡ 0 = omega (arith, few) in
     let was = settled w.ports.items w.held.items (vec_len w.ports) (vec_len w.held) none few inv.0 in let many = ports_many c.args.self.now w.ports.items w.held.items none (ap (λ (z : TrieFacts). z.lanes) c.self.view_is) in let low : c.args.lane < length w.ports.items = omega (arith, many, c.requires.lane) in
     let same = as_before w.ports.items _ _ c.args.lane c.remove.result c.in-Err.port low c.remove.ensures.value c.remove.ensures.items c.put_in-in-Err.ensures.items c.in-Err.ensures.kept.0 in
-    desk_on _ (arc_value w.round) w.crew w.crew _ _ c.self.view_is (lanes_settled w.ports.items c.put_in-in-Err.new.ports.items w.held.items none (lanes_same _ _ (ap (map lane_by) same))) (part_refl (crew_chain w.crew))
+    desk_keeps _ (arc_value w.round) w.crew w.crew _ _ c.self.view_is (lanes_settled w.ports.items c.put_in-in-Err.new.ports.items w.held.items none (lanes_same _ _ (ap (map lane_by) same))) (part_refl (crew_chain w.crew))
 
 pub returns-in-Err-clause-refused : goal.returns-in-Err-clause-refused
 returns-in-Err-clause-refused g c =

@@ -8,17 +8,17 @@ use Rattle.aug_live.specs.LiveTries.{TrieFacts}
 use Rattle.aug_live.specs.inside.LaneKnowledge.{lane_by}
 use Rattle.aug_live.specs.inside.Rolls.{IsOf, kept_of, rounds_in}
 use Rattle.aug_live.proofs.Accounting.{accounts_kept}
-use Rattle.aug_live.proofs.Counted.{crew_part, desk_on}
+use Rattle.aug_live.proofs.Counted.{crew_part, desk_keeps}
 use Rattle.aug_live.proofs.Desks.{kept_on, lanes_settled, settled, unsettled}
-use Rattle.aug_live.proofs.Lanes.{lane_same, lanes_same, more_self}
+use Rattle.aug_live.proofs.Lanes.{lane_same, lanes_same, keeps_self}
 use Rattle.aug_live.proofs.OneLane.{all_ports, as_before, gave_on, lanes_on}
 use Rattle.aug_live.proofs.desk.Working.goes_on.Goals as goal
 
 pub returns-then-self-era : goal.returns-then-self-era
-returns-then-self-era g c = record { more = more_self c.args.self.now; given = refl }
+returns-then-self-era g c = record { goes_on = keeps_self c.args.self.now }
 
 pub returns-then-handed-self : goal.returns-then-handed-self
-returns-then-handed-self g c = record { more = more_self c.args.self.now; given = refl }
+returns-then-handed-self g c = record { goes_on = keeps_self c.args.self.now }
 
 pub replace-requires-clause-of_round : goal.replace-requires-clause-of_round
 replace-requires-clause-of_round g c =
@@ -77,19 +77,23 @@ invariant_of-self-in-Err g c =
       inv.7,
     )
 
-pub returns-in-Ok-clause-more : goal.returns-in-Ok-clause-more
-returns-in-Ok-clause-more g c =
+pub returns-in-Ok : goal.returns-in-Ok
+returns-in-Ok g c =
     let w = c.self.inside in let next = c.in-Ok.ensures in let old = c.remove.result in let low : c.args.lane < length w.ports.items = omega arith in
     let few : vec_len w.held ≡ 0 = ap (λ (z : TrieFacts). z.held) c.self.view_is ∙ c.requires.settled in let none : length w.held.items ≡ 0 = omega (arith, few) in
-    desk_on _ (arc_value w.round) w.crew c.replace.new.crew _ _ c.self.view_is
-    (lanes_settled w.ports.items c.put_in.new.ports.items w.held.items none (lanes_on w.ports.items _ _ c.args.lane old c.in-Ok.port low c.remove.ensures.value c.remove.ensures.items c.put_in.ensures.items (lane_same _ _ (ap lane_by next.changes.2))))
-    (crew_part w.crew c.replace.new.crew next.round next.goes_on)
+    record {
+      goes_on = desk_keeps _ (arc_value w.round) w.crew c.replace.new.crew _ _ c.self.view_is
+          (lanes_settled w.ports.items c.put_in.new.ports.items w.held.items none (lanes_on w.ports.items _ _ c.args.lane old c.in-Ok.port low c.remove.ensures.value c.remove.ensures.items c.put_in.ensures.items (lane_same _ _ (ap lane_by next.changes.2))))
+          (crew_part w.crew c.replace.new.crew next.round next.goes_on);
+    }
 
-pub returns-in-Err-clause-more : goal.returns-in-Err-clause-more
-returns-in-Err-clause-more g c =
+pub returns-in-Err : goal.returns-in-Err
+returns-in-Err g c =
     let w = c.self.inside in let next = c.in-Err.ensures.same in let old = c.remove.result in let low : c.args.lane < length w.ports.items = omega arith in
     let few : vec_len w.held ≡ 0 = ap (λ (z : TrieFacts). z.held) c.self.view_is ∙ c.requires.settled in let none : length w.held.items ≡ 0 = omega (arith, few) in
     let same = as_before w.ports.items _ _ c.args.lane old c.in-Err.port low c.remove.ensures.value c.remove.ensures.items c.put_in-in-Err.ensures.items next.0 in
-    desk_on _ (arc_value w.round) w.crew c.replace.new.crew _ _ c.self.view_is
-    (lanes_settled w.ports.items c.put_in-in-Err.new.ports.items w.held.items none (lanes_same _ _ (ap (map lane_by) same)))
-    (subst (λ (z : CrewFacts). IsPart (crew_chain w.crew) (crew_chain z)) (sym next.1) (part_refl (crew_chain w.crew)))
+    record {
+      goes_on = desk_keeps _ (arc_value w.round) w.crew c.replace.new.crew _ _ c.self.view_is
+          (lanes_settled w.ports.items c.put_in-in-Err.new.ports.items w.held.items none (lanes_same _ _ (ap (map lane_by) same)))
+          (subst (λ (z : CrewFacts). IsPart (crew_chain w.crew) (crew_chain z)) (sym next.1) (part_refl (crew_chain w.crew)));
+    }

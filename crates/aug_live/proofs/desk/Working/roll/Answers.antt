@@ -9,15 +9,15 @@ use Rattle.aug_live.specs.inside.Rolls.{HasEnded, IsBackIn, IsOf, rounds_in}
 use Rattle.aug_live.specs.LiveTries.{LanesGoOn}
 use Rattle.aug_trie.specs.Crew.{crew_chain}
 use Rattle.aug_trie.proofs.Chaining.{part_refl, part_trans}
-use Rattle.aug_live.proofs.Counted.{crew_part, desk_on, exhausted_so, rolled_part}
+use Rattle.aug_live.proofs.Counted.{crew_part, desk_keeps, exhausted_so, rolled_part}
 use Rattle.aug_live.proofs.Desks.{all_taken, kept_taken, may_take, no_lanes, rolled_on, taken_of, unsettled}
-use Rattle.aug_live.proofs.Lanes.{lanes_same, more_self, rolled_lanes}
+use Rattle.aug_live.proofs.Lanes.{lanes_same, keeps_self, rolled_lanes}
 use Rattle.aug_live.proofs.Moving.{all_ended, next_led}
 use Rattle.aug_live.proofs.desk.Working.roll.Goals as goal
 use Rattle.aug_live.proofs.desk.Working.roll.Goals.{then-counts-via-then-counts, then-counts-via-else-counts+then-counts-gt-MOST_BEFORE, then-counts-via-else-counts+else-counts-gt-MOST_BEFORE+then-counts-gt-MOST_BEFORE-2}
 
-pub returns-then-counts-clause-more : goal.returns-then-counts-clause-more
-returns-then-counts-clause-more g c = more_self c.args.self
+pub returns-then-counts-clause-goes_on : goal.returns-then-counts-clause-goes_on
+returns-then-counts-clause-goes_on g c = keeps_self c.args.self
 
 pub returns-then-counts-clause-refused : goal.returns-then-counts-clause-refused
 returns-then-counts-clause-refused g c = let w = c.working.inside in let was = c.working.invariant.0 in let rounds = was.rounds_are in
@@ -31,9 +31,9 @@ returns-then-counts-clause-refused g c = let w = c.working.inside in let was = c
 pub take_all-requires-clause-rolls : goal.take_all-requires-clause-rolls
 take_all-requires-clause-rolls g c = may_take c.working.inside.ports.items c.working.inside.held.items c.working.invariant.0
 
-pub returns-in-Err-clause-more : goal.returns-in-Err-clause-more
-returns-in-Err-clause-more g c = let w = c.working.inside in
-    desk_on _ (arc_value w.round) w.crew w.crew _ _ c.working.view_is (lanes_same _ _ (ap (map lane_by) c.take_all.ensures.same)) (part_refl (crew_chain w.crew))
+pub returns-in-Err-clause-goes_on : goal.returns-in-Err-clause-goes_on
+returns-in-Err-clause-goes_on g c = let w = c.working.inside in
+    desk_keeps _ (arc_value w.round) w.crew w.crew _ _ c.working.view_is (lanes_same _ _ (ap (map lane_by) c.take_all.ensures.same)) (part_refl (crew_chain w.crew))
 
 pub give_all-requires-clause-of_round : goal.give_all-requires-clause-of_round
 give_all-requires-clause-of_round g c = let w = c.working.inside in
@@ -79,13 +79,13 @@ invariant_of-working-2 g c =
       inv.7,
     )
 
-pub returns-clause-more : goal.returns-clause-more
-returns-clause-more g c =
+pub returns-clause-goes_on : goal.returns-clause-goes_on
+returns-clause-goes_on g c =
     let w = c.working.inside in let gave = c.give_all.ensures in let dealt = c.deal_all.ensures in let took = c.take_all.ensures in let now = c.give_all.new.crew in let first = c.renew-crew.result.0 in
     let none : c.take_all.new.ports.items ≡ [] = search rules in
     let all : List EndFacts = w.ports.items ++ reverse w.held.items in let taken = all_taken w.ports.items w.held.items c.take_all.new.ports.items c.take_all.new.held.items none took.same in
     let kept = kept_taken c.give_all.new.idle.items c.take_all.new.held.items all gave.kept taken in
-    desk_on _ (arc_value w.round) w.crew c.deal_all.new.crew _ _ c.working.view_is
+    desk_keeps _ (arc_value w.round) w.crew c.deal_all.new.crew _ _ c.working.view_is
     (subst (λ (z : List EndFacts). LanesGoOn (map lane_by all) (map lane_by z)) (sym (no_lanes c.deal_all.new.ports.items c.give_all.new.held.items (ap length gave.none_left))) (rolled_lanes all c.deal_all.new.ports.items c.give_all.new.idle.items kept dealt.kept))
     (part_trans (crew_chain w.crew) (crew_chain now) (crew_chain c.deal_all.new.crew) (crew_part w.crew now gave.round gave.goes_on)
     (part_trans (crew_chain now) (crew_chain first) (crew_chain c.deal_all.new.crew) (rolled_part now first _ _ _ c.renew-crew.ensures.rolls) (crew_part first c.deal_all.new.crew dealt.round dealt.goes_on)))

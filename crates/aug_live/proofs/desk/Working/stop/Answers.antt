@@ -9,7 +9,7 @@ use Rattle.aug_live.specs.inside.LaneKnowledge.{EndFacts, lane_by}
 use Rattle.aug_live.specs.inside.Rolls.{IsOf, kept_of, rounds_in}
 use Rattle.aug_live.specs.inside.SameChanges.{SameChanges}
 use Rattle.aug_live.proofs.Accounting.{closed_lane, handles_closed, lanes_close, made_closed, missing_closed, now_counted, past_counted}
-use Rattle.aug_live.proofs.Counted.{closed_so, desk_on}
+use Rattle.aug_live.proofs.Counted.{closed_so, desk_keeps}
 use Rattle.aug_live.proofs.Desks.{all_taken, eras_of, may_take, taken_of, wholes_of}
 use Rattle.aug_live.proofs.Lanes.{lanes_same}
 use Rattle.aug_live.proofs.desk.Working.stop.Goals as goal
@@ -17,9 +17,9 @@ use Rattle.aug_live.proofs.desk.Working.stop.Goals as goal
 pub take_all-requires-clause-rolls : goal.take_all-requires-clause-rolls
 take_all-requires-clause-rolls g c = may_take c.working.inside.ports.items c.working.inside.held.items c.working.invariant.0
 
-pub returns-in-Err-clause-more : goal.returns-in-Err-clause-more
-returns-in-Err-clause-more g c = let w = c.working.inside in
-    desk_on _ (arc_value w.round) w.crew w.crew _ _ c.working.view_is (lanes_same _ _ (ap (map lane_by) c.take_all.ensures.same)) (part_refl (crew_chain w.crew))
+pub returns-in-Err-clause-goes_on : goal.returns-in-Err-clause-goes_on
+returns-in-Err-clause-goes_on g c = let w = c.working.inside in
+    desk_keeps _ (arc_value w.round) w.crew w.crew _ _ c.working.view_is (lanes_same _ _ (ap (map lane_by) c.take_all.ensures.same)) (part_refl (crew_chain w.crew))
 
 pub finish-set-requires-clause-of_round : goal.finish-set-requires-clause-of_round
 finish-set-requires-clause-of_round g c = let w = c.working.inside in

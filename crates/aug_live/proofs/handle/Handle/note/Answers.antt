@@ -1,14 +1,5 @@
-use Rattle.aug_live.proofs.Carries.{follows_self, follows_on}
+use Rattle.aug_live.proofs.Carries.{nothing_made, same_nothing}
 use Rattle.aug_live.proofs.handle.Handle.note.Goals as goal
 
-pub loop-init : goal.loop-init
-loop-init g c = follows_self c.args.self.now
-
-pub returns-in-Ok-clause-follows : goal.returns-in-Ok-clause-follows
-returns-in-Ok-clause-follows g c = follows_on c.args.self.now c.loop.self c.attempt_note.new.self c.loop.invariant c.attempt_note.ensures.follows
-
-pub loop-preserved : goal.loop-preserved
-loop-preserved g c = follows_on c.args.self.now c.attempt_note.new.self c.wait_past.new.self (follows_on c.args.self.now c.loop.self c.attempt_note.new.self c.loop.invariant c.attempt_note.ensures.follows) c.wait_past.ensures.follows
-
-pub returns-in-Err-wait_past-clause-follows : goal.returns-in-Err-wait_past-clause-follows
-returns-in-Err-wait_past-clause-follows g c = follows_on c.args.self.now c.attempt_note.new.self c.wait_past.new.self (follows_on c.args.self.now c.loop.self c.attempt_note.new.self c.loop.invariant c.attempt_note.ensures.follows) c.wait_past.ensures.follows
+pub returns-clause-follows : goal.returns-clause-follows
+returns-clause-follows g c = nothing_made c.make.result _ c.args.self.now c.make.new.self (λ _ x y did. same_nothing x y did.1) c.make.ensures.made c.make.ensures.not_made

@@ -10,25 +10,25 @@ use Rattle.aug_live.proofs.handle.Handle.past.Goals as goal
 
 pub invariant_of-self : goal.invariant_of-self
 invariant_of-self g c = let i = c.self.inside in
-    subst (λ (z : List TableId). HoldsHandle i.end (arc_value i.round) i.bits i.lane i.number z) (sym (ids_more i.desk c.settle.new.self c.settle.ensures.more)) c.self.invariant
+    subst (λ (z : List TableId). HoldsHandle i.end (arc_value i.round) i.bits i.lane i.number z) (sym (ids_more i.desk c.past.new.self c.past.ensures.more)) c.self.invariant
 
 pub returns-in-Held-clause-follows : goal.returns-in-Held-clause-follows
-returns-in-Held-clause-follows g c = let i = c.self.inside in desk_follows i.desk c.settle.new.self i.lane c.args.self.now i.end c.self.invariant.mine c.self.invariant.there c.self.view_is c.settle.ensures.more
+returns-in-Held-clause-follows g c = let i = c.self.inside in desk_follows i.desk c.past.new.self i.lane c.args.self.now i.end c.self.invariant.mine c.self.invariant.there c.self.view_is c.past.ensures.more
 
 pub returns-in-Held-clause-refused : goal.returns-in-Held-clause-refused
-returns-in-Held-clause-refused g c = let i = c.self.inside in let trie = c.settle.new.self in
-    refused_map (RefusesRound trie) (RefusesCall (handle_by trie i.lane i.end)) c.settle.result (round_call (handle_by trie i.lane i.end) trie (trie_by trie i.lane i.end)) c.settle.ensures.refused
+returns-in-Held-clause-refused g c = let i = c.self.inside in let trie = c.past.new.self in
+    refused_map (RefusesRound trie) (RefusesCall (handle_by trie i.lane i.end)) c.past.result (round_call (handle_by trie i.lane i.end) trie (trie_by trie i.lane i.end)) c.past.ensures.refused
 
 pub returns-in-Round-clause-follows : goal.returns-in-Round-clause-follows
-returns-in-Round-clause-follows g c = let i = c.self.inside in desk_follows i.desk c.past.new.self i.lane c.args.self.now i.end c.self.invariant.mine c.self.invariant.there c.self.view_is c.past.ensures.more
+returns-in-Round-clause-follows g c = let i = c.self.inside in desk_follows i.desk c.past-in-Round.new.self i.lane c.args.self.now i.end c.self.invariant.mine c.self.invariant.there c.self.view_is c.past-in-Round.ensures.more
 
 pub returns-in-Round-clause-refused : goal.returns-in-Round-clause-refused
-returns-in-Round-clause-refused g c = let i = c.self.inside in let trie = c.past.new.self in
-    refused_map (RefusesRound trie) (RefusesCall (handle_by trie i.lane i.end)) c.past.result (round_call (handle_by trie i.lane i.end) trie (trie_by trie i.lane i.end)) c.past.ensures.refused
+returns-in-Round-clause-refused g c = let i = c.self.inside in let trie = c.past-in-Round.new.self in
+    refused_map (RefusesRound trie) (RefusesCall (handle_by trie i.lane i.end)) c.past-in-Round.result (round_call (handle_by trie i.lane i.end) trie (trie_by trie i.lane i.end)) c.past-in-Round.ensures.refused
 
 pub invariant_of-self-in-Round : goal.invariant_of-self-in-Round
 invariant_of-self-in-Round g c = let i = c.self.inside in
-    subst (λ (z : List TableId). HoldsHandle i.end (arc_value i.round) i.bits i.lane i.number z) (sym (ids_more i.desk c.past.new.self c.past.ensures.more)) c.self.invariant
+    subst (λ (z : List TableId). HoldsHandle i.end (arc_value i.round) i.bits i.lane i.number z) (sym (ids_more i.desk c.past-in-Round.new.self c.past-in-Round.ensures.more)) c.self.invariant
 
 pub returns-in-Replaced-clause-follows : goal.returns-in-Replaced-clause-follows
 returns-in-Replaced-clause-follows g c = follows_self c.args.self.now

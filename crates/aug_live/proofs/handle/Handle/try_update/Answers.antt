@@ -1,12 +1,8 @@
-use Rattle.aug_trie.specs.Updates.{Updates}
-use Rattle.aug_trie.specs.declared.updates.told.Told.{Told}
-use Rattle.aug_live.specs.LiveHandles.{Makes}
-use Rattle.aug_live.proofs.Carries.{err_map, follows_on, makes_on, ok_map}
+use Rattle.aug_live.proofs.Carries.{err_map, follows_on, ok_map, runs_on}
 use Rattle.aug_live.proofs.handle.Handle.try_update.Goals as goal
 
 pub returns-in-Err-clause-made : goal.returns-in-Err-clause-made
-returns-in-Err-clause-made g c = ok_map (λ (told : Told). Makes 1 (λ a b. Updates c.args.request c.args.k told a.knows b.knows) c.attempt.new.self c.try_again.new.self) (λ (told : Told). Makes 1 (λ a b. Updates c.args.request c.args.k told a.knows b.knows) c.args.self.now c.try_again.new.self)
-    c.try_again.result (λ told made. makes_on 1 _ c.args.self.now c.attempt.new.self c.try_again.new.self c.in-Err.ensures.not_made made) c.try_again.ensures.made
+returns-in-Err-clause-made g c = ok_map _ _ c.try_again.result (λ _ made. runs_on _ c.args.self.now c.attempt.new.self c.try_again.new.self c.in-Err.ensures.not_made made) c.try_again.ensures.made
 
 pub returns-in-Err-clause-not_made : goal.returns-in-Err-clause-not_made
 returns-in-Err-clause-not_made g c = err_map _ _ c.try_again.result (λ _ later. follows_on c.args.self.now c.attempt.new.self c.try_again.new.self c.in-Err.ensures.not_made later) c.try_again.ensures.not_made

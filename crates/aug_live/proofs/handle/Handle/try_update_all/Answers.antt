@@ -1,11 +1,11 @@
-use Rattle.aug_live.proofs.Carries.{follows_on, makes_on}
+use Rattle.std.proofs.Common.{List, subst, rules}
+use Rattle.std.specs.Prelude.{take}
+use Rattle.aug_trie.specs.UpdateBatches.{DoesBatch}
+use Rattle.aug_model.specs.declared.outcome.Outcome.{Outcome}
+use Rattle.aug_live.specs.LiveHandles.{Spends}
+use Rattle.aug_live.proofs.Carries.{runs_map}
 use Rattle.aug_live.proofs.handle.Handle.try_update_all.Goals as goal
 
-pub returns-in-Err-try_past-clause-not_made : goal.returns-in-Err-try_past-clause-not_made
-returns-in-Err-try_past-clause-not_made g c = follows_on c.args.self.now c.attempt_all.new.self c.try_past.new.self c.in-Err.ensures.not_made c.try_past.ensures.follows
-
-pub returns-in-Ok-attempt_all-clause-made : goal.returns-in-Ok-attempt_all-clause-made
-returns-in-Ok-attempt_all-clause-made g c = makes_on _ _ c.args.self.now c.try_past.new.self _ (follows_on c.args.self.now c.attempt_all.new.self c.try_past.new.self c.in-Err.ensures.not_made c.try_past.ensures.follows) c.in-Ok-attempt_all.ensures.made
-
-pub returns-in-Err-attempt_all-clause-not_made : goal.returns-in-Err-attempt_all-clause-not_made
-returns-in-Err-attempt_all-clause-not_made g c = follows_on c.args.self.now c.try_past.new.self c.attempt_all-2.new.self (follows_on c.args.self.now c.attempt_all.new.self c.try_past.new.self c.in-Err.ensures.not_made c.try_past.ensures.follows) c.in-Err-attempt_all.ensures.not_made
+pub returns-clause-made : goal.returns-clause-made
+returns-clause-made g c = runs_map c.try_make.result _ _ c.args.self.now c.try_make.new.self
+    (λ count a b did. let named = did.3 in subst (λ (z : List Outcome). Spends count (DoesBatch c.args.requests.now (take count c.args.keys.now) z) a b) (search rules) did.0) c.try_make.ensures.made

@@ -1,5 +1,4 @@
-use Rattle.aug_live.specs.LiveHandles.{Makes}
-use Rattle.aug_live.proofs.Carries.{follows_self, follows_on, makes_on, refused_follows, err_any}
+use Rattle.aug_live.proofs.Carries.{follows_self, follows_on, runs_on, refused_follows, err_any}
 use Rattle.aug_live.proofs.handle.Handle.until_made.Goals as goal
 
 pub loop-init : goal.loop-init
@@ -13,7 +12,7 @@ loop-preserved g c = follows_on c.args.self.now c.loop.self c.update.new.self c.
 
 pub returns-in_default : goal.returns-in_default
 returns-in_default g c = record {
-  made = makes_on 1 _ c.args.self.now c.loop.self _ c.loop.invariant c.in_ok-told.ensures.made;
+  made = runs_on _ c.args.self.now c.loop.self _ c.loop.invariant c.in_ok-told.ensures.made;
   made_at_last = c.in_default.not-Refused;
   not_made = tt;
   refused = tt;

@@ -1,45 +1,36 @@
-use Rattle.aug_live.proofs.Lanes.{ids_more, more_self}
-use Rattle.std.proofs.Common.{◌≡◌, ◌∙◌, List, ap, refl, sym, subst, arith}
-use Rattle.std.specs.Prelude.{Result, IfOk}
-use lib.ListN.{get_elem?}
-use Rattle.atomic_table.specs.Seated.{TableId}
-use Rattle.aug_trie.specs.Round.{TableFacts}
-use Rattle.aug_live.specs.LiveHandles.{IsHandleOf}
-use Rattle.aug_live.specs.LiveTries.{KnowsMore, ids_of}
+use Rattle.std.proofs.Common.{ℕ, ◌∙◌, ◌≤◌, ap, sym, subst, length, refl, arith}
+use Rattle.std.specs.Prelude.{Result, Ok, Err, IfOk, IsErr}
+use Rattle.aug_live.specs.LiveHandles.{HandleFacts, IsHandleOf}
+use Rattle.aug_live.specs.LiveTries.{KnowsMore, TrieFacts, ids_of}
+use Rattle.aug_live.proofs.DeskSteps.{forks, knows_on_from, owner_from}
+use Rattle.aug_live.proofs.Handing.{is_below}
+use Rattle.aug_live.proofs.Lanes.{as_many, ids_more, more_on, more_self}
 use Rattle.aug_live.proofs.live.Live.give.Goals as goal
-use Rattle.aug_live.proofs.live.Live.give.Goals.{in-Ok-renew, in-Err}
+
+pub another-key-requires-clause-rule : goal.another-key-requires-clause-rule
+another-key-requires-clause-rule g c = let owner = c.self.invariant.2 in forks _ _ owner.first owner.some
+
+pub give-given-requires-clause-desk : goal.give-given-requires-clause-desk
+give-given-requires-clause-desk g c = let made = c.another-key.ensures in ap ids_of (made.new.2 ∙ sym made.left) ∙ sym (ids_more _ _ c.in-Ok-take_settled.ensures.settled.0.more)
+
+pub lay_on-requires-clause-goes_on : goal.lay_on-requires-clause-goes_on
+lay_on-requires-clause-goes_on g c = owner_from _ _ _ c.in-Ok-take_settled.ensures.takes c.take_settled.ensures.owner.first c.give-given.ensures.more
+
+-- a lane of a handle is there
+there : {E : Type 0} (r : Result HandleFacts E) (lane : ℕ) (old new : TrieFacts) → KnowsMore old new → IfOk r (IsHandleOf lane new) → length old.lanes ≤ lane → IsErr r
+there (Ok h) lane old new more of_trie high = absurd (let low = is_below new.lanes lane of_trie.known of_trie.last in let many = as_many old.lanes new.lanes more.lanes in omega (arith, low, many, high))
+there (Err e) lane old new more of_trie high = refl
 
 pub returns-in_default-clause-more : goal.returns-in_default-clause-more
-returns-in_default-clause-more g c = subst (KnowsMore c.args.self.now) (sym (c.another.ensures.same ∙ c.self.view_is)) (more_self c.args.self.now)
+returns-in_default-clause-more g c = more_self c.args.self.now
 
-pub invariant_of-result : goal.invariant_of-result
-invariant_of-result g c = let h = c.in-Ok-renew.ensures.handle in let mine = h.is_end in
-    let ids : ids_of c.in-Ok.desk ≡ ids_of c.renew.new.self = ap ids_of (c.in-Ok.ensures.knows ∙ sym c.another.ensures.same) ∙ sym (ids_more c.another.new.self c.renew.new.self c.in-Ok-renew.ensures.more) in record {
-      mine = c.in-Ok-renew.end;
-      there = refl;
-      whose = mine.whose;
-      id = ap (λ (z : List TableId). get_elem? z c.args.lane) ids ∙ h.id;
-      number_is = mine.number_is;
-      some_era = mine.some_era;
-      together = mine.together;
-      bits_are = ap (λ (z : TableFacts). z.bits) mine.together ∙ sym h.bits_are;
-      few_bits = omega (arith, mine.few_bits, h.bits_are);
-    }
+pub returns-in-Ok-take_settled-clause-more : goal.returns-in-Ok-take_settled-clause-more
+returns-in-Ok-take_settled-clause-more g c = let own = c.args.self.now in let was = c.in-Ok-take_settled.working in let now = c.give-given.new.self in
+    subst (KnowsMore own) (sym c.lay_on.ensures.view) (knows_on_from own _ now (c.another-key.ensures.left ∙ c.self.view_is) (more_on _ was now c.in-Ok-take_settled.ensures.settled.0.more c.give-given.ensures.more))
 
-pub returns-clause-of_trie : goal.returns-clause-of_trie
-returns-clause-of_trie g c =
-    let new = c.renew.new.self in let ids : ids_of c.in-Ok.desk ≡ ids_of new = ap ids_of (c.in-Ok.ensures.knows ∙ sym c.another.ensures.same) ∙ sym (ids_more c.another.new.self new c.renew.ensures.more) in
-    elim c.match-renew.branch [
-      | in-Ok-renew w ↦ let h = w.in-Ok-renew.ensures.handle in subst (λ (r : Result _ _). IfOk r (IsHandleOf c.args.lane new)) (sym w.result-is) record {
-        table = ap (λ (z : TableFacts). z.table) h.is_end.together ∙ h.of_trie;
-        of_lanes = ids;
-        of_lane = refl;
-        known = h.known;
-        last = h.last;
-        is_last = (h.is_last.0 ∙ sym h.is_end.number_is, h.is_last.1);
-        none_made = h.none_made;
-        bits = ap (λ (z : TableFacts). z.bits) h.is_end.together ∙ sym h.bits_are ∙ h.of_bits;
-        knows = h.knows;
-      }
-      | in-Err w ↦ subst (λ (r : Result _ _). IfOk r (IsHandleOf c.args.lane new)) (sym w.result-is) tt
-    ]
+pub returns-in-Err-clause-more : goal.returns-in-Err-clause-more
+returns-in-Err-clause-more g c = knows_on_from c.args.self.now _ _ (c.another-key.ensures.left ∙ c.self.view_is) c.in-Err.ensures.free.1.more
+
+pub returns-in-Ok-take_settled-clause-past : goal.returns-in-Ok-take_settled-clause-past
+returns-in-Ok-take_settled-clause-past g c = let own = c.args.self.now in let was = c.in-Ok-take_settled.working in let now = c.give-given.new.self in
+    there c.give-given.result c.args.lane own now (knows_on_from own _ now (c.another-key.ensures.left ∙ c.self.view_is) (more_on _ was now c.in-Ok-take_settled.ensures.settled.0.more c.give-given.ensures.more)) c.give-given.ensures.of_trie

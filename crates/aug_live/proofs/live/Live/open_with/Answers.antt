@@ -1,7 +1,8 @@
-use Rattle.std.proofs.Common.{◌≡◌, ◌∙◌, ◌^◌, [], length, vec_len, All, List, map, ap, refl, sym, subst, rules, arith}
+use Rattle.std.proofs.Common.{ℕ, ◌≡◌, ◌∙◌, ◌^◌, [], length, vec_len, All, List, map, ap, refl, sym, subst, rules, arith}
 use Rattle.std.specs.Arc.{arc_value}
 use Rattle.std.proofs.lemmas.List.{length-map}
 use Rattle.std.proofs.lemmas.List.Elements.{All-map}
+use Rattle.ruled_lock.specs.Locks.{client_of}
 use Rattle.aug_core.specs.Layout.{IsLayout}
 use Rattle.aug_core.specs.Places.{shape_of}
 use Rattle.aug_model.proofs.Boundaries.{IsKeySet-few}
@@ -15,6 +16,7 @@ use Rattle.aug_live.specs.inside.LaneKnowledge.{EndFacts, lane_by}
 use lib.ListN.{get_elem?}
 use Rattle.aug_live.specs.inside.Rolls.{IsFirst, IsOf, Starts, handles_from, rounds_in}
 use Rattle.aug_live.proofs.Desks.{all_new, no_lanes, opened_at, unsettled}
+use Rattle.aug_live.specs.inside.DeskKnowledge.{IsOwner}
 use Rattle.aug_live.proofs.Handing.{handles_all, handles_long, lanes_are}
 use Rattle.aug_live.proofs.Lanes.{ids_are}
 use Rattle.aug_live.proofs.live.Live.open_with.Goals as goal
@@ -39,16 +41,10 @@ invariant_of-working g c =
       search rules,
     )
 
-pub hand_out-handles-requires-clause-rounds : goal.hand_out-handles-requires-clause-rounds
-hand_out-handles-requires-clause-rounds g c = let shares = c.in-Ok-next_round.ensures.shares in (
-  λ k d low. shares.0 k d low ∙ sym (ap arc_value c.of-of.ensures),
+pub hand_out-handles-requires-clause-shares : goal.hand_out-handles-requires-clause-shares
+hand_out-handles-requires-clause-shares g c = let shares = c.in-Ok-next_round.ensures.shares in (
+  λ k d low. shares.0 k d low ∙ (λ i. (sym (ap arc_value c.of-of.ensures) i, sym c.place-lock.ensures.of i)),
   shares.1 ∙ sym (c.open_lanes-ports.ensures.len.1 ∙ c.in-Ok.ensures.berths.1),
-)
-
-pub hand_out-handles-requires-clause-desks : goal.hand_out-handles-requires-clause-desks
-hand_out-handles-requires-clause-desks g c = let placed = c.place-desk.ensures in (
-  λ k d low. placed.handles k d low ∙ sym (c.of.ensures ∙ placed.owner),
-  placed.len ∙ search rules,
 )
 
 pub hand_out-handles-requires-clause-ends : goal.hand_out-handles-requires-clause-ends
@@ -65,22 +61,22 @@ hand_out-handles-requires-clause-ends g c =
 
 pub hand_out-handles-requires-clause-locks : goal.hand_out-handles-requires-clause-locks
 hand_out-handles-requires-clause-locks g c = let ports = c.open_lanes-ports.result.0.items in let held = c.in-Ok.room.held.items in
-    c.open_lanes-ports.ensures.locks ∙ sym (ids_are ports) ∙ ap (λ (z : List EndFacts). map (λ (l : LaneKnown). l.id) (map lane_by z)) (sym (no_lanes ports held (ap length c.in-Ok.ensures.held.0))) ∙ ap ids_of (sym (c.of.ensures ∙ c.place-desk.ensures.owner))
+    c.open_lanes-ports.ensures.locks ∙ sym (ids_are ports) ∙ ap (λ (z : List EndFacts). map (λ (l : LaneKnown). l.id) (map lane_by z)) (sym (no_lanes ports held (ap length c.in-Ok.ensures.held.0))) ∙ ap ids_of (sym c.place-lock.ensures.knows)
 
 pub returns-clause-new : goal.returns-clause-new
 returns-clause-new g c =
     let begun = c.in-Ok-next_round.ensures.begun in let first = c.in-Ok-next_round.begun.crew in let rounds = rounds_in first in let out = c.hand_out-handles.ensures in
-    let is = c.of.ensures ∙ c.place-desk.ensures.owner in let ends = c.open_lanes-ports.result.1.items in let trie = c.of.result.value in
+    let is = c.place-lock.ensures.knows in let ends = c.open_lanes-ports.result.1.items in let trie = client_of c.place-lock.result.1 in
     let firsts = handles_all (Starts rounds) (IsFirst rounds trie) trie 0 ends (λ e lane s. record { of_trie = refl; first = s.number; era_is = s.era_is; fresh = s.fresh; none_made = s.none_made }) c.open_lanes-ports.ensures.starts in
-    subst (λ (z : TrieFacts × List HandleFacts). All (IsNew z.0 c.args.set c.args.plan) z.1) (λ i. (c.of.ensures i, sym out.at i))
+    subst (λ (z : TrieFacts × List HandleFacts). All (IsNew z.0 c.args.set c.args.plan) z.1) (λ i. (sym out.knows i, sym out.at i))
     (all_new c.args.set c.args.plan.lanes c.args.plan.updates (arc_value c.in-Ok-next_round.begun.round) first trie (handles_from trie 0 ends) (ap (λ (z : TrieFacts). z.table) is) begun firsts)
 
 pub returns-clause-lanes : goal.returns-clause-lanes
-returns-clause-lanes g c = λ lane h at. let place = lanes_are c.of.result.value 0 c.open_lanes-ports.result.1.items lane h (ap (λ (z : List HandleFacts). get_elem? z lane) (sym c.hand_out-handles.ensures.at) ∙ at) in omega (arith, place)
+returns-clause-lanes g c = λ lane h at. let place = lanes_are (client_of c.place-lock.result.1) 0 c.open_lanes-ports.result.1.items lane h (ap (λ (z : List HandleFacts). get_elem? z lane) (sym c.hand_out-handles.ensures.at) ∙ at) in omega (arith, place)
 
 pub returns-clause-opened : goal.returns-clause-opened
 returns-clause-opened g c =
-    let begun = c.in-Ok-next_round.ensures.begun in let lanes = c.open_lanes-ports.ensures in let is = c.place-desk.ensures.owner in let ports = c.open_lanes-ports.result.0.items in let held = c.in-Ok.room.held.items in
+    let begun = c.in-Ok-next_round.ensures.begun in let lanes = c.open_lanes-ports.ensures in let is = c.hand_out-handles.ensures.knows ∙ c.place-lock.ensures.knows in let ports = c.open_lanes-ports.result.0.items in let held = c.in-Ok.room.held.items in
     let long : length ports ≡ vec_len c.open_lanes-ports.result.0 = search rules in let alone = sym (no_lanes ports held (ap length c.in-Ok.ensures.held.0)) in
     let count : length (map lane_by ports) ≡ c.args.handles = length-map ports lane_by ∙ long ∙ lanes.len.0 ∙ c.in-Ok.ensures.berths.1 in
     let bare : All (λ (lane : LaneKnown). lane.done ≡ []) (map lane_by ports) = All-map (λ (lane : LaneKnown). lane.done ≡ []) lane_by ports (λ k d low. (lanes.opened k d low).none_done) in
@@ -96,4 +92,11 @@ returns-clause-opened g c =
 pub returns-clause-handles : goal.returns-clause-handles
 returns-clause-handles g c =
     let lanes = c.open_lanes-ports.ensures in let out = c.hand_out-handles.ensures in let handles = c.hand_out-handles.result in let ends = c.open_lanes-ports.result.1 in
-    omega (arith, handles.ok.0, ends.ok.0, ap (λ (z : List HandleFacts). length z) out.at, handles_long c.of.result.value 0 ends.items, lanes.len.1, c.in-Ok.ensures.berths.1)
+    omega (arith, handles.ok.0, ends.ok.0, ap (λ (z : List HandleFacts). length z) out.at, handles_long (client_of c.place-lock.result.1) 0 ends.items, lanes.len.1, c.in-Ok.ensures.berths.1)
+
+pub invariant_of-result : goal.invariant_of-result
+invariant_of-result g c = let out = c.hand_out-handles.ensures in let placed = c.place-lock.ensures in (
+  out.same.0 ∙ placed.of ∙ (λ i. (arc_value (sym placed.lock i)).table.shared.table_id),
+  out.free,
+  subst (λ (z : ℕ × TrieFacts). IsOwner z.0 z.1) (λ i. (sym out.same.1 i, sym out.knows i)) placed.owner,
+)

@@ -1,4 +1,4 @@
-use Rattle.std.proofs.Common.{◌≡◌, ℕ, ◌+◌, ◌-◌, ◌*◌, ◌≤◌, inl, subst, arith}
+use Rattle.std.proofs.Common.{◌≡◌, ℕ, ◌+◌, ◌-◌, ◌*◌, ◌≤◌, subst, arith}
 use Rattle.aug_core.specs.Cuts.{Cut}
 use Rattle.aug_core.specs.declared.view.SeatView.{SeatView}
 use Rattle.aug_trie.specs.inside.NodeWords.{IsNodeAt}
@@ -6,12 +6,12 @@ use Rattle.aug_trie.specs.inside.NamedCuts.{cut_named}
 use Rattle.aug_trie.proofs.Looking.{record_seen, left_is}
 use Rattle.aug_trie.proofs.queries.record_words.left_word.Goals as goal
 
-pub load_record_word-requires : goal.load_record_word-requires
-load_record_word-requires g c = let v : SeatView = c.args.pass.now.view in let inner : 1 ≤ c.args.level + 1 = omega arith in
-    inl (record_seen g.A.Monoid.parts g.B.Monoid.parts v c.requires.knows (cut_named v.shape v.seen c.args.snapshot.number) (c.args.level + 1) c.args.place c.args.word c.requires.node inner)
+pub load_word-requires : goal.load_word-requires
+load_word-requires g c = let v : SeatView = (g.W.RecordWords.known c.args.words.now).view in let inner : 1 ≤ c.args.level + 1 = omega arith in
+    record_seen g.A.Monoid.parts g.B.Monoid.parts v c.requires.knows (cut_named v.shape v.seen c.args.snapshot.number) (c.args.level + 1) c.args.place c.args.word c.requires.node inner
 
 pub returns-clause-node : goal.returns-clause-node
-returns-clause-node g c = let v : SeatView = c.args.pass.now.view in let cut : Cut = cut_named v.shape v.seen c.args.snapshot.number in let inner : 1 ≤ c.args.level + 1 = omega arith in
+returns-clause-node g c = let v : SeatView = (g.W.RecordWords.known c.args.words.now).view in let cut : Cut = cut_named v.shape v.seen c.args.snapshot.number in let inner : 1 ≤ c.args.level + 1 = omega arith in
     let down : c.args.level + 1 - 1 ≡ c.args.level = omega arith in
-    subst (λ (z : ℕ). IsNodeAt v.shape v.seen cut z (2 * c.args.place) c.load_record_word.result) down
-    (left_is g.A.Monoid.parts g.B.Monoid.parts v c.requires.knows cut (c.args.level + 1) c.args.place c.args.word c.requires.node inner c.load_record_word.result c.load_record_word.ensures.view.known)
+    subst (λ (z : ℕ). IsNodeAt v.shape v.seen cut z (2 * c.args.place) c.load_word.result) down
+    (left_is g.A.Monoid.parts g.B.Monoid.parts v c.requires.knows cut (c.args.level + 1) c.args.place c.args.word c.requires.node inner c.load_word.result c.load_word.ensures.view.known)

@@ -1,25 +1,10 @@
-use Rattle.std.proofs.Common.{◌≡◌, ℕ, arith, ap, subst, sym, ◌∙◌}
+use Rattle.std.proofs.Common.{arith, subst, sym}
 use Rattle.aug_core.specs.Faces.{face}
 use Rattle.aug_core.specs.Addresses.{IsInner}
-use Rattle.aug_core.specs.Places.{Shape, lane_place, record_start, word_count}
-use Rattle.aug_core.specs.Effects.{LoadsNode}
 use Rattle.aug_core.proofs.EraSteps.{loads_node}
-use Rattle.aug_words.specs.Seats.{AreTogether, Known, Store}
-use Rattle.aug_words.specs.inside.SeatState.{IsStore, SitsAt}
-use Rattle.aug_words.proofs.Passes.{pass_loaded_node, works_on}
+use Rattle.aug_words.specs.Seats.{Known}
+use Rattle.aug_words.proofs.Passes.{sits_at, pass_loaded_node, works_on}
 use Rattle.aug_words.proofs.half.WordHalf.load_node.Goals as goal
-
--- a half that belongs to a table sits there
-sits_at : (k now : Known) (store words : Store) (lanes records : ℕ) → k ≡ now → store ≡ words → AreTogether words now → word_count store.shape ≡ store.table.words → lanes ≡ lane_place store.shape 0 → records ≡ record_start store.shape 0
-    → SitsAt k.table store.table lanes records k.view.shape
-sits_at k now store words lanes records is stored together wide l r =
-    let shape : store.shape ≡ k.view.shape = ap (λ (s : Store). s.shape) stored ∙ sym together.one_shape ∙ sym (ap (λ (z : Known). z.view.shape) is) in
-    record {
-      seated = ap (λ (z : Known). z.table) is ∙ together.one_table ∙ sym (ap (λ (s : Store). s.table) stored);
-      wide = sym wide ∙ ap word_count shape;
-      lanes_are = l ∙ ap (λ (s : Shape). lane_place s 0) shape;
-      records_are = r ∙ ap (λ (s : Shape). record_start s 0) shape;
-    }
 
 pub load-requires : goal.load-requires
 load-requires g c =

@@ -18,7 +18,7 @@ pub invariant_of-self : goal.invariant_of-self
 invariant_of-self g c = let m = g.A.Monoid in let n = g.B.Monoid in let f = face m.parts n.parts in let v : SeatView = c.self.inside.seat.me.0 in let bits = c.self.invariant.knows.laid_out.bits in
     let is : root_place v.shape ≡ c.args.root = ap (λ (k : Known). root_place k.view.shape) c.self.view_is ∙ sym c.requires.root in
     let told : LoadsNode f v c.args.root c.load-number.result c.load-number.new.seat.me.0 = c.load-number.ensures.2.0.1 (subst (IsInner v.shape) is (root_inner v.shape bits.0 bits.1)) in
-    lead_loaded f c.self.inside.next c.self.inside.root c.self.inside.draft.items c.self.inside.seat.me c.load-number.new.seat.me c.self.invariant c.load-number.result c.load-number.ensures.2.0.0 (subst (λ (z : ℕ). LoadsNode f v z c.load-number.result c.load-number.new.seat.me.0) (sym is) told)
+    lead_loaded f c.self.inside.next c.self.inside.root c.self.inside.seat.me c.load-number.new.seat.me c.self.invariant c.load-number.result c.load-number.ensures.2.0.0 (subst (λ (z : ℕ). LoadsNode f v z c.load-number.result c.load-number.new.seat.me.0) (sym is) told)
 
 pub returns-clause-view : goal.returns-clause-view
 returns-clause-view g c = let m = g.A.Monoid in let n = g.B.Monoid in let f = face m.parts n.parts in let v : SeatView = c.self.inside.seat.me.0 in let bits = c.self.invariant.knows.laid_out.bits in

@@ -9,7 +9,7 @@ use Rattle.aug_trie.proofs.SnapshotWalks.{knows_on, walk_on, named_then, node_on
 use Rattle.aug_trie.proofs.queries.snapshot_walk.SnapshotWalkDescend.past_left.Goals as goal
 
 -- what the three loads leave
-three : (g : _) (c : goal.After-right_word-right g) → Looks 3 c.self.inside.words.view c.right_word-right.new.pass.view
+three : (g : _) (c : goal.After-right_word-right g) → Looks 3 (g.W.RecordWords.known c.self.inside.words).view (g.W.RecordWords.known c.right_word-right.new.words).view
 three g c = looks_on 2 1 3 _ _ _ (omega arith) (looks_on 1 1 2 _ _ _ (omega arith) c.left_word-left.ensures.looks c.count_at-passed.ensures.looks) c.right_word-right.ensures.looks
 
 pub count_at-passed-requires-clause-knows : goal.count_at-passed-requires-clause-knows
@@ -30,13 +30,13 @@ invariant_of-self g c = walk_on (face g.A.Monoid.parts g.B.Monoid.parts) 3 _ _ c
 
 pub returns-clause-descends : goal.returns-clause-descends
 returns-clause-descends g c = let f = face g.A.Monoid.parts g.B.Monoid.parts in let i = c.self.inside in
-    let first : Walking = record { words = i.words; snapshot = i.snapshot; bits = i.bits; loaded = i.loaded } in
-    descends_past f first c.args.self.now c.right_word-right.new.pass c.one_past.new.self c.self.view_is (c.right_word-right.ensures.table ∙ c.count_at-passed.ensures.table ∙ c.left_word-left.ensures.table) (three g c) c.one_past.ensures
+    let first : Walking = record { words = g.W.RecordWords.known i.words; snapshot = i.snapshot; bits = i.bits; loaded = i.loaded } in
+    descends_past f first c.args.self.now (g.W.RecordWords.known c.right_word-right.new.words) c.one_past.new.self c.self.view_is (c.right_word-right.ensures.table ∙ c.count_at-passed.ensures.table ∙ c.left_word-left.ensures.table) (three g c) c.one_past.ensures
 
 pub returns-clause-name : goal.returns-clause-name
 returns-clause-name g c = let f = face g.A.Monoid.parts g.B.Monoid.parts in let s = c.self.inside.snapshot in
     named_then f 3 c.args.level (2 * c.args.place + 1) c.right_word-right.result _ _ s c.self.inside.bits (three g c) c.self.invariant (node_back f 2 c.args.level (2 * c.args.place + 1) c.right_word-right.result _ _ s (looks_on 1 1 2 _ _ _ (omega arith) c.left_word-left.ensures.looks c.count_at-passed.ensures.looks) c.right_word-right.ensures.node)
 
 pub returns-clause-count : goal.returns-clause-count
-returns-clause-count g c = let f = face g.A.Monoid.parts g.B.Monoid.parts in let i = c.self.inside in let first : Walking = record { words = i.words; snapshot = i.snapshot; bits = i.bits; loaded = i.loaded } in
-    counted_before f 1 first c.args.self.now c.left_word-left.new.pass.view c.args.level (2 * c.args.place) c.count_at-passed.result c.self.view_is c.left_word-left.ensures.looks c.count_at-passed.ensures.value
+returns-clause-count g c = let f = face g.A.Monoid.parts g.B.Monoid.parts in let i = c.self.inside in let first : Walking = record { words = g.W.RecordWords.known i.words; snapshot = i.snapshot; bits = i.bits; loaded = i.loaded } in
+    counted_before f 1 first c.args.self.now (g.W.RecordWords.known c.left_word-left.new.words).view c.args.level (2 * c.args.place) c.count_at-passed.result c.self.view_is c.left_word-left.ensures.looks c.count_at-passed.ensures.value

@@ -15,25 +15,30 @@ use Rattle.aug_trie.specs.Crew.{CrewFacts, TakesBack}
 use Rattle.aug_trie.specs.inside.CrewState.{crew_facts}
 use Rattle.aug_trie.proofs.Passing.{pass_told}
 use Rattle.aug_trie.proofs.Crews.{back_crew, takes_back_is}
+use Rattle.aug_trie.proofs.RoundLemmas.{crew_told}
 use Rattle.aug_trie.proofs.rounds.crew.Crew.back.Goals as goal
 
 pub invariant_of-self : goal.invariant_of-self
-invariant_of-self g c = let f = face g.A.Monoid.parts g.B.Monoid.parts in let i = c.self.inside in let k : Known = i.lead in let v : SeatView = k.view in let j = c.pass.inside in let pk : Known = c.in-Some.words in let p : SeatView = pk.view in let new : Known = c.join.new.self in let w : SeatView = new.view in
-    let h = c.join.ensures.takes_back in let holds = c.self.invariant in let place : ℕ = own_lane_place p in
+invariant_of-self g c = let f = face g.A.Monoid.parts g.B.Monoid.parts in let i = c.self.inside in let k : Known = c.in-Some-lead.lead in let crew = crew_told c.self.invariant c.in-Some-lead.is c.self.view_is in let v : SeatView = k.view in let j = c.pass.inside in let pk : Known = c.in-Some.words in let p : SeatView = pk.view in let new : Known = c.join.new.self in let w : SeatView = new.view in
+    let h = c.join.ensures.takes_back in let holds = crew.0 in let place : ℕ = own_lane_place p in
     let told = pass_told f j.words pk j.account.leaves j.account.bits j.account.next j.account.left c.args.pass c.pass.invariant.0 c.in-Some.is c.pass.view_is in let is = told.0 in let facts = told.1 in let free = is.room.is_free in
-    let round : round_of pk.table p ≡ round_of k.table v = ap (λ (z : PassFacts). z.round) facts ∙ c.requires.of_crew ∙ ap (λ (z : CrewFacts). z.round) (sym c.self.view_is) in
+    let round : round_of pk.table p ≡ round_of k.table v = ap (λ (z : PassFacts). z.round) facts ∙ c.requires.of_crew ∙ ap (λ (z : CrewFacts). z.round) (sym crew.1) in
     let shape : p.shape ≡ v.shape = ap (λ (z : RoundFacts). shape_of z.bits z.workers z.updates z.room) round in
     let counts : HasCounts (changes_of p.held) j.account.inserts j.account.removals = subst (λ (z : Option Known). HasCounts (changes_of (known_in z).view.held) j.account.inserts j.account.removals) c.in-Some.is c.pass.invariant.1 in
-    back_crew f v p w place h.found i.back i.inserts i.removals j.account.inserts j.account.removals holds free.lane free.only shape is.knows_table is.knowledge counts h.loaded
-    ((i.back + 1) % 4294967296) ((i.inserts + j.account.inserts) % 4294967296) ((i.removals + j.account.removals) % 4294967296) refl refl refl
+    record {
+      known = new;
+      there = refl;
+      holds = back_crew f v p w place h.found i.back i.inserts i.removals j.account.inserts j.account.removals holds free.lane free.only shape is.knows_table is.knowledge counts h.loaded
+          ((i.back + 1) % 4294967296) ((i.inserts + j.account.inserts) % 4294967296) ((i.removals + j.account.removals) % 4294967296) refl refl refl;
+    }
 
 pub returns : goal.returns
-returns g c = let f = face g.A.Monoid.parts g.B.Monoid.parts in let i = c.self.inside in let k : Known = i.lead in let v : SeatView = k.view in let j = c.pass.inside in let pk : Known = c.in-Some.words in let p : SeatView = pk.view in let new : Known = c.join.new.self in let w : SeatView = new.view in
-    let h = c.join.ensures.takes_back in let holds = c.self.invariant in let place : ℕ = own_lane_place p in
+returns g c = let f = face g.A.Monoid.parts g.B.Monoid.parts in let i = c.self.inside in let k : Known = c.in-Some-lead.lead in let crew = crew_told c.self.invariant c.in-Some-lead.is c.self.view_is in let v : SeatView = k.view in let j = c.pass.inside in let pk : Known = c.in-Some.words in let p : SeatView = pk.view in let new : Known = c.join.new.self in let w : SeatView = new.view in
+    let h = c.join.ensures.takes_back in let holds = crew.0 in let place : ℕ = own_lane_place p in
     let told = pass_told f j.words pk j.account.leaves j.account.bits j.account.next j.account.left c.args.pass c.pass.invariant.0 c.in-Some.is c.pass.view_is in let is = told.0 in let facts = told.1 in let free = is.room.is_free in
-    let round : round_of pk.table p ≡ round_of k.table v = ap (λ (z : PassFacts). z.round) facts ∙ c.requires.of_crew ∙ ap (λ (z : CrewFacts). z.round) (sym c.self.view_is) in
+    let round : round_of pk.table p ≡ round_of k.table v = ap (λ (z : PassFacts). z.round) facts ∙ c.requires.of_crew ∙ ap (λ (z : CrewFacts). z.round) (sym crew.1) in
     let shape : p.shape ≡ v.shape = ap (λ (z : RoundFacts). shape_of z.bits z.workers z.updates z.room) round in
     let counts : HasCounts (changes_of p.held) j.account.inserts j.account.removals = subst (λ (z : Option Known). HasCounts (changes_of (known_in z).view.held) j.account.inserts j.account.removals) c.in-Some.is c.pass.invariant.1 in
     let back = takes_back_is f v p w place h.found i.back i.inserts i.removals j.account.inserts j.account.removals holds free.lane free.only shape is.knows_table is.knowledge counts h.loaded k.table pk.table j.account.left in
     let joined : TakesBack (crew_facts k) (crew_facts new) (pass_facts pk j.account.left) = subst (λ (z : TableId). TakesBack (crew_facts k) (crew_facts (record { table = z; view = w })) (pass_facts pk j.account.left)) (sym c.join.ensures.table) back in
-    subst (λ (z : CrewFacts). TakesBack z (crew_facts new) c.args.pass) c.self.view_is (subst (λ (z : PassFacts). TakesBack (crew_facts k) (crew_facts new) z) facts joined)
+    subst (λ (z : CrewFacts). TakesBack z (crew_facts new) c.args.pass) crew.1 (subst (λ (z : PassFacts). TakesBack (crew_facts k) (crew_facts new) z) facts joined)

@@ -1,4 +1,4 @@
-use Rattle.std.proofs.Common.{rules, ℕ, ◌-◌, ◌*◌, Option, sym, ap, ◌∙◌, subst, arith}
+use Rattle.std.proofs.Common.{rules, ℕ, ◌-◌, ◌*◌, Option, sym, ap, ◌∙◌, subst, arith, Some}
 use Rattle.aug_model.specs.Folds.{summary_of}
 use Rattle.aug_model.specs.Keys.{SetFacts}
 use Rattle.aug_core.specs.Counts.{changes_of}
@@ -8,44 +8,44 @@ use Rattle.aug_words.specs.Seats.{Known}
 use Rattle.aug_trie.specs.Node.{Reads}
 use Rattle.aug_trie.specs.inside.Counted.{HasCounts}
 use Rattle.aug_trie.specs.inside.Cursors.{IsCursorOf}
-use Rattle.aug_trie.specs.inside.PassState.{pass_facts, known_in, HoldsPass}
+use Rattle.aug_trie.specs.inside.PassState.{pass_facts, HoldsPass}
 use Rattle.aug_trie.specs.inside.SnapshotWalk.{HasWalk}
 use Rattle.aug_trie.proofs.Asking.{may_walk, same_set, still_pass, reads_of}
 use Rattle.aug_trie.proofs.Cursors.{cursor_in, walked_out}
 use Rattle.aug_trie.proofs.rounds.pass.Pass.previous.Goals as goal
 
-pub over-walk-requires : goal.over-walk-requires
-over-walk-requires g c = let i = c.self.inside in
+pub of_pass-walk-requires : goal.of_pass-walk-requires
+of_pass-walk-requires g c = let i = c.self.inside in
     subst (λ (z : Option Known). HasWalk (face g.A.Monoid.parts g.B.Monoid.parts) z c.args.at.now.snapshot i.account.bits) (sym c.take.ensures.value)
     (may_walk g.A.Monoid.parts g.B.Monoid.parts i.words i.account.leaves i.account.bits i.account.next i.account.left c.args.self.now c.args.at.now.snapshot c.self.invariant.0 c.self.view_is c.requires.of_pass)
 
 pub previous-found-requires : goal.previous-found-requires
 previous-found-requires g c = let i = c.self.inside in
-    (search rules, cursor_in (face g.A.Monoid.parts g.B.Monoid.parts) i.words c.over-walk.result i.account.leaves i.account.bits i.account.next i.account.left c.args.self.now c.args.at.now c.self.invariant.0 (sym c.take.ensures.value ∙ c.over-walk.ensures.words) c.over-walk.ensures.snapshot c.self.view_is c.requires)
+    (search rules, cursor_in (face g.A.Monoid.parts g.B.Monoid.parts) i.words c.of_pass-walk.result i.account.leaves i.account.bits i.account.next i.account.left c.args.self.now c.args.at.now c.self.invariant.0 (sym c.take.ensures.value ∙ c.of_pass-walk.ensures.words) c.of_pass-walk.ensures.snapshot c.self.view_is c.requires)
 
 pub invariant_of-self : goal.invariant_of-self
-invariant_of-self g c = let i = c.self.inside in let w = c.over-walk.result in let bits : ℕ = w.words.view.shape.bits in
-    subst (λ (z : Option Known). HoldsPass (face g.A.Monoid.parts g.B.Monoid.parts) z i.account.leaves i.account.bits i.account.next i.account.left × HasCounts (changes_of (known_in z).view.held) i.account.inserts i.account.removals) (sym c.into_words.ensures)
+invariant_of-self g c = let i = c.self.inside in let w = c.of_pass-walk.result in let bits : ℕ = w.words.view.shape.bits in
+    subst (λ (z : Known). HoldsPass (face g.A.Monoid.parts g.B.Monoid.parts) (Some z) i.account.leaves i.account.bits i.account.next i.account.left × HasCounts (changes_of z.view.held) i.account.inserts i.account.removals) (sym c.into_words.ensures)
     (still_pass g.A.Monoid.parts g.B.Monoid.parts i.words w c.previous-found.new.tree i.account.leaves i.account.bits i.account.next i.account.left i.account.inserts i.account.removals (3 * bits - 2) (2 * bits - 1) 0 0 c.self.invariant.0 c.self.invariant.1
-    (sym c.take.ensures.value ∙ c.over-walk.ensures.words) c.previous-found.ensures.descends)
+    (sym c.take.ensures.value ∙ c.of_pass-walk.ensures.words) c.previous-found.ensures.descends)
 
 pub returns-clause-of_pass : goal.returns-clause-of_pass
-returns-clause-of_pass g c = let i = c.self.inside in let w = c.over-walk.result in let bits : ℕ = w.words.view.shape.bits in
-    let there = sym c.take.ensures.value ∙ c.over-walk.ensures.words in
-    subst (λ (z : Option Known). IsCursorOf (pass_facts (known_in z) i.account.left) (record { snapshot = c.args.at.now.snapshot; cursor = c.previous-found.new.self })) (sym c.into_words.ensures)
-    (walked_out g.A.Monoid.parts g.B.Monoid.parts i.words w c.previous-found.new.tree i.account.left (3 * bits - 2) (2 * bits - 1) 0 0 c.args.self.now (record { snapshot = c.args.at.now.snapshot; cursor = c.previous-found.new.self }) there c.over-walk.ensures.snapshot c.self.view_is c.requires.of_pass c.previous-found.ensures.descends c.previous-found.ensures.of_tree)
+returns-clause-of_pass g c = let i = c.self.inside in let w = c.of_pass-walk.result in let bits : ℕ = w.words.view.shape.bits in
+    let there = sym c.take.ensures.value ∙ c.of_pass-walk.ensures.words in
+    subst (λ (z : Known). IsCursorOf (pass_facts z i.account.left) (record { snapshot = c.args.at.now.snapshot; cursor = c.previous-found.new.self })) (sym c.into_words.ensures)
+    (walked_out g.A.Monoid.parts g.B.Monoid.parts i.words w c.previous-found.new.tree i.account.left (3 * bits - 2) (2 * bits - 1) 0 0 c.args.self.now (record { snapshot = c.args.at.now.snapshot; cursor = c.previous-found.new.self }) there c.of_pass-walk.ensures.snapshot c.self.view_is c.requires.of_pass c.previous-found.ensures.descends c.previous-found.ensures.of_tree)
 
 pub returns-clause-answer : goal.returns-clause-answer
 returns-clause-answer g c = let i = c.self.inside in
-    let there = sym c.take.ensures.value ∙ c.over-walk.ensures.words in
-    let same = same_set i.words c.over-walk.result c.args.at.now.snapshot i.account.left c.args.self.now there c.over-walk.ensures.snapshot c.self.view_is in
+    let there = sym c.take.ensures.value ∙ c.of_pass-walk.ensures.words in
+    let same = same_set i.words c.of_pass-walk.result c.args.at.now.snapshot i.account.left c.args.self.now there c.of_pass-walk.ensures.snapshot c.self.view_is in
     subst (λ (z : SetFacts). YieldsPrevious z c.args.at.now.cursor.gap c.previous-found.new.self.gap c.previous-found.result) same c.previous-found.ensures.answer
 
 pub returns-clause-reads : goal.returns-clause-reads
-returns-clause-reads g c = let i = c.self.inside in let w = c.over-walk.result in let bits : ℕ = w.words.view.shape.bits in
-    let there = sym c.take.ensures.value ∙ c.over-walk.ensures.words in
-    let same = same_set i.words w c.args.at.now.snapshot i.account.left c.args.self.now there c.over-walk.ensures.snapshot c.self.view_is in
+returns-clause-reads g c = let i = c.self.inside in let w = c.of_pass-walk.result in let bits : ℕ = w.words.view.shape.bits in
+    let there = sym c.take.ensures.value ∙ c.of_pass-walk.ensures.words in
+    let same = same_set i.words w c.args.at.now.snapshot i.account.left c.args.self.now there c.of_pass-walk.ensures.snapshot c.self.view_is in
     let most : ℕ = 5 * c.args.self.now.round.bits - 3 in
-    subst (λ (z : Option Known). Reads (summary_of g.A.Monoid.parts g.B.Monoid.parts) most c.args.self.now (pass_facts (known_in z) i.account.left)) (sym c.into_words.ensures)
+    subst (λ (z : Known). Reads (summary_of g.A.Monoid.parts g.B.Monoid.parts) most c.args.self.now (pass_facts z i.account.left)) (sym c.into_words.ensures)
     (reads_of g.A.Monoid.parts g.B.Monoid.parts i.words w c.previous-found.new.tree i.account.left (3 * bits - 2) (2 * bits - 1) 0 0 most c.args.self.now there c.self.view_is c.previous-found.ensures.descends
     (omega (arith, ap (λ (z : SetFacts). z.bits) same)))

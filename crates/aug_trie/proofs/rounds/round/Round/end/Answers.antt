@@ -7,23 +7,23 @@ use Rattle.aug_core.specs.Faces.{face}
 use Rattle.aug_trie.specs.Ended.{EndedFacts}
 use Rattle.aug_trie.specs.inside.EndedState.{pairs_at_rest}
 use Rattle.aug_trie.proofs.Endings.{no_more_back, round_ended}
-use Rattle.aug_trie.proofs.RoundLemmas.{of_round}
+use Rattle.aug_trie.proofs.RoundLemmas.{of_round, crew_told}
 use Rattle.aug_trie.proofs.rounds.round.Round.end.Goals as goal
 
 pub overflow_sub-ended : goal.overflow_sub-ended
-overflow_sub-ended g c = let i = c.crew.inside in let few = no_more_back (face g.A.Monoid.parts g.B.Monoid.parts) i.lead c.args.crew c.handed-handed.result c.crew.view_is c.crew.invariant c.handed-handed.ensures.value c.at_rest-ended.ensures.rule in omega arith
+overflow_sub-ended g c = let i = c.crew.inside in let lead = c.in-Some.lead in let told = crew_told c.crew.invariant c.in-Some.is c.crew.view_is in let few = no_more_back (face g.A.Monoid.parts g.B.Monoid.parts) lead c.args.crew c.handed-handed.result told.1 told.0 c.handed-handed.ensures.value c.at_rest-ended.ensures.rule in omega arith
 
 pub returns-clause-ends : goal.returns-clause-ends
-returns-clause-ends g c = let i = c.crew.inside in let r = c.ended.inside in let made = c.at_rest-ended.ensures in
+returns-clause-ends g c = let i = c.crew.inside in let lead = c.in-Some.lead in let told = crew_told c.crew.invariant c.in-Some.is c.crew.view_is in let r = c.ended.inside in let made = c.at_rest-ended.ensures in
     let ended : EndedFacts = record { bits = r.bits; members = pairs_at_rest r.rest r.bits 0 r.root; inserts = i.inserts; removals = i.removals; missing = c.handed-handed.result - i.back; calls = r.calls.made; rest = r.rest; root = r.root } in
-    (round_ended (face g.A.Monoid.parts g.B.Monoid.parts) i.lead c.args.crew c.handed-handed.result c.crew.view_is c.crew.invariant c.handed-handed.ensures.value made.rule
-    ended (ap (λ (z : EndedFacts). z.bits) c.ended.view_is ∙ made.bits ∙ c.bits.ensures ∙ ap (λ (z : Shape). z.bits) (c.self.invariant ∙ sym (of_round c.self.inside.words i.lead c.args.crew c.args.self c.crew.view_is c.requires.together c.self.view_is).one_shape)) (ap (λ (z : EndedFacts). z.members) c.ended.view_is ∙ made.members) refl refl refl (ap (λ (z : EndedFacts). z.calls) c.ended.view_is ∙ made.no_calls)).0
+    (round_ended (face g.A.Monoid.parts g.B.Monoid.parts) lead c.args.crew c.handed-handed.result told.1 told.0 c.handed-handed.ensures.value made.rule
+    ended (ap (λ (z : EndedFacts). z.bits) c.ended.view_is ∙ made.bits ∙ c.bits.ensures ∙ ap (λ (z : Shape). z.bits) (c.self.invariant ∙ sym (of_round c.self.inside.words lead c.args.crew c.args.self told.1 c.requires.together c.self.view_is).one_shape)) (ap (λ (z : EndedFacts). z.members) c.ended.view_is ∙ made.members) refl refl refl (ap (λ (z : EndedFacts). z.calls) c.ended.view_is ∙ made.no_calls)).0
 
 pub returns-clause-sizes : goal.returns-clause-sizes
-returns-clause-sizes g c = let i = c.crew.inside in let r = c.ended.inside in let made = c.at_rest-ended.ensures in
+returns-clause-sizes g c = let i = c.crew.inside in let lead = c.in-Some.lead in let told = crew_told c.crew.invariant c.in-Some.is c.crew.view_is in let r = c.ended.inside in let made = c.at_rest-ended.ensures in
     let ended : EndedFacts = record { bits = r.bits; members = pairs_at_rest r.rest r.bits 0 r.root; inserts = i.inserts; removals = i.removals; missing = c.handed-handed.result - i.back; calls = r.calls.made; rest = r.rest; root = r.root } in
-    (round_ended (face g.A.Monoid.parts g.B.Monoid.parts) i.lead c.args.crew c.handed-handed.result c.crew.view_is c.crew.invariant c.handed-handed.ensures.value made.rule
-    ended (ap (λ (z : EndedFacts). z.bits) c.ended.view_is ∙ made.bits ∙ c.bits.ensures ∙ ap (λ (z : Shape). z.bits) (c.self.invariant ∙ sym (of_round c.self.inside.words i.lead c.args.crew c.args.self c.crew.view_is c.requires.together c.self.view_is).one_shape)) (ap (λ (z : EndedFacts). z.members) c.ended.view_is ∙ made.members) refl refl refl (ap (λ (z : EndedFacts). z.calls) c.ended.view_is ∙ made.no_calls)).1
+    (round_ended (face g.A.Monoid.parts g.B.Monoid.parts) lead c.args.crew c.handed-handed.result told.1 told.0 c.handed-handed.ensures.value made.rule
+    ended (ap (λ (z : EndedFacts). z.bits) c.ended.view_is ∙ made.bits ∙ c.bits.ensures ∙ ap (λ (z : Shape). z.bits) (c.self.invariant ∙ sym (of_round c.self.inside.words lead c.args.crew c.args.self told.1 c.requires.together c.self.view_is).one_shape)) (ap (λ (z : EndedFacts). z.members) c.ended.view_is ∙ made.members) refl refl refl (ap (λ (z : EndedFacts). z.calls) c.ended.view_is ∙ made.no_calls)).1
 
 pub returns-clause-few : goal.returns-clause-few
 returns-clause-few g c = let r = c.ended.inside in let list : List (ℕ × ℕ) = pairs_at_rest r.rest r.bits 0 r.root in

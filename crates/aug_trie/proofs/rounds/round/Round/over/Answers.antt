@@ -1,4 +1,4 @@
-use Rattle.std.proofs.Common.{arith, rules, ap, subst, sym, ◌∙◌, ◌≡◌, [], ◌∷◌, length}
+use Rattle.std.proofs.Common.{arith, rules, ap, subst, sym, refl, ◌∙◌, ◌≡◌, [], ◌∷◌, length}
 use Rattle.std.specs.Prelude.{unwrap_or}
 use Rattle.aug_core.specs.Cuts.{opening_cut}
 use Rattle.aug_core.specs.Faces.{face}
@@ -16,7 +16,7 @@ use Rattle.aug_trie.proofs.rounds.round.Round.over.Goals as goal
 pub invariant_of-crew : goal.invariant_of-crew
 invariant_of-crew g c = let f = face g.A.Monoid.parts g.B.Monoid.parts in let e = c.in_ok-words.ensures in let o : Opening = record { shape = c.args.layout; members = c.args.members.now } in
     let laid : IsLayout o.shape = search rules in let room = c.requires.few in let is : c.in_ok-words.lead.view ≡ newcomer f o = e.lead in
-    subst (λ (z : SeatView). HoldsCrew f z 0 0 0) (sym is) (begins_crew f o laid c.requires.keys c.requires.fit (omega arith) [] 0 [])
+    record { known = c.in_ok-words.lead; there = refl; holds = subst (λ (z : SeatView). HoldsCrew f z 0 0 0) (sym is) (begins_crew f o laid c.requires.keys c.requires.fit (omega arith) [] 0 []) }
 
 pub returns : goal.returns
 returns g c = let f = face g.A.Monoid.parts g.B.Monoid.parts in let e = c.in_ok-words.ensures in let o : Opening = record { shape = c.args.layout; members = c.args.members.now } in

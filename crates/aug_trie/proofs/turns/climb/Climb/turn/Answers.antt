@@ -1,6 +1,6 @@
 use Rattle.std.proofs.Common.{rules, subst, ◌≡◌}
 use Rattle.aug_model.specs.Folds.{summary_of}
-use Rattle.aug_trie.specs.declared.updates.outcome.Outcome.{Outcome}
+use Rattle.aug_model.specs.declared.outcome.Outcome.{Outcome}
 use Rattle.aug_trie.specs.declared.turns.stages.Next.TheVariants.{More}
 use Rattle.aug_trie.specs.Climb.{TurnsOn, Finishes}
 use Rattle.aug_trie.specs.Node.{Keeps}

@@ -1,6 +1,0 @@
-use Rattle.std.specs.Prelude.{◌≡◌, ◌≤◌, All, vec_len, vec_capacity}
-use Rattle.std.specs.Arc.{arc_value}
-use Rattle.aug_live.proofs.desk_end.new_shares.Given as goal
-
-abbrev pub invariant-loop : goal.invariant-loop
-invariant-loop g l = All (λ s. s ≡ (arc_value l.lock).table.shared.table_id) l.shares.items × (vec_len l.shares ≡ l.counter) × (l.handles ≤ vec_capacity l.shares)

@@ -1,0 +1,170 @@
+//! What a handle does with the pass of its lane, as values.
+ghost use Rattle.std.specs.Prelude.{◌≡◌, ℕ, ◌+◌, ◌^◌, ◌<◌, ◌≤◌, All, IsSomeAnd, length, take};
+ghost use Rattle.atomic_table.specs.Seated.{TableId};
+ghost use Rattle.aug_core.specs.Prefixes.{IsPrefix};
+ghost use Rattle.aug_model.specs.Folds.{summary_of};
+ghost use Rattle.aug_monoid.specs.Extent.{extent_parts};
+ghost use Rattle.aug_trie.specs.Chains.{IsPart};
+ghost use Rattle.aug_trie.specs.Note.{chain_of_note};
+ghost use Rattle.aug_trie.specs.Pass.{PassFacts, chain_of};
+ghost use Rattle.aug_trie.specs.Pops.{pop_updates, Pops};
+ghost use Rattle.aug_trie.specs.UpdateBatches.{DoesBatch};
+ghost use Rattle.aug_trie.specs.Updates.{Updates};
+ghost use Rattle.aug_live.specs.LiveHandles.{AllOrSpent, IsSomeOf, Spends, note_at};
+ghost use Rattle.aug_live.specs.inside.LaneKnowledge.{MakesNothing, rounds_at};
+
+use aug_monoid::{Extent, Monoid};
+use aug_trie::{Note, Outcome, Pass, Pop, Request, Side, Told};
+
+/// An operation: what a pass does in one call. A handle runs each in the same way, by `Handle::make` or `Handle::try_make`.
+pub(crate) trait Operation<A: Monoid, B: Monoid> {
+    /// What it comes to.
+    type Answer;
+
+    ghost least: { ℕ };
+
+    // What it needs of the table and of the bits of the keys.
+    ghost Needs: { Self → TableId → ℕ → Type 0 };
+
+    // What it does, from what it was to what it has become, with its answer, to a pass.
+    ghost Does: { Self → Self → Self.Answer → PassFacts → PassFacts → Type 0 };
+
+    /// How many updates the pass has to have left.
+    fn least(&self) -> u32
+        ensures { result ≡ least };
+
+    /// Does it.
+    fn run(&mut self, pass: &mut Pass<'_, A, B>) -> Self::Answer
+        requires needs { Needs self.old pass.old.round.table pass.old.round.bits }
+        requires budget { pass.old.spent + least ≤ pass.old.round.updates }
+        ensures does { Does self.old self.new result pass.old pass.new }
+        ensures round { rounds_at pass.new ≡ rounds_at pass.old }
+        ensures accepts { IsPrefix pass.old.knows.accepted pass.new.knows.accepted };
+}
+
+/// An update of a key.
+#[derive(Drop)]
+pub(crate) struct OneUpdate(pub(crate) u32, pub(crate) Request);
+
+impl<A: Monoid, B: Monoid> Operation<A, B> for OneUpdate {
+    type Answer = Told;
+
+    ghost least = { 1 };
+
+    ghost Needs = { λ o table bits. o.0 < 2 ^ bits };
+
+    ghost Does = { λ o after told. Spends 1 (λ a b. Updates o.1 o.0 told a.knows b.knows) };
+
+    #[inline(always)]
+    fn least(&self) -> u32 {
+        1
+    }
+
+    #[inline(always)]
+    fn run(&mut self, pass: &mut Pass<'_, A, B>) -> Told {
+        pass.update(self.0, self.1)
+    }
+}
+
+/// Updates of the first keys, of as many as are left, each by the request that has its index. What they come to is put into the places with their indices.
+#[derive(Drop)]
+pub(crate) struct Batch<'a> {
+    pub(crate) keys: &'a [u32],
+    pub(crate) requests: &'a [Request],
+    pub(crate) outcomes: &'a mut [Outcome],
+}
+
+impl<A: Monoid, B: Monoid> Operation<A, B> for Batch<'_> {
+    type Answer = usize;
+
+    ghost least = { 1 };
+
+    ghost Needs = { λ o table bits. All (λ k. k < 2 ^ bits) o.keys.now × (length o.keys.now ≤ length o.requests.now) × (length o.keys.now ≤ length o.outcomes.now) };
+
+    ghost Does = { λ o after count a b. Spends count (DoesBatch o.requests.now (take count o.keys.now) after.outcomes.now) a b × IsSomeOf (length o.keys.now) count × AllOrSpent (length o.keys.now) count b × (after.outcomes.ghost_name ≡ o.outcomes.ghost_name) };
+
+    #[inline(always)]
+    fn least(&self) -> u32 {
+        1
+    }
+
+    fn run(&mut self, pass: &mut Pass<'_, A, B>) -> usize {
+        let count = self.keys.len().min(pass.budget() as usize);
+        let outcomes = &mut *self.outcomes;
+        pass.update_all(&self.keys[..count], self.requests, outcomes);
+        count
+    }
+}
+
+/// A pop of the member at one end.
+#[derive(Drop)]
+pub(crate) struct PopAt(pub(crate) Side);
+
+impl<A: Monoid> Operation<A, Extent> for PopAt {
+    type Answer = Pop;
+
+    ghost least = { 1 };
+
+    ghost Needs = { λ o table bits. Unit {0} };
+
+    ghost Does = { λ o after done. Spends (pop_updates done) (Pops (summary_of A.parts extent_parts) o.0 done) };
+
+    #[inline(always)]
+    fn least(&self) -> u32 {
+        1
+    }
+
+    #[inline(always)]
+    fn run(&mut self, pass: &mut Pass<'_, A, Extent>) -> Pop {
+        pass.pop(self.0)
+    }
+}
+
+/// A note of what the pass knows.
+#[derive(Drop)]
+pub(crate) struct MakeNote;
+
+impl<A: Monoid, B: Monoid> Operation<A, B> for MakeNote {
+    type Answer = Note<A, B>;
+
+    ghost least = { 0 };
+
+    ghost Needs = { λ o table bits. Unit {0} };
+
+    ghost Does = { λ o after note a b. (note ≡ note_at a) × (b ≡ a) };
+
+    #[inline(always)]
+    fn least(&self) -> u32 {
+        0
+    }
+
+    fn run(&mut self, pass: &mut Pass<'_, A, B>) -> Note<A, B> {
+        pass.note()
+    }
+}
+
+/// A note of the table, which the pass learns. It is there until then.
+#[derive(Drop)]
+pub(crate) struct LearnNote<A: Monoid, B: Monoid>(pub(crate) Option<Note<A, B>>);
+
+impl<A: Monoid, B: Monoid> Operation<A, B> for LearnNote<A, B> {
+    type Answer = ();
+
+    ghost least = { 0 };
+
+    ghost Needs = { λ o table bits. IsSomeAnd o.0 (λ note. note.round.table ≡ table) };
+
+    ghost Does = { λ o after _ a b. IsSomeAnd o.0 (λ note. IsPart (chain_of_note note) (chain_of b)) × MakesNothing a b };
+
+    #[inline(always)]
+    fn least(&self) -> u32 {
+        0
+    }
+
+    fn run(&mut self, pass: &mut Pass<'_, A, B>) {
+        let Some(note) = self.0.take() else {
+            unreachable!()
+        };
+        pass.learn(note);
+    }
+}

@@ -1,0 +1,115 @@
+-- What a walk over the last cut that a crew knows comes to.
+use Rattle.std.proofs.Common.{Option, Some, ◌≡◌, ℕ, ◌+◌, ◌*◌, ◌^◌, ◌≤◌, List, ◌++◌, length, length-append, refl, sym, ap, ◌∙◌, subst, arith}
+use Rattle.atomic_table.specs.Seated.{TableId}
+use Rattle.aug_monoid.specs.Parts.{Parts}
+use Rattle.aug_model.specs.Keys.{SetFacts, keys_of}
+use Rattle.aug_model.proofs.Boundaries.{IsKeySet-few}
+use Rattle.aug_model.proofs.Pairs.{length-keys_of}
+use Rattle.aug_query.specs.Tree.{IsTreeSet}
+use Rattle.aug_core.specs.Effects.{KnowsTable}
+use Rattle.aug_core.specs.Faces.{face}
+use Rattle.aug_core.specs.inside.RootCuts.{root_cut}
+use Rattle.aug_core.specs.declared.view.SeatView.{SeatView}
+use Rattle.aug_core.proofs.Fits.{knows_same}
+use Rattle.aug_words.specs.Seats.{Known, NamesRoot}
+use Rattle.aug_trie.specs.Crew.{CrewFacts, CrewReads, set_of_crew}
+use Rattle.aug_trie.specs.History.{last_cut}
+use Rattle.aug_trie.specs.inside.CrewState.{crew_facts, HasCrew, HoldsCrew}
+use Rattle.aug_trie.specs.inside.Knows.{knows, root_numbers}
+use Rattle.aug_trie.specs.inside.NamedCuts.{HasNamed, cut_named, members_of}
+use Rattle.aug_trie.specs.inside.NodeWords.{IsNodeAt}
+use Rattle.aug_trie.specs.inside.PassState.{known_in}
+use Rattle.aug_trie.specs.inside.SnapshotWalk.{set_seen, IsWalk, Walking}
+use Rattle.aug_trie.specs.Snapshot.{first_place}
+use Rattle.aug_trie.specs.declared.queries.snapshot.Snapshot.{Snapshot}
+use Rattle.aug_trie.proofs.Asking.{looks_of}
+use Rattle.aug_trie.proofs.Histories.{last_is}
+use Rattle.aug_trie.proofs.RoundLemmas.{crew_told}
+use Rattle.aug_trie.proofs.Snapshots.{number_at, index_is, cut_is}
+use Rattle.aug_trie.proofs.SnapshotWalks.{WalkDescends}
+use Rattle.aug_trie.proofs.Trees.{inner_root, named_set}
+use Rattle.aug_trie.proofs.Walking.{top_node}
+
+module _ {A B : Type 0} (parts_a : Parts A) (parts_b : Parts B) where
+  abbrev f : ℕ → ℕ → List (ℕ × ℕ) → List ℕ
+  f = face parts_a parts_b
+
+  -- the number of the root's newest record is that of the last cut
+  module _ (v : SeatView) (number : ℕ) (kn : KnowsTable f v) (named : NamesRoot v number) where
+    newest_at : first_place (root_numbers v.shape v.seen) number ≡ named.index
+    newest_at = ap (first_place (root_numbers v.shape v.seen)) named.named ∙ index_is f v.shape v.seen kn.book named.index named.entry (inner_root parts_a parts_b v kn) named.newest.at
+
+    is_named : HasNamed v.shape v.seen number
+    is_named = let at = newest_at in let n = number_at v.shape v.seen named.index named.entry named.newest.at in omega (arith, n.0)
+
+    cut_of_newest : cut_named v.shape v.seen number ≡ root_cut v.shape v.seen named.index
+    cut_of_newest = cut_is v.shape v.seen number is_named ∙ ap (root_cut v.shape v.seen) newest_at
+
+    pub last_named : cut_named v.shape v.seen number ≡ last_cut (knows v).history
+    last_named = cut_of_newest ∙ sym (last_is v.shape v.seen named.index named.newest.last)
+
+    -- so a walk goes by it
+    pub walk_of_last : (bits : ℕ) → bits ≡ v.shape.bits → IsWalk f v record { number = number } bits
+    walk_of_last bits same = record {
+      bits_are = same;
+      top = record {
+        knows_table = kn;
+        is_tree_set = named_set f v number kn;
+        node = subst (λ (z : ℕ). IsNodeAt v.shape v.seen (cut_named v.shape v.seen number) z 0 number) (sym same) (top_node parts_a parts_b v kn.book (cut_named v.shape v.seen number) number (inner_root parts_a parts_b v kn) record {
+          index = named.index;
+          entry = named.entry;
+          at = named.newest.at;
+          numbered = named.named;
+          cut_is = cut_of_newest;
+        });
+      };
+    }
+
+  -- over the crew's set
+  pub set_of_last : (lead : Known) (s : Snapshot) → KnowsTable f lead.view → NamesRoot lead.view s.number → set_seen lead.view s ≡ set_of_crew (crew_facts lead)
+  set_of_last lead s kn named = ap (members_of lead.view.shape.bits) (last_named lead.view s.number kn named)
+
+  -- the crew is one still, and has only read
+  pub crew_read : (walk new : Walking) (n c s p back inserts removals : ℕ) → HoldsCrew f walk.words.view back inserts removals → WalkDescends f n c s p walk new
+      → HasCrew f (Some new.words) back inserts removals × CrewReads (n + c + 3 * s + 2 * p) (crew_facts walk.words) (crew_facts new.words)
+  crew_read walk new n c s p back inserts removals h d =
+      let l = looks_of parts_a parts_b n c s p walk new d in let v : SeatView = walk.words.view in
+      subst (λ (z : TableId × SeatView). HasCrew f (Some (record { table = z.0; view = z.1 })) back inserts removals × CrewReads (n + c + 3 * s + 2 * p) (crew_facts walk.words) (crew_facts (record { table = z.0; view = z.1 }))) (λ j. (sym d.keeps_rest.same_table j, sym l.is j)) (
+        record {
+          known = record { table = walk.words.table; view = record v { steps = v.steps ++ l.more } };
+          there = refl;
+          holds = record {
+            handed = h.handed;
+            is_crew = record {
+              knows_table = knows_same f v v.live v.also v.held v.spare v.began (v.steps ++ l.more) h.is_crew.knows_table;
+              hands_out = h.is_crew.hands_out;
+              took_back = refl;
+              knowledge = let k = h.is_crew.knowledge in record { is_history = k.is_history; stands = k.stands };
+            };
+            few = h.few;
+            back_is = h.back_is;
+            inserts_are = h.inserts_are;
+            removals_are = h.removals_are;
+          };
+        },
+        record { same = refl; steps_stay = (l.more, refl); few_steps = let long = length-append v.steps l.more in let few = l.few in omega arith },
+      )
+
+  -- a crew that took its lead out, walked, and has it again
+  module _ (lead : Option Known) (k : Known) (now : CrewFacts) (back inserts removals : ℕ) (h : HasCrew f lead back inserts removals) (there : lead ≡ Some k) (facts : crew_facts (known_in lead) ≡ now)
+      (walk : Walking) (same : walk.words ≡ k) (newest : NamesRoot k.view walk.snapshot.number) (kn : KnowsTable f k.view) where
+    pub walked_set : set_seen walk.words.view walk.snapshot ≡ set_of_crew now
+    walked_set = ap (λ (z : Known). set_seen z.view walk.snapshot) same ∙ set_of_last k walk.snapshot kn newest ∙ ap set_of_crew (crew_told h there facts).1
+
+    pub walked_tree_set : IsTreeSet (set_of_crew now)
+    walked_tree_set = subst IsTreeSet walked_set (subst (λ (z : Known). IsTreeSet (set_seen z.view walk.snapshot)) (sym same) (named_set f k.view walk.snapshot.number kn))
+
+    pub walked_few : length (set_seen walk.words.view walk.snapshot).pairs ≤ 2 ^ now.round.bits
+    walked_few = let set : SetFacts = set_of_crew now in let tree = walked_tree_set in let few = IsKeySet-few set.bits (keys_of set.pairs) tree.is_key_set in let long = length-keys_of set.pairs in
+        let here : length (set_seen walk.words.view walk.snapshot).pairs ≡ length set.pairs = ap (λ (z : SetFacts). length z.pairs) walked_set in omega arith
+
+    pub walked : (new : Walking) (after : Known) (n c s p most : ℕ) → after ≡ new.words → WalkDescends f n c s p walk new → n + c + 3 * s + 2 * p ≤ most → HasCrew f (Some after) back inserts removals × CrewReads most now (crew_facts after)
+    walked new after n c s p most is d enough =
+        let told = crew_told h there facts in let t = crew_read walk new n c s p back inserts removals (subst (λ (z : Known). HoldsCrew f z.view back inserts removals) (sym same) told.0) d in
+        subst (λ (z : Known × CrewFacts). HasCrew f (Some z.0) back inserts removals × CrewReads most z.1 (crew_facts z.0)) (λ j. (sym is j, (ap crew_facts same ∙ told.1) j))
+        (t.0, record { same = t.1.same; steps_stay = t.1.steps_stay; few_steps = let few = t.1.few_steps in omega arith })

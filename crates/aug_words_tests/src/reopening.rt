@@ -1,0 +1,139 @@
+//! Tables that are opened again in their own memory hold what a table holds that was just opened over the same members.
+ghost use Rattle.std.specs.Prelude.{◌≡◌, ◌^◌, ◌≤◌, All, IfOk};
+ghost use Rattle.aug_core.specs.Places.{record_count};
+ghost use Rattle.aug_model.specs.Keys.{IsKeySet, keys_of};
+ghost use Rattle.aug_monoid.specs.Weighted.{FitsPair};
+
+use super::tables::{WordsOf, record_at};
+use crate::assertions::equal;
+use aug_core::Layout;
+use aug_words::Rest;
+use std::alloc::{AllocError, Global};
+use std::process::Abort;
+
+// A table of a layout that was opened over some members, and then again over others.
+fn opened_again(
+    alloc: Global,
+    layout: &Layout,
+    first: &[(u32, u32)],
+    second: &[(u32, u32)],
+) -> Result<Rest, AllocError>
+    requires room { 2 ^ layout.now.bits ≤ layout.now.members }
+    requires first { IsKeySet layout.now.bits (keys_of first.now) }
+    requires first_fit { All FitsPair first.now }
+    requires second { IsKeySet layout.now.bits (keys_of second.now) }
+    requires second_fit { All FitsPair second.now }
+    ensures { IfOk result (λ rest. rest.shape ≡ layout.now) }
+{
+    let (words, lead) = WordsOf::open(alloc, layout, first)?;
+    let (idle, _) = words.rest(lead);
+    let lead = words.open_again(idle, second);
+    Ok(words.close(lead))
+}
+
+// A table of a layout that was opened over these members.
+fn opened(alloc: Global, layout: &Layout, members: &[(u32, u32)]) -> Result<Rest, AllocError>
+    requires room { 2 ^ layout.now.bits ≤ layout.now.members }
+    requires keys { IsKeySet layout.now.bits (keys_of members.now) }
+    requires members_fit { All FitsPair members.now }
+    ensures { IfOk result (λ rest. rest.shape ≡ layout.now) }
+{
+    let (words, lead) = WordsOf::open(alloc, layout, members)?;
+    Ok(words.close(lead))
+}
+
+// Compares the leaves of two tables of as many bits.
+fn same_leaves(rt: &impl Abort, one: &Rest, other: &Rest, bits: u32)
+    requires one { (bits ≡ one.now.shape.bits) × (bits ≤ 5) }
+    requires other { bits ≡ other.now.shape.bits }
+{
+    for key in 0..1 << bits {
+        equal(rt, one.leaf(key), other.leaf(key));
+    }
+}
+
+// Compares the nodes of a level of two tables of as many bits.
+fn same_nodes(rt: &impl Abort, one: &Rest, other: &Rest, bits: u32, level: u32)
+    requires one { (bits ≡ one.now.shape.bits) × (bits ≤ 5) }
+    requires other { bits ≡ other.now.shape.bits }
+    requires level { (1 ≤ level) × (level ≤ bits) }
+{
+    for place in 0..1 << (bits - level) {
+        equal(rt, one.node(level, place), other.node(level, place));
+    }
+}
+
+// Compares the first records of two tables.
+fn same_records(rt: &impl Abort, one: &Rest, other: &Rest, count: u64)
+    requires one { count ≤ record_count one.now.shape }
+    requires other { count ≤ record_count other.now.shape }
+{
+    for number in 0..count {
+        equal(rt, record_at(one, number), record_at(other, number));
+    }
+}
+
+// Opens a table with room for all keys, of which there are so many, over some members and then again over others, and compares it with one that was opened over these.
+fn reopens(
+    rt: &impl Abort,
+    alloc: Global,
+    bits: u32,
+    keys: u32,
+    first: &[(u32, u32)],
+    second: &[(u32, u32)],
+) -> Result<(), AllocError>
+    requires bits { bits ≤ 5 }
+    requires room { 2 ^ bits ≤ keys }
+    requires first { IsKeySet bits (keys_of first.now) }
+    requires first_fit { All FitsPair first.now }
+    requires second { IsKeySet bits (keys_of second.now) }
+    requires second_fit { All FitsPair second.now }
+{
+    let Ok(layout) = Layout::new(bits, 2, 1, keys) else {
+        return Err(AllocError);
+    };
+    let again = opened_again(alloc, &layout, first, second)?;
+    let anew = opened(alloc, &layout, second)?;
+    same_leaves(rt, &again, &anew, bits);
+    for level in 1..bits + 1 {
+        same_nodes(rt, &again, &anew, bits, level);
+    }
+    same_records(rt, &again, &anew, layout.first_record(0));
+    Ok(())
+}
+
+#[test]
+fn a_table_of_1_bit_is_opened_again(rt: HostRuntime) -> Result<(), AllocError> {
+    reopens(&rt, rt.alloc(), 1, 2, &[], &[(0, 7), (1, 8)])?;
+    reopens(&rt, rt.alloc(), 1, 2, &[(0, 7), (1, 8)], &[])
+}
+
+// The same weight again, another one, a key that went and one that came.
+#[test]
+fn a_table_of_2_bits_is_opened_again(rt: HostRuntime) -> Result<(), AllocError> {
+    reopens(
+        &rt,
+        rt.alloc(),
+        2,
+        4,
+        &[(0, 5), (1, 5), (2, 0)],
+        &[(0, 5), (1, 6), (3, u32::MAX)],
+    )
+}
+
+#[test]
+fn a_table_of_3_bits_is_opened_again(rt: HostRuntime) -> Result<(), AllocError> {
+    reopens(&rt, rt.alloc(), 3, 8, &[(3, 3), (4, 4)], &[(0, 1), (7, 2)])
+}
+
+#[test]
+fn a_table_of_5_bits_is_opened_again(rt: HostRuntime) -> Result<(), AllocError> {
+    reopens(
+        &rt,
+        rt.alloc(),
+        5,
+        32,
+        &[(0, 1), (31, 2)],
+        &[(0, 1), (15, 9), (16, 0)],
+    )
+}

@@ -1,11 +1,10 @@
 -- The members of a look's snapshot, written a page after the other.
-use Rattle.std.proofs.Common.{◌≡◌, ◌⊎◌, ℕ, zero, suc, ◌+◌, ◌-◌, ◌^◌, ◌<◌, ◌≤◌, min, List, [], ◌∷◌, ◌++◌, length, take, drop, reverse, map, get_or, set, filter, slice_index, nat_lt, pos, refl, sym, ap, ◌∙◌, subst, inl, inr, arith, append_assoc}
+use Rattle.std.proofs.Common.{◌≡◌, ◌⊎◌, ℕ, zero, suc, ◌+◌, ◌-◌, ◌^◌, ◌<◌, ◌≤◌, min, List, [], ◌∷◌, ◌++◌, length, take, drop, reverse, map, get_or, set, slice_index, pos, refl, sym, ap, ◌∙◌, subst, inl, inr, arith, append_assoc}
 use Rattle.std.specs.Prelude.{ℤ, ◌==◌, if◌then◌else◌, slice_index_or, Option, Some, None, IfSome, IfNone}
 use Rattle.std.specs.List.Sorted.{IsStrictlyIncreasing}
 use Rattle.std.proofs.Math.Nat.{min-eq_left, min-eq_right}
 use Rattle.std.proofs.Math.Seq.{take-add, take-append_seam}
 use Rattle.std.proofs.lemmas.Bool.{cases_lt, cases_eq, ne_eqb, eq-eqb}
-use Rattle.std.proofs.lemmas.Bool.Decides.{nat_tests}
 use Rattle.std.proofs.lemmas.List.{append-nil, take_all, take_min, take-append-le, take-append-drop, take-map, drop-map, drop_all, drop_at, drop-drop, drop-take, length-append, length-take, length-take-le, length-drop, length-map, length-reverse, reverse-append, map-append, take_more, get_or-take, get_or-drop, get_or-reverse}
 use Rattle.std.proofs.lemmas.Slice.{drop-append-drop}
 use Rattle.aug_model.specs.Keys.{SetFacts, keys_of, list_of}

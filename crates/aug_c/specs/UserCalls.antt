@@ -29,7 +29,7 @@ use Rattle.aug_c.specs.declared.raw_handle.RawHandle.{RawHandle}
 use Rattle.aug_c.specs.declared.queries.Span.{Span}
 use Rattle.aug_c.specs.declared.updates.WeightsTold.{WeightsTold}
 use Rattle.aug_c.specs.Codes as codes
-use Rattle.aug_c.specs.Handles.{AsksUser, HandleCall, OnLooking, UpdatesUser}
+use Rattle.aug_c.specs.Handles.{AsksUser, UpdatesUser}
 
 -- the number of the keys, the sum of their weights, and the least and the greatest of them
 abbrev pub span_of : List (ℕ × ℕ) → Summary Sum Extent

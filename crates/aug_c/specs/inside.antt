@@ -4,3 +4,4 @@ pub mod Refusals
 pub mod KeyRequests
 pub mod ContentCode
 pub mod SlotLends
+pub mod UserKinds

@@ -8,9 +8,9 @@ ghost use Rattle.aug_c.specs.UserCalls.{span_of};
 ghost use Rattle.aug_c.specs.inside.KeyRequests.{member_part};
 ghost use Rattle.aug_c.specs.ArrayCalls.{ListsAllBoth, ListsBoth, ListsKeys, ListsMembers, weights_of};
 
-use crate::codes::{BAD_LENGTH, CLOSED, NOT_LOOKING};
-use crate::raw_handle::RawHandle;
-use crate::state::{HandleState, SummedLook};
+use crate::codes::BAD_LENGTH;
+use crate::raw_handle::{RawHandle, on_look};
+use crate::state::SummedLook;
 use aug_query::descent::{MembersBelow, MembersFrom, Page};
 
 // In which order members are listed.
@@ -105,14 +105,7 @@ fn list<O: Order>(look: &mut SummedLook, key: u32, keys: &mut [u32], weights: &m
 pub extern "C" fn aug_try_keys(user: &mut RawHandle, from: u32, out: &mut [u32]) -> i64
     ensures { AsksUser (ListsKeys (λ set. members_from set from) out.old out.new) (out.new ≡ out.old) user.old user.new result }
 {
-    if !user.is_open() {
-        return CLOSED;
-    }
-    match &mut user.held.as_slot().state {
-        HandleState::Looking(held) => list::<Rising>(&mut held.look, from, out, &mut []),
-        HandleState::Free(_) => NOT_LOOKING,
-        _ => CLOSED,
-    }
+    on_look!(user, held => list::<Rising>(&mut held.look, from, out, &mut []))
 }
 
 // Lists members with their weights, in two arrays of the same length.
@@ -134,14 +127,7 @@ fn list_both<O: Order>(
 fn both_of<O: Order>(user: &mut RawHandle, key: u32, keys: &mut [u32], weights: &mut [u32]) -> i64
     ensures { ListsAllBoth (λ set. O.members set key) keys.old keys.new weights.old weights.new user.old user.new result }
 {
-    if !user.is_open() {
-        return CLOSED;
-    }
-    match &mut user.held.as_slot().state {
-        HandleState::Looking(held) => list_both::<O>(&mut held.look, key, keys, weights),
-        HandleState::Free(_) => NOT_LOOKING,
-        _ => CLOSED,
-    }
+    on_look!(user, held => list_both::<O>(&mut held.look, key, keys, weights))
 }
 
 /// Writes the least members of the snapshot from `from` on, rising, as many as `keys` has places for, and the weight of each. Answers how

@@ -6,10 +6,10 @@ ghost use Rattle.aug_live.specs.LiveHandles.{IsAsked, set_of_look};
 ghost use Rattle.aug_c.specs.UserCalls.{found, span_of};
 ghost use Rattle.aug_c.specs.ArrayCalls.{bit_of, AnswersArray, AsksAll};
 
-use crate::codes::{BAD_LENGTH, CLOSED, NOT_LOOKING};
+use crate::codes::BAD_LENGTH;
 use crate::queries::Number;
-use crate::raw_handle::RawHandle;
-use crate::state::{HandleState, SummedLook};
+use crate::raw_handle::{RawHandle, on_look};
+use crate::state::SummedLook;
 use aug_query::descent::{Four, Has, Rank, Weight};
 
 // What is asked for each key of an array, and what is written of the answer.
@@ -114,14 +114,7 @@ fn ask_each<T: Copy, E: KeyQuery<T>>(look: &mut SummedLook, keys: &[u32], out: &
 fn ask_all<T: Copy, E: KeyQuery<T>>(user: &mut RawHandle, keys: &[u32], out: &mut [T]) -> i64
     ensures { AsksAll E.answer_of keys.now out.old out.new user.old user.new result }
 {
-    if !user.is_open() {
-        return CLOSED;
-    }
-    match &mut user.held.as_slot().state {
-        HandleState::Looking(held) => ask_each::<T, E>(&mut held.look, keys, out),
-        HandleState::Free(_) => NOT_LOOKING,
-        _ => CLOSED,
-    }
+    on_look!(user, held => ask_each::<T, E>(&mut held.look, keys, out))
 }
 
 /// Writes how many members of the snapshot are below each key to the place with its index. The keys stand in any order. Answers 0, or

@@ -4,10 +4,10 @@ ghost use Rattle.aug_trie.specs.declared.updates.request.Request.TheVariants as 
 ghost use Rattle.aug_c.specs.ArrayCalls.{change_by, changes, AsksFrom, MakesEach, UpdatesAll, UpdatesAllFree};
 ghost use Rattle.aug_c.specs.inside.KeyRequests.{request_by, requests_of};
 
-use crate::codes::{BAD_KEY, BAD_LENGTH, CLOSED, LOOKING};
-use crate::raw_handle::RawHandle;
+use crate::codes::{BAD_KEY, BAD_LENGTH};
+use crate::raw_handle::{RawHandle, on_access};
 use crate::refusal::CallRefusal;
-use crate::state::{HandleState, SummedAccess};
+use crate::state::SummedAccess;
 use aug_trie::{Outcome, Request};
 
 /// How far a call for an array has come. C has it zeroed before the first call.
@@ -129,7 +129,7 @@ fn has_lengths(universe: u32, keys: usize, weights: usize, progress: ArrayProgre
 }
 
 // Makes updates by a user that holds no look.
-fn update_all_by(
+fn update_all_by_access(
     access: &mut SummedAccess,
     each: Request,
     keys: &[u32],
@@ -160,14 +160,7 @@ fn update_all(
 ) -> i64
     ensures { UpdatesAll (requests_of each weights.now) keys.now (length weights.now) progress.old progress.new user.old user.new result }
 {
-    if !user.is_open() {
-        return CLOSED;
-    }
-    match &mut user.held.as_slot().state {
-        HandleState::Free(access) => update_all_by(access, each, keys, weights, progress),
-        HandleState::Looking(_) => LOOKING,
-        _ => CLOSED,
-    }
+    on_access!(user, access => update_all_by_access(access, each, keys, weights, progress))
 }
 
 /// Puts each key in, with itself as its weight, from the index on that the progress has come to. Answers 0 once an update was made for

@@ -4,10 +4,10 @@ ghost use Rattle.std.specs.List.Sorted.{IsStrictlyIncreasing};
 ghost use Rattle.aug_c.specs.ChangeCalls.{ListsChanges, ListsSince, change_of, set_of_arrays};
 ghost use Rattle.aug_c.specs.Handles.{AsksUser};
 
-use crate::codes::{BAD_KEY, BAD_LENGTH, CLOSED, NOT_LOOKING};
+use crate::codes::{BAD_KEY, BAD_LENGTH};
 use crate::queries::Number;
-use crate::raw_handle::RawHandle;
-use crate::state::{HandleState, SummedLook};
+use crate::raw_handle::{RawHandle, on_look};
+use crate::state::SummedLook;
 use aug_model::Difference;
 use aug_query::MemberList;
 
@@ -58,14 +58,7 @@ fn page_of(look: &mut SummedLook, from: u32, out: &mut [WeightChange]) -> i64
 pub extern "C" fn aug_try_changes(user: &mut RawHandle, from: u32, out: &mut [WeightChange]) -> i64
     ensures { AsksUser (ListsChanges from out.old out.new) (out.new ≡ out.old) user.old user.new result }
 {
-    if !user.is_open() {
-        return CLOSED;
-    }
-    match &mut user.held.as_slot().state {
-        HandleState::Looking(held) => page_of(&mut held.look, from, out),
-        HandleState::Free(_) => NOT_LOOKING,
-        _ => CLOSED,
-    }
+    on_look!(user, held => page_of(&mut held.look, from, out))
 }
 
 // Members that rise in one array, and their weights in another.
@@ -146,12 +139,5 @@ pub extern "C" fn aug_try_changes_since(
 ) -> i64
     ensures { AsksUser (ListsSince keys.now weights.now from out.old out.new) (out.new ≡ out.old) user.old user.new result }
 {
-    if !user.is_open() {
-        return CLOSED;
-    }
-    match &mut user.held.as_slot().state {
-        HandleState::Looking(held) => page_since(&mut held.look, keys, weights, from, out),
-        HandleState::Free(_) => NOT_LOOKING,
-        _ => CLOSED,
-    }
+    on_look!(user, held => page_since(&mut held.look, keys, weights, from, out))
 }

@@ -7,10 +7,10 @@ ghost use Rattle.aug_c.specs.PopCalls.{pop_code, written_by, PopsMember};
 ghost use Rattle.aug_c.specs.UserCalls.{ShowsClosed, span_of};
 ghost use Rattle.aug_c.specs.declared.refusal.CallRefusal.TheVariants as refusal;
 
-use crate::codes::{CLOSED, LOOKING, NONE};
-use crate::raw_handle::RawHandle;
+use crate::codes::NONE;
+use crate::raw_handle::{RawHandle, on_access};
 use crate::refusal::CallRefusal;
-use crate::state::{HandleState, SummedAccess};
+use crate::state::SummedAccess;
 use aug_trie::{Pop, Side};
 
 /// A member: a key, and what it weighs.
@@ -41,7 +41,7 @@ fn tell(answer: Result<Pop, CallRefusal>, out: &mut Member) -> i64
 }
 
 #[inline(always)]
-fn pop_by(access: &mut SummedAccess, side: Side) -> Result<Pop, CallRefusal>
+fn pop_by_access(access: &mut SummedAccess, side: Side) -> Result<Pop, CallRefusal>
     ensures popped { IfOk result (λ done. Makes (pop_updates done) (Pops span_of side done) access.old access.new) }
     ensures not_made { IfErr result (λ _. Follows access.old access.new) }
     ensures closed { IsErrOf result refusal.Closed → ShowsClosed access.new }
@@ -61,14 +61,7 @@ fn pop_by(access: &mut SummedAccess, side: Side) -> Result<Pop, CallRefusal>
 fn pop(user: &mut RawHandle, side: Side, out: &mut Member) -> i64
     ensures { PopsMember side out.old out.new user.old user.new result }
 {
-    if !user.is_open() {
-        return CLOSED;
-    }
-    match &mut user.held.as_slot().state {
-        HandleState::Free(access) => tell(pop_by(access, side), out),
-        HandleState::Looking(_) => LOOKING,
-        _ => CLOSED,
-    }
+    on_access!(user, access => tell(pop_by_access(access, side), out))
 }
 
 /// Takes out the member with the least key, and writes it: 1 if it did, `NONE` if there is no member, and 0 if another change of that member came in

@@ -7,9 +7,8 @@ ghost use Rattle.aug_c.specs.Handles.{AsksUser};
 ghost use Rattle.aug_c.specs.UserCalls.{found, truth, Asks, AsksRange, IsSpan};
 ghost use Rattle.aug_c.specs.inside.Answered.{AnswersLook};
 
-use crate::codes::{CLOSED, NONE, NOT_LOOKING};
-use crate::raw_handle::RawHandle;
-use crate::state::HandleState;
+use crate::codes::NONE;
+use crate::raw_handle::{RawHandle, on_look};
 use aug_model::Summary;
 use aug_monoid::{Extent, Sum};
 use aug_query::Query;
@@ -74,14 +73,7 @@ impl Number for bool {
 fn ask<X: Number, Q: Query<Sum, Extent, Answer = X> + Drop>(user: &mut RawHandle, query: Q) -> i64
     ensures { AsksUser (AnswersLook (λ set answer. Q.Answers query set answer) X.number_of) ⊤ user.old user.new result }
 {
-    if !user.is_open() {
-        return CLOSED;
-    }
-    match &mut user.held.as_slot().state {
-        HandleState::Looking(held) => held.look.ask(query).number(),
-        HandleState::Free(_) => NOT_LOOKING,
-        _ => CLOSED,
-    }
+    on_look!(user, held => held.look.ask(query).number())
 }
 
 fn span_from(told: Summary<Sum, Extent>) -> Span
@@ -184,17 +176,10 @@ pub extern "C" fn aug_try_last(user: &mut RawHandle) -> i64
 pub extern "C" fn aug_try_range(user: &mut RawHandle, from: u32, to: u32, out: &mut Span) -> i64
     ensures { AsksUser (AsksRange from to out.new) (out.new ≡ out.old) user.old user.new result }
 {
-    if !user.is_open() {
-        return CLOSED;
-    }
-    match &mut user.held.as_slot().state {
-        HandleState::Looking(held) => {
-            let told = held.look.ask(Range(from, to));
-            let count = told.count;
-            *out = span_from(told);
-            i64::from(count)
-        }
-        HandleState::Free(_) => NOT_LOOKING,
-        _ => CLOSED,
-    }
+    on_look!(user, held => {
+        let told = held.look.ask(Range(from, to));
+        let count = told.count;
+        *out = span_from(told);
+        i64::from(count)
+    })
 }

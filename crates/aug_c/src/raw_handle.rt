@@ -100,6 +100,35 @@ impl HeldBox {
     }
 }
 
+// What a call answers that does this with the look of a handle's user. On any other handle it does nothing.
+macro_rules! on_look {
+    ($user:ident, $held:ident => $call:expr) => {{
+        if !$user.is_open() {
+            return $crate::codes::CLOSED;
+        }
+        match &mut $user.held.as_slot().state {
+            $crate::state::HandleState::Looking($held) => $call,
+            other => other.without_look(),
+        }
+    }};
+}
+
+// The same with the access of a user that holds no look.
+macro_rules! on_access {
+    ($user:ident, $access:ident => $call:expr) => {{
+        if !$user.is_open() {
+            return $crate::codes::CLOSED;
+        }
+        match &mut $user.held.as_slot().state {
+            $crate::state::HandleState::Free($access) => $call,
+            other => other.without_access(),
+        }
+    }};
+}
+
+pub(crate) use on_access;
+pub(crate) use on_look;
+
 impl RawHandle {
     /// Whether it is open.
     #[inline(always)]

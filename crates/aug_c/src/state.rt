@@ -1,6 +1,7 @@
 //! What the handles stand for.
 ghost use Rattle.std.specs.Prelude.{◌≡◌};
 
+use crate::codes::{CLOSED, LOOKING, NOT_LOOKING};
 use aug_live::{Handle, Live, Look};
 use aug_monoid::{Extent, Sum};
 use std::marker::Model;
@@ -48,6 +49,30 @@ pub enum HandleState {
 
     /// A user that holds this look.
     Looking(HeldLook),
+}
+
+impl HandleState {
+    ghost use Rattle.aug_c.specs.inside.UserKinds.{free_or_closed, looking_or_closed};
+
+    /// What a call that asks a look answers, if this is none.
+    pub(crate) fn without_look(&self) -> i64
+        ensures { result ≡ free_or_closed self.now }
+    {
+        match self {
+            HandleState::Free(_) => NOT_LOOKING,
+            _ => CLOSED,
+        }
+    }
+
+    /// What a call of a user that holds no look answers, if this is none.
+    pub(crate) fn without_access(&self) -> i64
+        ensures { result ≡ looking_or_closed self.now }
+    {
+        match self {
+            HandleState::Looking(_) => LOOKING,
+            _ => CLOSED,
+        }
+    }
 }
 
 impl HeldLook {

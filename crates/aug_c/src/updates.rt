@@ -5,11 +5,12 @@ ghost use Rattle.aug_trie.specs.declared.updates.request.Request.TheVariants as 
 ghost use Rattle.aug_live.specs.LiveHandles.{Follows, Makes};
 ghost use Rattle.aug_c.specs.declared.refusal.CallRefusal.TheVariants as refusal;
 ghost use Rattle.aug_c.specs.Handles.{HandleCall, OnFree, OnLooking};
+ghost use Rattle.aug_c.specs.inside.UserKinds.{IsFreeUser, IsLookingUser};
 ghost use Rattle.aug_c.specs.UserCalls.{told_in, update_code, EndsFree, InsertsKey, LooksAnew, ShowsClosed, TakesFree, UpdatesKey};
 
-use crate::codes::{CLOSED, LOOKING, NOT_LOOKING, TOO_GREAT, TOO_LITTLE};
+use crate::codes::{CLOSED, TOO_GREAT, TOO_LITTLE};
 use crate::queries::Number;
-use crate::raw_handle::RawHandle;
+use crate::raw_handle::{RawHandle, on_access, on_look};
 use crate::refusal::CallRefusal;
 use crate::state::{HandleState, HeldLook, SummedAccess};
 use aug_trie::{Outcome, Request, Told};
@@ -51,7 +52,11 @@ fn tell(answer: Result<Told, CallRefusal>, out: &mut WeightsTold) -> i64
 
 // Makes an update of a key.
 #[inline(always)]
-fn update_by(access: &mut SummedAccess, key: u32, request: Request) -> Result<Told, CallRefusal>
+fn update_by_access(
+    access: &mut SummedAccess,
+    key: u32,
+    request: Request,
+) -> Result<Told, CallRefusal>
     ensures bad_key { IsErrOf result refusal.BadKey ↔ (2 ^ access.old.half.round.bits ≤ key) }
     ensures same { IsErrOf result refusal.BadKey → access.new ≡ access.old }
     ensures made { IfOk result (λ told. Makes 1 (λ a b. Updates request key told a.knows b.knows) access.old access.new) }
@@ -72,14 +77,7 @@ fn update_by(access: &mut SummedAccess, key: u32, request: Request) -> Result<To
 fn update(user: &mut RawHandle, key: u32, request: Request, out: &mut WeightsTold) -> i64
     ensures { UpdatesKey request key out.old out.new user.old user.new result }
 {
-    if !user.is_open() {
-        return CLOSED;
-    }
-    match &mut user.held.as_slot().state {
-        HandleState::Free(access) => tell(update_by(access, key, request), out),
-        HandleState::Looking(_) => LOOKING,
-        _ => CLOSED,
-    }
+    on_access!(user, access => tell(update_by_access(access, key, request), out))
 }
 
 /// Puts a key in, with the key itself as its weight: 1 if it was not there, 0 if it was.
@@ -142,9 +140,10 @@ pub extern "C" fn aug_try_sub(
     update(user, key, Request::Sub(amount), out)
 }
 
-// A user with a look, and what the call answers.
+// A user with a look in the place of its access, and what the call answers.
 #[inline(always)]
 fn with_look(state: HandleState, _: ()) -> (HandleState, i64)
+    requires { IsFreeUser state }
     ensures { OnFree TakesFree ⊤ state result.0 result.1 }
 {
     match state {
@@ -152,8 +151,7 @@ fn with_look(state: HandleState, _: ()) -> (HandleState, i64)
             Ok(look) => (HandleState::Looking(HeldLook::of(look)), 0),
             Err((access, cause)) => (HandleState::Free(access), CallRefusal::of(cause).code()),
         },
-        HandleState::Looking(look) => (HandleState::Looking(look), LOOKING),
-        other => (other, CLOSED),
+        _ => unreachable!(),
     }
 }
 
@@ -165,7 +163,11 @@ pub extern "C" fn aug_try_look(user: &mut RawHandle) -> i64
     if !user.is_open() {
         return CLOSED;
     }
-    replace_with(&mut user.held.as_slot().state, (), with_look)
+    let state = &mut user.held.as_slot().state;
+    match state {
+        HandleState::Free(_) => replace_with(state, (), with_look),
+        other => other.without_access(),
+    }
 }
 
 /// Takes a newer snapshot in the same look.
@@ -173,28 +175,21 @@ pub extern "C" fn aug_try_look(user: &mut RawHandle) -> i64
 pub extern "C" fn aug_try_look_again(user: &mut RawHandle) -> i64
     ensures { LooksAnew user.old user.new result }
 {
-    if !user.is_open() {
-        return CLOSED;
-    }
-    match &mut user.held.as_slot().state {
-        HandleState::Looking(held) => {
-            held.look.again();
-            0
-        }
-        HandleState::Free(_) => NOT_LOOKING,
-        _ => CLOSED,
-    }
+    on_look!(user, held => {
+        held.look.again();
+        0
+    })
 }
 
-// A user without its look, and what the call answers.
+// A user with its access in the place of a look, and what the call answers.
 #[inline(always)]
-fn without_look(state: HandleState, _: ()) -> (HandleState, i64)
+fn with_access(state: HandleState, _: ()) -> (HandleState, i64)
+    requires { IsLookingUser state }
     ensures { OnLooking EndsFree ⊤ state result.0 result.1 }
 {
     match state {
         HandleState::Looking(held) => (HandleState::Free(held.into_look().done()), 0),
-        HandleState::Free(access) => (HandleState::Free(access), NOT_LOOKING),
-        other => (other, CLOSED),
+        _ => unreachable!(),
     }
 }
 
@@ -206,5 +201,9 @@ pub extern "C" fn aug_try_look_done(user: &mut RawHandle) -> i64
     if !user.is_open() {
         return CLOSED;
     }
-    replace_with(&mut user.held.as_slot().state, (), without_look)
+    let state = &mut user.held.as_slot().state;
+    match state {
+        HandleState::Looking(_) => replace_with(state, (), with_access),
+        other => other.without_look(),
+    }
 }

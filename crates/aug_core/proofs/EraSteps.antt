@@ -3,12 +3,12 @@ use Rattle.std.proofs.Common.{true, ◌≡◌, ℕ, ◌+◌, ◌^◌, ◌<◌, L
 use mathlib.Core.Option.{none}
 use prog.Atomic.{either}
 use Rattle.atomic_table.specs.Table.{step, Allows}
-use Rattle.aug_core.specs.Places.{Shape, record_start, record_words}
+use Rattle.aug_core.specs.Places.{Shape, record_start, record_words, word_count}
 use Rattle.aug_core.specs.Addresses.{IsInner}
 use Rattle.aug_core.specs.Lanes.{word_of_state}
 use Rattle.aug_core.specs.Book.{At}
 use Rattle.aug_core.specs.Eras.{IsAtWork, Ruled}
-use Rattle.aug_core.specs.Effects.{Sat, read_record, MayStore, stored_record, own_lane_place, took_lane, finished_lane, loaded_leaf, began_at_leaf, MayChange, old_word, new_word, IsAdvance, tried_leaf, loaded_node, IsFilled, tried_node}
+use Rattle.aug_core.specs.Effects.{Sat, in_part, read_record, MayStore, stored_record, own_lane_place, took_lane, finished_lane, loaded_leaf, began_at_leaf, MayChange, old_word, new_word, IsAdvance, tried_leaf, loaded_node, IsFilled, tried_node}
 use Rattle.aug_core.specs.inside.LaneStates.{MayTake, HasTakenLane}
 use Rattle.aug_core.specs.declared.view.Advance.{Advance}
 use Rattle.aug_core.specs.declared.view.Entry.{Entry}
@@ -22,42 +22,42 @@ use Rattle.aug_core.proofs.Leaves as leaf
 use Rattle.aug_core.proofs.Nodes as node
 
 module _ (face : ℕ → ℕ → List (ℕ × ℕ) → List ℕ) (shape : Shape) (n id : ℕ) where
-  pub loads_record_word : (place : ℕ) (me : Sat) → IsAtWork me.0 → me.0.live ≡ true → me.1 ≡ [] → Allows (Ruled face shape) n id me place (λ x. x) (read_record (step n place 0 0 none) me)
-  loads_record_word place me work live empty = in_its_era face shape n id place me (λ x. x) (read_record (step n place 0 0 none) me) work (λ o. load.loads_record_word face o n id place me live empty)
+  pub loads_record_word : (place i : ℕ) (me : Sat) → IsAtWork me.0 → me.0.live ≡ true → me.1 ≡ [] → place < word_count me.0.shape → i ≡ me.0.base + place → Allows (Ruled face shape) n id me i (λ x. x) (in_part read_record (step n i 0 0 none) me)
+  loads_record_word place i me work live empty inside at = in_its_era face shape n id place i me (λ x. x) (λ w. read_record (step n w 0 0 none) me) work live inside at (λ o. load.loads_record_word face o n id place me live empty)
 
-  pub loads_leaf : (place : ℕ) (me : Sat) → IsAtWork me.0 → me.0.live ≡ true → me.1 ≡ [] → Allows (Ruled face shape) n id me place (λ x. x) (loaded_leaf face (step n place 0 0 none) me)
-  loads_leaf place me work live empty = in_its_era face shape n id place me (λ x. x) (loaded_leaf face (step n place 0 0 none) me) work (λ o. load.loads_leaf face o n id place me live empty)
+  pub loads_leaf : (place i : ℕ) (me : Sat) → IsAtWork me.0 → me.0.live ≡ true → me.1 ≡ [] → place < word_count me.0.shape → i ≡ me.0.base + place → Allows (Ruled face shape) n id me i (λ x. x) (in_part (loaded_leaf face) (step n i 0 0 none) me)
+  loads_leaf place i me work live empty inside at = in_its_era face shape n id place i me (λ x. x) (λ w. loaded_leaf face (step n w 0 0 none) me) work live inside at (λ o. load.loads_leaf face o n id place me live empty)
 
-  pub begins_at_leaf : (place : ℕ) (me : Sat) → IsAtWork me.0 → me.0.live ≡ true → me.1 ≡ [] → Allows (Ruled face shape) n id me place (λ x. x) (began_at_leaf face (step n place 0 0 none) me)
-  begins_at_leaf place me work live empty = in_its_era face shape n id place me (λ x. x) (began_at_leaf face (step n place 0 0 none) me) work (λ o. load.begins_at_leaf face o n id place me live empty)
+  pub begins_at_leaf : (place i : ℕ) (me : Sat) → IsAtWork me.0 → me.0.live ≡ true → me.1 ≡ [] → place < word_count me.0.shape → i ≡ me.0.base + place → Allows (Ruled face shape) n id me i (λ x. x) (in_part (began_at_leaf face) (step n i 0 0 none) me)
+  begins_at_leaf place i me work live empty inside at = in_its_era face shape n id place i me (λ x. x) (λ w. began_at_leaf face (step n w 0 0 none) me) work live inside at (λ o. load.begins_at_leaf face o n id place me live empty)
 
-  pub loads_node : (place : ℕ) (me : Sat) → IsAtWork me.0 → me.0.live ≡ true → me.1 ≡ [] → Allows (Ruled face shape) n id me place (λ x. x) (loaded_node face (step n place 0 0 none) me)
-  loads_node place me work live empty = in_its_era face shape n id place me (λ x. x) (loaded_node face (step n place 0 0 none) me) work (λ o. load.loads_node face o n id place me live empty)
+  pub loads_node : (place i : ℕ) (me : Sat) → IsAtWork me.0 → me.0.live ≡ true → me.1 ≡ [] → place < word_count me.0.shape → i ≡ me.0.base + place → Allows (Ruled face shape) n id me i (λ x. x) (in_part (loaded_node face) (step n i 0 0 none) me)
+  loads_node place i me work live empty inside at = in_its_era face shape n id place i me (λ x. x) (λ w. loaded_node face (step n w 0 0 none) me) work live inside at (λ o. load.loads_node face o n id place me live empty)
 
-  pub loads_after_note : (place : ℕ) (me : Sat) → IsAtWork me.0 → me.0.live ≡ true → me.1 ≡ [] → Allows (Ruled face shape) n id me place (λ x. x) (loaded_after_note face (step n place 0 0 none) me)
-  loads_after_note place me work live empty = hears_in_its_era face shape n id place me (λ x. x) (loaded_node face (step n place 0 0 none) me) work live (λ o. load.loads_node face o n id place me live empty)
+  pub loads_after_note : (place i : ℕ) (me : Sat) → IsAtWork me.0 → me.0.live ≡ true → me.1 ≡ [] → place < word_count me.0.shape → i ≡ me.0.base + place → Allows (Ruled face shape) n id me i (λ x. x) (in_part (loaded_after_note face) (step n i 0 0 none) me)
+  loads_after_note place i me work live empty inside at = hears_in_its_era face shape n id place i me (λ x. x) (λ w. loaded_node face (step n w 0 0 none) me) work live inside at (λ o. load.loads_node face o n id place me live empty)
 
-  pub stores_record_word : (place number field x : ℕ) (me : Sat) → me.0.live ≡ true → me.1 ≡ [] → HasTakenLane me.0 → MayStore me.0 number → field < record_words → place ≡ record_start me.0.shape number + field
-      → Allows (Ruled face shape) n id me place (λ _. x) (λ _ m. stored_record (step n place x 0 none) me x m)
-  stores_record_word place number field x me live empty has may small is = in_its_era face shape n id place me (λ _. x) (λ _ m. stored_record (step n place x 0 none) me x m) (holds_lane me.0 has.lane has.only)
+  pub stores_record_word : (place i number field x : ℕ) (me : Sat) → me.0.live ≡ true → me.1 ≡ [] → place < word_count me.0.shape → i ≡ me.0.base + place → HasTakenLane me.0 → MayStore me.0 number → field < record_words → place ≡ record_start me.0.shape number + field
+      → Allows (Ruled face shape) n id me i (λ _. x) (λ _. in_part stored_record (step n i x 0 none) me x)
+  stores_record_word place i number field x me live empty inside at has may small is = in_its_era face shape n id place i me (λ _. x) (λ w _ m. stored_record (step n w x 0 none) me x m) (holds_lane me.0 has.lane has.only) live inside at
       (λ o. store.stores_record_word face o n id place number field x me live empty has may small is)
 
-  pub takes_lane : (place : ℕ) (me : Sat) → me.0.live ≡ true → me.1 ≡ [] → MayTake me.0 → place ≡ own_lane_place me.0
-      → Allows (Ruled face shape) n id me place (λ x. either (eqb x (word_of_state Free)) (word_of_state Taken) x) (took_lane (step n place (word_of_state Free) (word_of_state Taken) none) me)
-  takes_lane place me live empty may is = in_its_era face shape n id place me (λ x. either (eqb x (word_of_state Free)) (word_of_state Taken) x) (took_lane (step n place (word_of_state Free) (word_of_state Taken) none) me)
-      (holds_lane me.0 may.lane may.only) (λ o. state.takes_lane face o n id place me live empty may is)
+  pub takes_lane : (place i : ℕ) (me : Sat) → me.0.live ≡ true → me.1 ≡ [] → place < word_count me.0.shape → i ≡ me.0.base + place → MayTake me.0 → place ≡ own_lane_place me.0
+      → Allows (Ruled face shape) n id me i (λ x. either (eqb x (word_of_state Free)) (word_of_state Taken) x) (in_part took_lane (step n i (word_of_state Free) (word_of_state Taken) none) me)
+  takes_lane place i me live empty inside at may is = in_its_era face shape n id place i me (λ x. either (eqb x (word_of_state Free)) (word_of_state Taken) x) (λ w. took_lane (step n w (word_of_state Free) (word_of_state Taken) none) me)
+      (holds_lane me.0 may.lane may.only) live inside at (λ o. state.takes_lane face o n id place me live empty may is)
 
-  pub finishes_lane : (place : ℕ) (me : Sat) → me.0.live ≡ true → me.1 ≡ [] → HasTakenLane me.0 → place ≡ own_lane_place me.0
-      → Allows (Ruled face shape) n id me place (λ _. word_of_state Ended) (λ _ m. finished_lane (step n place (word_of_state Ended) 0 none) me (word_of_state Ended) m)
-  finishes_lane place me live empty has is = in_its_era face shape n id place me (λ _. word_of_state Ended) (λ _ m. finished_lane (step n place (word_of_state Ended) 0 none) me (word_of_state Ended) m)
-      (holds_lane me.0 has.lane has.only) (λ o. state.finishes_lane face o n id place me live empty has is)
+  pub finishes_lane : (place i : ℕ) (me : Sat) → me.0.live ≡ true → me.1 ≡ [] → place < word_count me.0.shape → i ≡ me.0.base + place → HasTakenLane me.0 → place ≡ own_lane_place me.0
+      → Allows (Ruled face shape) n id me i (λ _. word_of_state Ended) (λ _. in_part finished_lane (step n i (word_of_state Ended) 0 none) me (word_of_state Ended))
+  finishes_lane place i me live empty inside at has is = in_its_era face shape n id place i me (λ _. word_of_state Ended) (λ w _ m. finished_lane (step n w (word_of_state Ended) 0 none) me (word_of_state Ended) m)
+      (holds_lane me.0 has.lane has.only) live inside at (λ o. state.finishes_lane face o n id place me live empty has is)
 
-  pub allows_leaf : (key old new : ℕ) (b : Advance) (x : Entry) (me : Sat) → old ≡ old_word b → new ≡ new_word b → me.0.live ≡ true → me.1 ≡ [] → key < 2 ^ me.0.shape.bits → HasTakenLane me.0 → MayChange me.0
-      → At me.0.seen key b.serial x → x.weight ≡ b.weight → IsAdvance b → Allows (Ruled face shape) n id me key (λ z. either (eqb z old) new z) (tried_leaf face (step n key old new none) me)
-  allows_leaf key old new b x me from to live empty low has may known weighs is = in_its_era face shape n id key me (λ z. either (eqb z old) new z) (tried_leaf face (step n key old new none) me)
-      (holds_lane me.0 has.lane has.only) (λ o. leaf.allows_leaf face o n id key old new b x me from to live empty low has may known weighs is)
+  pub allows_leaf : (key i old new : ℕ) (b : Advance) (x : Entry) (me : Sat) → old ≡ old_word b → new ≡ new_word b → me.0.live ≡ true → me.1 ≡ [] → key < word_count me.0.shape → i ≡ me.0.base + key → key < 2 ^ me.0.shape.bits → HasTakenLane me.0 → MayChange me.0
+      → At me.0.seen key b.serial x → x.weight ≡ b.weight → IsAdvance b → Allows (Ruled face shape) n id me i (λ z. either (eqb z old) new z) (in_part (tried_leaf face) (step n i old new none) me)
+  allows_leaf key i old new b x me from to live empty inside at low has may known weighs is = in_its_era face shape n id key i me (λ z. either (eqb z old) new z) (λ w. tried_leaf face (step n w old new none) me)
+      (holds_lane me.0 has.lane has.only) live inside at (λ o. leaf.allows_leaf face o n id key old new b x me from to live empty low has may known weighs is)
 
-  pub tries_node : (q old number : ℕ) (me : Sat) → me.0.live ≡ true → me.1 ≡ [] → IsInner me.0.shape q → HasTakenLane me.0 → MayStore me.0 number → IsFilled face me.0 q old number
-      → Allows (Ruled face shape) n id me q (λ x. either (eqb x old) number x) (tried_node face (step n q old number none) me)
-  tries_node q old number me live empty inner has may c = in_its_era face shape n id q me (λ x. either (eqb x old) number x) (tried_node face (step n q old number none) me)
-      (holds_lane me.0 has.lane has.only) (λ o. node.tries_node face o n id q old number me live empty inner has may c)
+  pub tries_node : (q i old number : ℕ) (me : Sat) → me.0.live ≡ true → me.1 ≡ [] → q < word_count me.0.shape → i ≡ me.0.base + q → IsInner me.0.shape q → HasTakenLane me.0 → MayStore me.0 number → IsFilled face me.0 q old number
+      → Allows (Ruled face shape) n id me i (λ x. either (eqb x old) number x) (in_part (tried_node face) (step n i old number none) me)
+  tries_node q i old number me live empty inside at inner has may c = in_its_era face shape n id q i me (λ x. either (eqb x old) number x) (λ w. tried_node face (step n w old number none) me)
+      (holds_lane me.0 has.lane has.only) live inside at (λ o. node.tries_node face o n id q old number me live empty inner has may c)

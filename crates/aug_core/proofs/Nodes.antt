@@ -167,7 +167,7 @@ module _ (face : ℕ → ℕ → List (ℕ × ℕ) → List ℕ) (o : Opening) w
               miss = λ miss. absurd (miss hit);
             },
           ),
-          record { live = refl; era = refl; past = refl; shape = refl; members = refl; told = refl; renews = refl },
+          record { live = refl; era = refl; past = refl; shape = refl; members = refl; told = refl; renews = refl; base = refl; whole = refl; led = λ m e. (m, e) },
         ),
       ))
       (λ miss. let w : SeatView = seeing v r.book taken in let top = r.tree.newest q inner'.inside in (
@@ -189,6 +189,6 @@ module _ (face : ℕ → ℕ → List (ℕ × ℕ) → List ℕ) (o : Opening) w
               miss = λ _. (refl, top.word ∙ r.tree.is_book.named q top.index top.entry inner' top.newest.at);
             },
           ),
-          record { live = refl; era = refl; past = refl; shape = refl; members = refl; told = refl; renews = refl },
+          record { live = refl; era = refl; past = refl; shape = refl; members = refl; told = refl; renews = refl; base = refl; whole = refl; led = λ m e. (m, e) },
         ),
       ))

@@ -6,8 +6,8 @@ use mathlib.Core.Option.{some, some-ne-none}
 use lib.ListN.{get_elem?}
 use Rattle.atomic_table.specs.Table.{Splits, Joins}
 use Rattle.atomic_table.proofs.Lists.{at_set, at_map, at_snoc, at_longer, set_again}
-use Rattle.aug_core.specs.Places.{Shape}
-use Rattle.aug_core.specs.Eras.{IsAtWork, seen_in, table_in, opening_with, Remembers, Works, IsPast, Renews, Ruled}
+use Rattle.aug_core.specs.Places.{Shape, word_count}
+use Rattle.aug_core.specs.Eras.{IsAtWork, seen_in, table_in, table_part, opening_with, Remembers, Works, IsPast, Renews, Ruled}
 use Rattle.aug_core.specs.inside.EraSteps.{MayNote}
 use Rattle.aug_core.specs.Opening.{Opening}
 use Rattle.aug_core.specs.Counts.{StandsAt}
@@ -21,7 +21,7 @@ use Rattle.aug_core.specs.declared.view.Learnt.{Learnt}
 use Rattle.aug_core.specs.declared.view.PastEra.{PastEra}
 use Rattle.aug_core.specs.declared.view.SeatView.{SeatView}
 use Rattle.aug_core.proofs.Books.{snoc_at}
-use Rattle.aug_core.proofs.Eras.{seen_spent, spent_rests, none_renews, stands_now, views_now, present_on, none_later_on, none_renews_on}
+use Rattle.aug_core.proofs.Eras.{seen_spent, spent_rests, none_renews, stands_now, views_now, present_on, placed_on, beside_on, none_later_on, none_renews_on}
 use Rattle.aug_core.proofs.Joins.{joins_seat}
 use Rattle.aug_core.proofs.Moves.{St}
 use Rattle.aug_core.proofs.PrefixLemmas.{book_none}
@@ -129,7 +129,7 @@ module _ (face : ℕ → ℕ → List (ℕ × ℕ) → List ℕ) (shape : Shape)
       let old : (j : ℕ) (x : SeatView) → get_elem? (set s.views id v) j ≡ some x → get_elem? s.views j ≡ some x = λ j x p. subst (λ (z : List SeatView). get_elem? z j ≡ some x) again p in
       ⊎_elim
       (λ (w : Works face shape s). let seen : SeatView → SeatView = seen_in w.era in
-      let kept = notes_seat face (opening_with shape w.members) id (seen v) (table_in w.era s) w.kept (at_map seen s.views id v at) in
+      let kept = notes_seat face (opening_with shape w.members) id (seen v) (table_in w.era w.base (word_count shape) s) w.kept (at_map seen s.views id v at) in
       let same : set (map seen s.views) id (seen v) ++ noted (seen v) ∷ [] ≡ map seen (set s.views id v ++ noted v ∷ []) =
       ap (λ (z : List SeatView). z ++ noted (seen v) ∷ []) (sym (map-set seen s.views id v))
       ∙ ap (λ (z : SeatView). map seen (set s.views id v) ++ z ∷ []) (noted_counts (eqb v.era w.era) v)
@@ -137,12 +137,15 @@ module _ (face : ℕ → ℕ → List (ℕ × ℕ) → List ℕ) (shape : Shape)
       inl record {
         era = w.era;
         members = w.members;
-        kept = subst (λ (z : List SeatView). Kept face (opening_with shape w.members) record { words = s.words; homes = s.homes; views = z }) same kept;
+        base = w.base;
+        kept = subst (λ (z : List SeatView). Kept face (opening_with shape w.members) record { words = table_part w.base (word_count shape) s.words; homes = s.homes; views = z }) same kept;
         past = w.past;
         counted = w.counted;
         remembers = λ j x p live. ⊎_elim (λ q. w.remembers j x (old j x q) live)
             (λ q. subst (Remembers shape w.era w.past) q (noted_remembers shape w.era w.past v (w.remembers id v at (ap (λ (z : SeatView). z.live) q ∙ live)))) (at_snoc (set s.views id v) (noted v) x j p);
         present = λ j x p work. ⊎_elim (λ q. w.present j x (old j x q) work) (λ q. absurd (noted_rests v (subst IsAtWork (sym q) work))) (at_snoc (set s.views id v) (noted v) x j p);
+        placed = λ j x p work. ⊎_elim (λ q. w.placed j x (old j x q) work) (λ q. absurd (noted_rests v (subst IsAtWork (sym q) work))) (at_snoc (set s.views id v) (noted v) x j p);
+        beside = λ j m x p leads. ⊎_elim (λ q. w.beside j m x (old j x q) leads) (λ q. let clash : None ≡ Some m = ap (λ (z : SeatView). z.spare) q ∙ leads in cc) (at_snoc (set s.views id v) (noted v) x j p);
         none_later = λ j x p. ⊎_elim (λ q. w.none_later j x (old j x q)) (λ q. subst (λ (z : SeatView). z.era ≤ w.era) q (w.none_later id v at)) (at_snoc (set s.views id v) (noted v) x j p);
         none_renews = λ j x p. ⊎_elim (λ q. w.none_renews j x (old j x q)) (λ q. subst (λ (z : SeatView). z.renews ≡ false) q refl) (at_snoc (set s.views id v) (noted v) x j p);
       })
@@ -158,7 +161,6 @@ module _ (face : ℕ → ℕ → List (ℕ × ℕ) → List ℕ) (shape : Shape)
         no_work = r.no_work;
         shaped = r.shaped;
         words_are = r.words_are;
-        wide = r.wide;
         counted = r.counted;
         others = λ j x ne p. ⊎_elim (λ q. r.others j x ne (old j x q))
             (λ q. let was = r.others id v other at in subst (IsPast shape r.view.era r.view.past) q (record {
@@ -203,13 +205,14 @@ module _ (face : ℕ → ℕ → List (ℕ × ℕ) → List ℕ) (shape : Shape)
       let there' : get_elem? (set (map seen s.views) id next) other ≡ some (seen u) = subst (λ (z : List SeatView). get_elem? z other ≡ some (seen u)) (sym now) (at_map seen views' other u at') in
       let joins = subst (λ (z : ℕ). Joins (Kept face (opening_with shape w.members)) id v other (seen u) record v { also = (seen_in z u).seen; told = next.told } spent) (sym present)
       (learns_seat face (opening_with shape w.members) id other v (seen u) next.told (none_held (eqb u.era w.era) u none)) in
-      let kept = joins (table_in w.era s) w.kept (stands_now face shape s id v at w present) ne there' in
+      let kept = joins (table_in w.era w.base (word_count shape) s) w.kept (stands_now face shape s id v at w present) ne there' in
       let same : set (set (map seen s.views) id next) other spent ≡ map seen (set views' other spent) =
       ap (λ (z : List SeatView). set z other spent) now ∙ ap (set (map seen views') other) (sym (seen_spent w.era)) ∙ sym (map-set seen views' other spent) in
       inl record {
         era = w.era;
         members = w.members;
-        kept = subst (λ (z : List SeatView). Kept face (opening_with shape w.members) record { words = s.words; homes = s.homes; views = z }) same kept;
+        base = w.base;
+        kept = subst (λ (z : List SeatView). Kept face (opening_with shape w.members) record { words = table_part w.base (word_count shape) s.words; homes = s.homes; views = z }) same kept;
         past = w.past;
         counted = w.counted;
         remembers = λ j x p go. ⊎_elim
@@ -217,6 +220,9 @@ module _ (face : ℕ → ℕ → List (ℕ × ℕ) → List ℕ) (shape : Shape)
             (λ t. ⊎_elim (λ q. subst (Remembers shape w.era w.past) q.1 (learning_remembers s w id other v u at there live live' present)) (λ q. w.remembers j x q.1 go) (at_set s.views id j next x t.1))
             (at_set views' other j spent x p);
         present = λ j x p go. ⊎_elim (λ t. absurd (spent_rests (subst IsAtWork (sym t.1) go))) (λ t. present_on face shape s id v at w present next refl j x t.1 go) (at_set views' other j spent x p);
+        placed = λ j x p go. ⊎_elim (λ t. absurd (spent_rests (subst IsAtWork (sym t.1) go))) (λ t. placed_on face shape s id v at w present next refl refl j x t.1 go work) (at_set views' other j spent x p);
+        beside = λ j m x p leads. ⊎_elim (λ t. let clash : None ≡ Some m = ap (λ (z : SeatView). z.spare) t.1 ∙ leads in cc)
+            (λ t. beside_on face shape s id v at w present next refl refl (λ k e. (k, e)) j m x t.1 leads) (at_set views' other j spent x p);
         none_later = λ j x p. ⊎_elim (λ t. subst (λ (z : SeatView). z.era ≤ w.era) t.1 (omega arith)) (λ t. none_later_on face shape s id v at w present next refl j x t.1) (at_set views' other j spent x p);
         none_renews = λ j x p. ⊎_elim (λ t. subst (λ (z : SeatView). z.renews ≡ false) t.1 refl) (λ t. none_renews_on face shape s id v at w present next refl refl j x t.1) (at_set views' other j spent x p);
       })

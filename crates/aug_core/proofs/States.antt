@@ -87,7 +87,7 @@ module _ (face : ℕ → ℕ → List (ℕ × ℕ) → List ℕ) (o : Opening) w
         subst (λ (z : List Held). Kept face o record { words = set s.words place (word_of_state Taken); homes = s.homes; views = set s.views id record v { held = z; steps = steps } }) (sym held)
             (subst (λ (z : ℕ). Kept face o record { words = set s.words z (word_of_state Taken); homes = s.homes; views = set s.views id record v { held = in_state Taken h ∷ []; steps = steps } }) (sym is')
             (restates s r id v at h may.only Taken (omega arith) (omega arith) steps)),
-        ((empty, found, refl), record { live = refl; era = refl; past = refl; shape = refl; members = refl; told = refl; renews = refl }),
+        ((empty, found, refl), record { live = refl; era = refl; past = refl; shape = refl; members = refl; told = refl; renews = refl; base = refl; whole = refl; led = λ m e. (m, e) }),
       ))
       (λ miss. absurd (miss found))
 
@@ -104,5 +104,5 @@ module _ (face : ℕ → ℕ → List (ℕ × ℕ) → List ℕ) (o : Opening) w
         subst (λ (z : List Held). Kept face o record { words = set s.words place (word_of_state Ended); homes = s.homes; views = set s.views id record v { held = z; steps = steps } }) (sym held)
             (subst (λ (z : ℕ). Kept face o record { words = set s.words z (word_of_state Ended); homes = s.homes; views = set s.views id record v { held = in_state Ended h ∷ []; steps = steps } }) (sym is')
             (restates s r id v at h may.only Ended (omega arith) (omega arith) steps)),
-        ((empty, refl), record { live = refl; era = refl; past = refl; shape = refl; members = refl; told = refl; renews = refl }),
+        ((empty, refl), record { live = refl; era = refl; past = refl; shape = refl; members = refl; told = refl; renews = refl; base = refl; whole = refl; led = λ m e. (m, e) }),
       )

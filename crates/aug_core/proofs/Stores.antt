@@ -112,5 +112,5 @@ module _ (face : ℕ → ℕ → List (ℕ × ℕ) → List ℕ) (o : Opening) w
         subst (λ (z : List Held). Kept face o record { words = set s.words place x; homes = s.homes; views = set s.views id record v { held = z; steps = steps } }) (sym held)
             (subst (λ (z : ℕ). Kept face o record { words = set s.words z x; homes = s.homes; views = set s.views id record v { held = record h { words = set h.words (record_words * (number - first_record o.shape h.lane) + field) x } ∷ []; steps = steps } }) (sym is')
             (writes s r id v at h may.only (is_taken v h may.only has) number field x of_lane may.unpublished small steps)),
-        ((empty, refl), record { live = refl; era = refl; past = refl; shape = refl; members = refl; told = refl; renews = refl }),
+        ((empty, refl), record { live = refl; era = refl; past = refl; shape = refl; members = refl; told = refl; renews = refl; base = refl; whole = refl; led = λ m e. (m, e) }),
       )

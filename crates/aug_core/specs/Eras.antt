@@ -1,9 +1,10 @@
 -- The rule of a table that may be opened again and again. In each of its eras it is at work under the rule of one opening, and in between one seat
--- alone renews it. An era is the time from one opening to the next. At work (`Works`), `Kept` holds with the members of this era, where a view of an
--- earlier era counts as one that was joined; whoever holds a lane or hands lanes out is of this era. While it is renewed (`Renews`), one view knows
+-- alone renews it. An era is the time from one opening to the next. A table may have room for several openings: in each era one part of it is at
+-- work, and who hands lanes out knows all words beside that part, where the next era may be laid out meanwhile. At work (`Works`), `Kept` holds of that
+-- part with the members of this era, where a view of an earlier era counts as one that was joined; whoever holds a lane or hands lanes out is of this era. While it is renewed (`Renews`), one view knows
 -- each word exactly, and every other one holds no lane and is of an earlier era. A view knows the eras before its own too (`Remembers`). In the
 -- example, once the one pass was joined, the lead may begin era 1.
-use Rattle.std.specs.Prelude.{◌≡◌, ◌≢◌, ◌⊎◌, ℕ, ◌<◌, ◌≤◌, ◌==◌, if◌then◌else◌, true, false, List, length, map, Some, IfSome}
+use Rattle.std.specs.Prelude.{◌≡◌, ◌≢◌, ◌⊎◌, ℕ, ◌+◌, ◌<◌, ◌≤◌, ◌==◌, if◌then◌else◌, true, false, List, length, map, take, drop, slice_index, Some, IfSome}
 use mathlib.Core.Option.{some}
 use lib.ListN.{get_elem?}
 use Rattle.atomic_table.specs.Table.{State}
@@ -24,9 +25,18 @@ IsAtWork v = ((a : ℕ) × (h : Held) × (get_elem? v.held a ≡ some h)) ⊎ ((
 abbrev pub seen_in : ℕ → SeatView → SeatView
 seen_in era v = if v.era == era then v else spent
 
--- and the table
-abbrev pub table_in : ℕ → State (Unit {0}) SeatView → State (Unit {0}) SeatView
-table_in era s = record { words = s.words; homes = s.homes; views = map (seen_in era) s.views }
+-- the words of a part of a table
+abbrev pub table_part : ℕ → ℕ → List ℕ → List ℕ
+table_part base size words = take size (drop base words)
+
+-- and how the table counts in an era, by the part that is at work
+abbrev pub table_in : ℕ → ℕ → ℕ → State (Unit {0}) SeatView → State (Unit {0}) SeatView
+table_in era base size s = record { words = table_part base size s.words; homes = s.homes; views = map (seen_in era) s.views }
+
+-- all words beside a part of the table are known
+pub record IsBeside (base size : ℕ) (known words : List ℕ) : Type 0 where
+  pub long : length known ≡ length words
+  pub same : (i : ℕ) → (i < base) ⊎ (base + size ≤ i) → slice_index known i ≡ slice_index words i
 
 -- the opening of a table of this shape, over a set with these members
 abbrev pub opening_with : Shape → List (ℕ × ℕ) → Opening
@@ -45,13 +55,19 @@ pub record Works (face : ℕ → ℕ → List (ℕ × ℕ) → List ℕ) (shape 
   -- in an era, which it opened with these members
   pub era : ℕ
   pub members : List (ℕ × ℕ)
-  pub kept : Kept face (opening_with shape members) (table_in era s)
+  -- in the part of it that begins at this word
+  pub base : ℕ
+  pub kept : Kept face (opening_with shape members) (table_in era base (word_count shape) s)
   -- after these eras
   pub past : List PastEra
   pub counted : length past ≡ era
   pub remembers : (j : ℕ) (v : SeatView) → get_elem? s.views j ≡ some v → v.live ≡ true → Remembers shape era past v
   -- who holds a lane or hands lanes out is of this era
   pub present : (j : ℕ) (v : SeatView) → get_elem? s.views j ≡ some v → IsAtWork v → v.era ≡ era
+  -- and works in that part
+  pub placed : (j : ℕ) (v : SeatView) → get_elem? s.views j ≡ some v → IsAtWork v → v.base ≡ base
+  -- who hands lanes out knows all words beside it
+  pub beside : (j n : ℕ) (v : SeatView) → get_elem? s.views j ≡ some v → v.spare ≡ Some n → IsBeside base (word_count shape) v.whole s.words
   -- no view is of a later one
   pub none_later : (j : ℕ) (v : SeatView) → get_elem? s.views j ≡ some v → v.era ≤ era
   -- and none renews the table
@@ -72,8 +88,7 @@ pub record Renews (shape : Shape) (s : State (Unit {0}) SeatView) : Type 0 where
   pub renews : view.renews ≡ true
   pub no_work : IsAtWork view → ⊥
   pub shaped : view.shape ≡ shape
-  pub words_are : s.words ≡ view.words
-  pub wide : length s.words ≡ word_count shape
+  pub words_are : s.words ≡ view.whole
   pub counted : length view.past ≡ view.era
   pub others : (j : ℕ) (v : SeatView) → j ≢ seat → get_elem? s.views j ≡ some v → IsPast shape view.era view.past v
 

@@ -13,7 +13,7 @@ use Rattle.aug_core.specs.Lanes.{word_of_state}
 use Rattle.aug_core.specs.Opening.{Opening, IsIdle, opening_number, opening_words, shared_words, opening_book}
 use Rattle.aug_core.specs.Rule.{Kept, no_beginning}
 use Rattle.aug_core.specs.Effects.{Sat, opening_of, LoadsNode}
-use Rattle.aug_core.specs.Eras.{opening_with}
+use Rattle.aug_core.specs.Eras.{opening_with, table_part, IsBeside}
 use Rattle.aug_core.specs.declared.view.LaneState.TheVariants.{Free}
 use Rattle.aug_core.specs.declared.view.SeatView.{SeatView}
 
@@ -25,7 +25,7 @@ pub record HoldsAll (v : SeatView) : Type 0 where
 
 -- the view of a lead that begins to renew its table, whose words are these. The era that is over has the book that the view saw last
 abbrev pub renewing : SeatView → List ℕ → SeatView
-renewing v words = record v {
+renewing v whole = record v {
   era = v.era + 1;
   past = v.past ++ record { members = v.members; book = v.seen } ∷ [];
   seen = [];
@@ -34,21 +34,21 @@ renewing v words = record v {
   held = [];
   spare = None;
   renews = true;
-  words = words;
+  whole = whole;
   began = no_beginning;
   steps = [];
 }
 
 -- the view after a store of any word
 abbrev pub rewriting : SeatView → ℕ → ℕ → SeatView
-rewriting v place value = record v { words = slice_set v.words place value }
+rewriting v place value = record v { whole = slice_set v.whole place value }
 
 abbrev pub rewrote : Step (Unit {0}) → Sat → ℕ → Sat → Type 0
 rewrote st m r m' = (m'.1 ≡ []) × (m'.0 ≡ rewriting m.0 st.word st.first)
 
 -- a load of any word, which is as the view has it
 abbrev pub reread : Step (Unit {0}) → Sat → ℕ → Sat → Type 0
-reread st m r m' = (m'.1 ≡ []) × (m'.0 ≡ m.0) × (r ≡ slice_index m.0.words st.word)
+reread st m r m' = (m'.1 ≡ []) × (m'.0 ≡ m.0) × (r ≡ slice_index m.0.whole st.word)
 
 module _ (face : ℕ → ℕ → List (ℕ × ℕ) → List ℕ) where
   -- a table of these words met the rule of this opening, with this view
@@ -59,13 +59,13 @@ module _ (face : ℕ → ℕ → List (ℕ × ℕ) → List ℕ) where
     pub seat : ℕ
     pub view_is : get_elem? state.views seat ≡ some v
 
-  -- a load of a node's word shows the last book of the era. From then on the seat knows all words, and they are those with which its era ended
+  -- a load of a node's word shows the last book of the era. From then on the seat knows all words: those of the part are the ones with which its era ended, and those beside it are as it knew them
   pub record BeginsRenewal (v : SeatView) (q r : ℕ) (w : SeatView) : Type 0 where
     pub last : SeatView
     pub loaded : LoadsNode face v q r last
-    pub stepped : w ≡ renewing last w.words
-    pub wide : length w.words ≡ word_count v.shape
-    pub ends : EndWith (opening_of v) last w.words
+    pub stepped : w ≡ renewing last w.whole
+    pub beside : IsBeside v.base (word_count v.shape) v.whole w.whole
+    pub ends : EndWith (opening_of v) last (table_part v.base (word_count v.shape) w.whole)
 
   -- a load of a node's word by a seat that stays at work shows it the book, and the table met the rule then, with its view and these words. If the seat
   -- is a lead that holds all lanes which it handed out, this is the last book of the round, and its account can be closed while its table is still there
@@ -93,13 +93,14 @@ module _ (face : ℕ → ℕ → List (ℕ × ℕ) → List ℕ) where
     pub idle : (number k : ℕ) → IsIdle o number → k < record_words → slice_index words (record_start o.shape number + k) ≡ 0
     pub lanes : (lane : ℕ) → lane < o.shape.workers → slice_index words (lane_place o.shape lane) ≡ word_of_state Free
 
-  -- the view of the seat that opened its table again, over these members
-  abbrev pub reopening : List (ℕ × ℕ) → SeatView → SeatView
-  reopening members v = record {
+  -- the view of the seat that opened its table again, over these members, in the part that begins at this word
+  abbrev pub reopening : List (ℕ × ℕ) → ℕ → SeatView → SeatView
+  reopening members base v = record {
     live = true;
     era = v.era;
     past = v.past;
     shape = v.shape;
+    base = base;
     members = members;
     seen = opening_book face (opening_with v.shape members);
     also = [];
@@ -107,11 +108,12 @@ module _ (face : ℕ → ℕ → List (ℕ × ℕ) → List ℕ) where
     held = [];
     spare = Some 0;
     renews = false;
-    words = v.words;
+    words = table_part base (word_count v.shape) v.whole;
+    whole = v.whole;
     began = no_beginning;
     steps = [];
   }
 
-  -- where the words are those of a table that opens over some members, it is open over them
+  -- where the words from the one that is loaded on are those of a table that opens over some members, it is open there, over them
   abbrev pub reopened : Step (Unit {0}) → Sat → ℕ → Sat → Type 0
-  reopened st m r m' = (m'.1 ≡ []) × ((members : List (ℕ × ℕ)) → IsOpened (opening_with m.0.shape members) m.0.words → m'.0 ≡ reopening members m.0)
+  reopened st m r m' = (m'.1 ≡ []) × ((members : List (ℕ × ℕ)) → IsOpened (opening_with m.0.shape members) (table_part st.word (word_count m.0.shape) m.0.whole) → m'.0 ≡ reopening members st.word m.0)

@@ -2,7 +2,7 @@
 -- a prefix of the book, the lanes that it holds with all words of their records, which of these were published, which changes were accepted from it,
 -- and its steps. `Kept` is made of parts, each about one thing. A seat that is dropped leaves its view behind, and the rule holds with it. In the
 -- example it says that the word at 4 is the number of the newest entry of node 4, and that the words of that record are the entry's.
-use Rattle.std.specs.Prelude.{◌≡◌, ℕ, ◌+◌, ◌<◌, ◌≤◌, List, [], length, slice_index, Some, None, true, false}
+use Rattle.std.specs.Prelude.{◌≡◌, ℕ, ◌+◌, ◌<◌, ◌≤◌, List, [], length, slice_index, Some, None, true, false, replicate}
 use mathlib.Core.Option.{some}
 use lib.ListN.{get_elem?}
 use Rattle.atomic_table.specs.Table.{State}
@@ -16,6 +16,7 @@ use Rattle.aug_core.specs.declared.view.Beginning.{Beginning}
 use Rattle.aug_core.specs.declared.view.Entry.{Entry}
 use Rattle.aug_core.specs.declared.view.Held.{Held}
 use Rattle.aug_core.specs.declared.view.LaneState.TheVariants.{Free, Ended}
+use Rattle.aug_core.specs.declared.opening.TableKey.{TableKey}
 use Rattle.aug_core.specs.declared.view.SeatView.{SeatView}
 
 -- the number stands in the list
@@ -124,5 +125,5 @@ abbrev pub no_beginning : Beginning
 no_beginning = record { seen = []; steps = []; changes = [] }
 
 -- the view of the first seat, which hands all lanes out
-abbrev pub newcomer : (ℕ → ℕ → List (ℕ × ℕ) → List ℕ) → Opening → SeatView
-newcomer face o = record { live = true; era = 0; past = []; shape = o.shape; members = o.members; seen = opening_book face o; also = []; told = None; held = []; spare = Some 0; renews = false; words = []; began = no_beginning; steps = [] }
+abbrev pub newcomer : (ℕ → ℕ → List (ℕ × ℕ) → List ℕ) → TableKey → SeatView
+newcomer face k = record { live = true; era = 0; past = []; shape = k.opening.shape; base = 0; members = k.opening.members; seen = opening_book face k.opening; also = []; told = None; held = []; spare = Some 0; renews = false; words = []; whole = replicate k.words 0; began = no_beginning; steps = [] }

@@ -1,5 +1,5 @@
 //! What each step shows. These types are only for the proofs.
-ghost use Rattle.aug_core.specs.Effects.{read_record, stored_record, took_lane, finished_lane, handing_out, handed_out, taking_back, noting, noted, spent, loaded_leaf, began_at_leaf, tried_leaf, loaded_node, tried_node};
+ghost use Rattle.aug_core.specs.Effects.{in_part, read_record, stored_record, took_lane, finished_lane, handing_out, handed_out, taking_back, noting, noted, spent, loaded_leaf, began_at_leaf, tried_leaf, loaded_node, tried_node};
 ghost use Rattle.aug_core.specs.Learning.{learning, loaded_after_note};
 ghost use Rattle.aug_core.specs.Renewals.{rewrote, reread, surveyed, began_renewal, reopened};
 ghost use Rattle.aug_core.specs.Faces.{face};
@@ -13,28 +13,28 @@ use std::marker::PhantomData;
 pub struct LoadAnyRecord;
 
 impl Play<(), SeatView> for LoadAnyRecord {
-    ghost then = { read_record };
+    ghost then = { in_part read_record };
 }
 
 /// A store of a word of a record of the seat's own lane.
 pub struct StoreOwnRecord;
 
 impl Play<(), SeatView> for StoreOwnRecord {
-    ghost then = { stored_record };
+    ghost then = { in_part stored_record };
 }
 
 /// A compare-exchange of the own lane's word, from free to taken.
 pub struct TakeOwnLane;
 
 impl Play<(), SeatView> for TakeOwnLane {
-    ghost then = { took_lane };
+    ghost then = { in_part took_lane };
 }
 
 /// A store of the own lane's word as ended.
 pub struct FinishOwnLane;
 
 impl Play<(), SeatView> for FinishOwnLane {
-    ghost then = { finished_lane };
+    ghost then = { in_part finished_lane };
 }
 
 /// A view hands out its next lane to a new one.
@@ -79,7 +79,7 @@ pub struct LoadAnyLeaf<A, B> {
 }
 
 impl<A: Monoid, B: Monoid> Play<(), SeatView> for LoadAnyLeaf<A, B> {
-    ghost then = { loaded_leaf (face A.parts B.parts) };
+    ghost then = { in_part (loaded_leaf (face A.parts B.parts)) };
 }
 
 /// A load of a leaf's word, with which an update begins.
@@ -88,7 +88,7 @@ pub struct BeginAtLeaf<A, B> {
 }
 
 impl<A: Monoid, B: Monoid> Play<(), SeatView> for BeginAtLeaf<A, B> {
-    ghost then = { began_at_leaf (face A.parts B.parts) };
+    ghost then = { in_part (began_at_leaf (face A.parts B.parts)) };
 }
 
 /// A compare-exchange of a leaf's word, from a serial to the next.
@@ -97,7 +97,7 @@ pub struct TryAnyLeaf<A, B> {
 }
 
 impl<A: Monoid, B: Monoid> Play<(), SeatView> for TryAnyLeaf<A, B> {
-    ghost then = { tried_leaf (face A.parts B.parts) };
+    ghost then = { in_part (tried_leaf (face A.parts B.parts)) };
 }
 
 /// A load of a node's word.
@@ -106,7 +106,7 @@ pub struct LoadAnyNode<A, B> {
 }
 
 impl<A: Monoid, B: Monoid> Play<(), SeatView> for LoadAnyNode<A, B> {
-    ghost then = { loaded_node (face A.parts B.parts) };
+    ghost then = { in_part (loaded_node (face A.parts B.parts)) };
 }
 
 /// A load of a node's word by a seat that took in a note.
@@ -115,7 +115,7 @@ pub struct LoadAfterNote<A, B> {
 }
 
 impl<A: Monoid, B: Monoid> Play<(), SeatView> for LoadAfterNote<A, B> {
-    ghost then = { loaded_after_note (face A.parts B.parts) };
+    ghost then = { in_part (loaded_after_note (face A.parts B.parts)) };
 }
 
 /// A compare-exchange of a node's word, to a record of the seat's own lane.
@@ -124,7 +124,7 @@ pub struct TryAnyNode<A, B> {
 }
 
 impl<A: Monoid, B: Monoid> Play<(), SeatView> for TryAnyNode<A, B> {
-    ghost then = { tried_node (face A.parts B.parts) };
+    ghost then = { in_part (tried_node (face A.parts B.parts)) };
 }
 
 /// A load of a node's word by a seat that stays at work, which shows that its table meets the rule with its view.
@@ -133,7 +133,7 @@ pub struct Survey<A, B> {
 }
 
 impl<A: Monoid, B: Monoid> Play<(), SeatView> for Survey<A, B> {
-    ghost then = { surveyed (face A.parts B.parts) };
+    ghost then = { in_part (surveyed (face A.parts B.parts)) };
 }
 
 /// A load of a node's word, by which a lead that holds all lanes begins to renew its table.
@@ -142,7 +142,7 @@ pub struct BeginRenewal<A, B> {
 }
 
 impl<A: Monoid, B: Monoid> Play<(), SeatView> for BeginRenewal<A, B> {
-    ghost then = { began_renewal (face A.parts B.parts) };
+    ghost then = { in_part (began_renewal (face A.parts B.parts)) };
 }
 
 /// A store of any word by the seat that renews the table.

@@ -18,7 +18,7 @@ pub use effects::{
 pub use field::{RECORD_WORDS, RecordField};
 pub use lane::{LANE_ENDED, LANE_FREE, LANE_TAKEN};
 pub use layout::{Layout, LayoutError};
-pub use opening::OpeningKey;
+pub use opening::{OpeningKey, TableKey};
 pub use rule::{SharedWords, WordsRule};
 pub use step::{StepKind, StepTaken};
 pub use view::{Advance, Beginning, Change, Entry, Held, LaneState, Learnt, PastEra, SeatView};

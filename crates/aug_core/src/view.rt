@@ -110,6 +110,8 @@ pub struct SeatView {
     pub past: LinkedList<PastEra>,
     /// How the table is laid out.
     pub shape: Layout,
+    /// The first word of the part of the table that was opened last, where it works.
+    pub base: u64,
     /// The keys that were there when it was opened last, rising, each with its weight.
     pub members: LinkedList<(u64, u64)>,
     /// The book as far as it was seen: for each leaf and inner node its entries.
@@ -124,9 +126,10 @@ pub struct SeatView {
     pub spare: Option<u64>,
     /// Whether the seat alone renews the table.
     pub renews: bool,
-    /// The words of the table: as they are now while the seat renews it, and afterwards as they were when the seat opened it again. None, if it was
-    /// not renewed: then the records of its lanes were blank.
+    /// The words of that part as they were when the seat opened it. None, if the table was not renewed: then the records of its lanes were blank.
     pub words: LinkedList<u64>,
+    /// The words of the whole table: all of them as they are now while the seat renews it, and all but those of the part at work while it hands lanes out.
+    pub whole: LinkedList<u64>,
     /// The beginning of the update that the seat is in, or was in last.
     pub began: Beginning,
     /// The seat's steps, the last one last.

@@ -14,8 +14,8 @@ use Rattle.aug_live.specs.Ledgers.{Made, dated}
 use Rattle.aug_live.specs.LiveHandles.{HandleFacts}
 use Rattle.aug_live.specs.LiveTries.{Done, LaneGoesOn, lost_of, made_through}
 use Rattle.aug_live.specs.inside.Desks.{handles_of, missing_of, out_of}
-use Rattle.aug_live.specs.inside.LaneKnowledge.{EndFacts, IsWhole, KnownFacts, LaneFacts, Rolls, dealt, done_if, given_out, lane_by, left, made_at, renumbered, rolls, rounds_at}
-use Rattle.aug_live.specs.inside.Rolls.{GetsHandle, IsBackIn, IsOf, IsPort, accepted_by, given, given_all, kept_of}
+use Rattle.aug_live.specs.inside.LaneKnowledge.{EndFacts, IsWhole, KnownFacts, LaneFacts, Rolls, done_if, given_out, lane_by, left, made_at, renumbered, rolls, rounds_at}
+use Rattle.aug_live.specs.inside.Rolls.{GetsHandle, IsBackIn, IsPort, accepted_by, given_all, kept_of}
 use Rattle.aug_live.specs.declared.known.Whose.{Whose}
 use Rattle.aug_live.specs.declared.known.Whose.TheVariants.{Alone, Roller, Free, Idle, Handle, Gone}
 
@@ -33,14 +33,6 @@ back_in rounds era history lock v lane rest is r port same_rounds same_era known
   known = subst (λ (z : HandleFacts). IsPrefix z.half.knows.history history) (sym at) known;
   whole = record { own = r.whole.own; whole = ap (made_at v.before) at ∙ r.whole.whole; none_out = r.whole.none_out };
 }
-
--- a lane with a new pass, in the place of one that had accepted these changes
-pub deals_of : (rounds : RoundFacts × List Chapter) (era : ℕ) (lock : TableId) (v : KnownFacts) (old new : LaneFacts) → IsPort v.whose → new.works ≡ true → new.at.era ≡ era → rounds_at new.at.half ≡ rounds
-    → IsOf rounds era (record { lock = lock; known = dealt v old new })
-deals_of rounds era lock v old new port works era_is round_is = record { whose = port; works = works; era_is = era_is; round_is = round_is }
-
-pub dealt_kept : (lock : TableId) (v : KnownFacts) (old new : LaneFacts) (changes : List Change) → old.at.era ≡ v.at.era → old.at.half.knows.accepted ≡ changes → kept_of (record { lock = lock; known = dealt v old new }) ≡ given changes (record { lock = lock; known = v })
-dealt_kept lock v old new changes era same = λ i. kept_of (record { lock = lock; known = record v { before = v.before ++ dated (era i) (same i) } })
 
 -- the same changes were made through a lane whose pass learned something
 pub whole_on : (v : KnownFacts) (a b : HandleFacts) → b.era ≡ a.era → b.half.knows.accepted ≡ a.half.knows.accepted → IsWhole v a → IsWhole v b

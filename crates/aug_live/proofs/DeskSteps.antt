@@ -1,9 +1,9 @@
 -- Each step on the lock of the desk keeps its rule.
-use Rattle.std.proofs.Common.{◌≡◌, ◌≢◌, inl, inr, ℕ, zero, suc, ◌<◌, List, [], ◌∷◌, set, true, false, sym, refl, ap, ◌∙◌, subst, ⊎_elim, arith}
+use Rattle.std.proofs.Common.{◌≡◌, ◌≢◌, inl, inr, ℕ, ◌<◌, List, set, true, false, sym, refl, ap, ◌∙◌, subst, ⊎_elim, arith}
 use Rattle.std.specs.Prelude.{Option, Some, None, IfSome, IsSome}
 use Rattle.std.specs.Option.{is_some}
 use Rattle.std.proofs.lemmas.Bool.{false≢true, cases_Bool}
-use mathlib.Core.Option.{some, some-injective, some-ne-none}
+use mathlib.Core.Option.{some}
 use lib.ListN.{get_elem?}
 use Rattle.atomic_table.proofs.Lists.{at_set}
 use Rattle.atomic_table.specs.declared.shared.Seat.{Seat}
@@ -12,13 +12,8 @@ use Rattle.ruled_lock.specs.declared.holding.Holding.{Holding}
 use Rattle.aug_live.specs.LiveTries.{KeepsHandles, KnowsMore, TrieFacts}
 use Rattle.aug_live.specs.declared.desk_end.Desk.{Desk}
 use Rattle.aug_live.specs.inside.DeskKnowledge.{EndKnows, GoesOnFrom, KnowsDesk, KnowsOwn, Moves, OnDesk, is_known, known_after}
-use Rattle.aug_live.specs.inside.LaneKnowledge.{no_trie}
 use Rattle.aug_live.proofs.Lanes.{more_on, more_self}
 use Rattle.aug_live.proofs.Tied.{snoc_at}
-
-only : (j : ℕ) (v : TrieFacts) → get_elem? (no_trie ∷ []) j ≡ some v → (j ≡ 0) × (no_trie ≡ v)
-only zero v at = (refl, some-injective no_trie v at)
-only (suc j) v at = absurd (some-ne-none v (sym at))
 
 -- what an end knows of what lies there, and what is there, after it was changed
 module _ (id : ℕ) where
@@ -69,20 +64,6 @@ given_after None v = tt
 given_after (Some u) v = refl
 
 module _ {A B : Type 0} where
-  -- a desk on which nothing lies yet, with its first end
-  pub lies_bare : (desk : Desk A B) → desk.working ≡ None → desk.opened ≡ false → OnDesk desk (no_trie ∷ [])
-  lies_bare desk empty bare j v at = let o = only j v at in record {
-    alone = λ _. o.0;
-    none = λ _. ap (λ (z : TrieFacts). z.bits) (sym o.1);
-    some = λ opened. absurd (false≢true (sym bare ∙ opened));
-    there = λ there. absurd (false≢true (subst (λ (z : Option TrieFacts). IsSome z) empty there));
-    knows = subst (λ (z : Option TrieFacts). IfSome z (KnowsMore v)) (sym empty) tt;
-    owner = λ _. record {
-      works = λ opened. absurd (false≢true (sym bare ∙ opened));
-      given = subst (λ (z : Option TrieFacts). IfSome z (λ t. t.given ≡ v.given)) (sym empty) tt;
-    };
-  }
-
   pub learns : (id : ℕ) (v : TrieFacts) → Learns {T = Desk A B} OnDesk id v KnowsDesk
   learns id v desk views on at = let k = on id v at in record {
     unopened = λ bare. ⊎_elim (λ (t : desk.opened ≡ true). absurd (let less = k.some t in omega (arith, less, bare))) (λ (f : desk.opened ≡ false). f) (cases_Bool desk.opened);

@@ -17,7 +17,6 @@ use Rattle.aug_live.specs.inside.Rolls.{IsBackIn, IsFirst, IsOf, IsOpenedLane, a
 use Rattle.aug_live.specs.inside.Desks.{Accounts, IsWorking}
 use Rattle.aug_live.proofs.Accounting.{accounts_opened, accounts_rolled, all_reversed}
 use Rattle.aug_live.proofs.Moving.{next_led, next_past}
-use Rattle.aug_live.specs.LiveTries.{LanesGoOn}
 use Rattle.aug_live.specs.inside.LaneKnowledge.{lane_by}
 use Rattle.std.proofs.lemmas.List.{append-nil, length-map, reverse-reverse}
 use Rattle.std.proofs.Math.ListN.{get_or-append}
@@ -136,14 +135,8 @@ all_there : (n m : ℕ) → m ≡ 0 → n + m ≡ n
 all_there n m few = omega (arith, few)
 
 module _ {lanes updates : ℕ} {counts : LiveCounts} {table : TableFacts} {crew : CrewFacts} (ports held : List EndFacts) (n m : ℕ) (none : length held ≡ 0) (few : m ≡ 0) where
-  pub settled : IsWorking lanes updates counts table crew (ports ++ reverse held) (n + m) → IsWorking lanes updates counts table crew ports n
-  settled w = subst (λ (z : List EndFacts × ℕ). IsWorking lanes updates counts table crew z.0 z.1) (λ i. (no_lanes ports held none i, all_there n m few i)) w
-
   pub unsettled : IsWorking lanes updates counts table crew ports n → IsWorking lanes updates counts table crew (ports ++ reverse held) (n + m)
   unsettled w = subst (λ (z : List EndFacts × ℕ). IsWorking lanes updates counts table crew z.0 z.1) (λ i. (sym (no_lanes ports held none) i, sym (all_there n m few) i)) w
-
-pub lanes_settled : (ports ports' held : List EndFacts) → length held ≡ 0 → LanesGoOn (map lane_by ports) (map lane_by ports') → LanesGoOn (map lane_by (ports ++ reverse held)) (map lane_by (ports' ++ reverse held))
-lanes_settled ports ports' held none on = subst (λ (z : List EndFacts × List EndFacts). LanesGoOn (map lane_by z.0) (map lane_by z.1)) (λ i. (sym (no_lanes ports held none) i, sym (no_lanes ports' held none) i)) on
 
 -- the ends before the lanes that were taken are of the round, and may be taken too
 pub may_take : {lanes updates : ℕ} {counts : LiveCounts} {table : TableFacts} {crew : CrewFacts} {n : ℕ} (ports held : List EndFacts) → IsWorking lanes updates counts table crew (ports ++ reverse held) n
@@ -151,9 +144,9 @@ pub may_take : {lanes updates : ℕ} {counts : LiveCounts} {table : TableFacts} 
 may_take ports held w k d low = let long = length-append ports (reverse held) in
     let mine = subst (IsOf _ _) (get_or-append ports (reverse held) d k low) (w.of_round k d (omega (arith, long, low))) in (port_rolls (get_or ports k d).known.whose mine.whose, subst (λ (z : ℕ). 0 < z) (sym mine.era_is) w.counted.some)
 
--- no lane is taken: there are as many as ends
-pub ports_many : (t : TrieFacts) (ports held : List EndFacts) → length held ≡ 0 → map lane_by (ports ++ reverse held) ≡ t.lanes → length t.lanes ≡ length ports
-ports_many t ports held none are = ap length (sym are) ∙ length-map (ports ++ reverse held) lane_by ∙ ap length (no_lanes ports held none)
+-- no lane is taken: each has its end before them
+pub port_low : (t : TrieFacts) (ports held : List EndFacts) (lane : ℕ) → map lane_by (ports ++ reverse held) ≡ t.lanes → length held ≡ t.held → t.held ≡ 0 → lane < length t.lanes → lane < length ports
+port_low t ports held lane are taken none low = let long = ap length (sym are) ∙ length-map (ports ++ reverse held) lane_by ∙ ap length (no_lanes ports held (taken ∙ none)) in omega (arith, long, low)
 
 -- once all lanes are taken, they are those that there were
 pub all_taken : (ports held ports' held' : List EndFacts) → ports' ≡ [] → ports' ++ reverse held' ≡ ports ++ reverse held → reverse held' ≡ ports ++ reverse held

@@ -1,11 +1,10 @@
 -- The changes of a round among all that were made through handles, and when two lists have the same changes.
-use Rattle.std.proofs.Common.{◌≡◌, ℕ, zero, suc, ◌+◌, ◌<◌, ◌≤◌, ◌%◌, Bool, true, cond, ◌==◌, ◌&&◌, List, [], ◌∷◌, ◌++◌, map, reverse, length, get_or, take, drop, filter, flat_map, All, Contains, insert, remove, sum, sum_by, refl, sym, ap, ◌∙◌, subst, ⊎_elim, arith}
+use Rattle.std.proofs.Common.{◌≡◌, ℕ, zero, suc, ◌+◌, ◌<◌, ◌≤◌, ◌%◌, Bool, true, cond, ◌==◌, ◌&&◌, List, [], ◌∷◌, ◌++◌, map, reverse, length, get_or, drop, filter, flat_map, All, Contains, sum, sum_by, refl, sym, ap, ◌∙◌, subst, ⊎_elim, arith}
 use Rattle.std.proofs.lemmas.Bool.{cases_Bool, and_parts, eq-eqb, ne_eqb, eqb-true}
-use Rattle.std.proofs.lemmas.List.{append-nil, map-append, reverse-append, length-append, length-take-le, take-append-drop, take_at, drop_at, get_or_append_left, get_or-append-add}
+use Rattle.std.proofs.lemmas.List.{append-nil, map-append, reverse-append, length-append, drop_at, get_or_append_left, get_or-append-add}
 use Rattle.std.proofs.lemmas.List.Concat.{flat_map-append}
 use Rattle.std.proofs.lemmas.List.Elements.{filter-append, All-nil, All-head, All-tail, All-append, All-map, All-weaker}
 use Rattle.std.proofs.lemmas.List.Sums.{sum-map, sum_by-append, sum_by-cons}
-use Rattle.std.proofs.Math.Seq.{drop-cons}
 use Rattle.aug_core.specs.Counts.{change}
 use Rattle.aug_core.specs.Cuts.{Cut, serial_of, weight_at, opening_cut}
 use Rattle.aug_core.specs.declared.view.Change.{Change}
@@ -185,14 +184,6 @@ dates-reverse f d [] all = All-nil (UpTo d)
 dates-reverse f d (x ∷ xs) all = subst (All (UpTo d)) (sym (turned f x xs))
     (All-append (UpTo d) (flat_map f (reverse xs)) (f x) (dates-reverse f d xs (all_back (UpTo d) (f x) (flat_map f xs) all)) (all_front (UpTo d) (f x) (flat_map f xs) all))
 
--- what was made up to a round was made before the next one
-pub dates_before : (d : ℕ) (xs : List Made) → All (λ (m : Made). m.0 ≤ d) xs → All (λ (m : Made). m.0 < d + 1) xs
-dates_before d xs all k e low = let le : (get_or xs k e).0 ≤ d = all k e low in omega arith
-
--- and up to the next one
-pub dates_next : (d : ℕ) (xs : List Made) → All (λ (m : Made). m.0 ≤ d) xs → All (λ (m : Made). m.0 ≤ d + 1) xs
-dates_next d xs all k e low = let le : (get_or xs k e).0 ≤ d = all k e low in omega arith
-
 -- ---- one place of a list
 
 module _ {A : Type 0} (f : A → List Made) (a b : List A) where
@@ -224,24 +215,6 @@ module _ {A : Type 0} (f : A → List Made) (a b : List A) (x y : A) where
       subst (All (UpTo era)) (sym (flat_map-append f a (y ∷ b)))
       (All-append (UpTo era) (flat_map f a) (f y ++ flat_map f b) (all_front (UpTo era) (flat_map f a) (f x ++ flat_map f b) both)
       (All-append (UpTo era) (f y) (flat_map f b) here (all_back (UpTo era) (f x) (flat_map f b) behind)))
-
--- a list, parted at one of its places, and what it is once another element stands there
-pub record Parted {A : Type 0} (xs : List A) (i : ℕ) (d y : A) : Type 0 where
-  pub front : List A
-  pub back : List A
-  pub long : length front ≡ i
-  pub is : xs ≡ front ++ get_or xs i d ∷ back
-  pub put : insert (remove xs i) i y ≡ front ++ y ∷ back
-
--- a list can be parted at each of its places
-pub parted : {A : Type 0} (xs : List A) (i : ℕ) (d y : A) → i < length xs → Parted xs i d y
-parted {A} xs i d y low = let long : length (take i xs) ≡ i = length-take-le i xs (omega arith) in record {
-  front = take i xs;
-  back = drop (suc i) xs;
-  long = long;
-  is = sym (take-append-drop i xs) ∙ ap (λ (z : List A). take i xs ++ z) (drop-cons xs i d low);
-  put = λ j. take_at (take i xs) (drop (suc i) xs) i long j ++ y ∷ drop_at (take i xs) (drop (suc i) xs) i long j;
-}
 
 -- an element takes the place of one: the sum of a number of each differs by theirs
 pub sums : {A : Type 0} (n : A → ℕ) (a b : List A) (x y : A) → sum (map n (a ++ y ∷ b)) + n x ≡ sum (map n (a ++ x ∷ b)) + n y

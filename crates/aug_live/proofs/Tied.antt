@@ -1,17 +1,18 @@
 -- Each step on the lock of a lane keeps its rule.
 use Rattle.std.proofs.Common.{◌≡◌, ◌≢◌, ◌⊎◌, inl, inr, ℕ, suc, ◌<◌, List, [], ◌∷◌, ◌++◌, length, set, true, false, sym, refl, ap, ◌∙◌, subst, ⊎_elim, arith, zero, append_assoc}
-use Rattle.std.specs.Prelude.{Option, Some, None, IsSome, unwrap_or, drop}
+use Rattle.std.specs.Prelude.{Option, Some, None, IfSome, IsSome, unwrap_or, drop}
 use Rattle.std.proofs.lemmas.Bool.{false≢true}
 use Rattle.std.proofs.lemmas.List.{append-nil}
 use mathlib.Core.Option.{some, some-injective, some-ne-none}
 use lib.ListN.{get_elem?}
 use Rattle.atomic_table.proofs.Lists.{at_set}
-use Rattle.ruled_lock.specs.Locks.{Learns, Forks, Meets}
+use Rattle.atomic_table.specs.Seated.{TableId}
+use Rattle.ruled_lock.specs.Locks.{Learns, Forks, Meets, TurnsAt}
 use Rattle.aug_trie.specs.Round.{table_of}
 use Rattle.aug_live.specs.Ledgers.{Made, dated}
 use Rattle.aug_live.specs.LiveHandles.{HandleFacts, Follows, added}
 use Rattle.aug_live.specs.LiveTries.{Done, made_through}
-use Rattle.aug_live.specs.inside.LaneKnowledge.{LaneFacts, KnownFacts, Beside, IsWhole, KnowsLane, Learnt, Rolls, Ties, Worked, dealt, done_if, done_with, given_out, handed, knows_nothing, left, made_at, passed_by, renumbered, rolls, settled, taken_in, worked}
+use Rattle.aug_live.specs.inside.LaneKnowledge.{LaneFacts, KnownFacts, Beside, IsWhole, KnowsLane, Learnt, OutFacts, Rolls, Ties, Worked, dealt, done_if, done_with, given_out, handed, knows_nothing, left, made_at, passed_by, renumbered, rolls, settled, taken_by, taken_in, worked}
 use Rattle.aug_live.specs.declared.known.Whose.{Whose}
 use Rattle.aug_live.specs.declared.known.Whose.TheVariants.{Alone, Roller, Free, Idle, Handle, Gone}
 use Rattle.aug_live.proofs.Carries.{follows_self, follows_on}
@@ -67,6 +68,14 @@ opens lane none = record {
 
 pub learns : (id : ℕ) (v : KnownFacts) → Learns Ties id v Learnt
 learns id v lane views t at = record { before = t.before; knows = t.known id v at }
+
+-- the roller learns that the lane is as it knows, and what was made with the passes that are back
+pub rolls_on : (v : KnownFacts) (lane : LaneFacts) → Learnt v lane → rolls v.whose ≡ true → 0 < v.at.era → Rolls v v.before lane
+rolls_on v lane learnt roller begun = let r = learnt.knows.as_roller roller begun in subst (λ (z : List Made). Rolls v z lane) r.before_is r
+
+-- what a pass knows that put a lane back
+pub put_back : (w : KnownFacts) (f : LaneFacts → KnownFacts) (o : Option LaneFacts) (old : LaneFacts) → o ≡ Some old → IfSome o (λ t. w ≡ f t) → w ≡ f old
+put_back w f o old is then = subst (λ (z : Option LaneFacts). IfSome z (λ t. w ≡ f t)) is then
 
 -- all handles of a lane are done, with its last one
 whole_if : (x : Whose) (done : List Done) (all own : List Made) → (x ≢ Roller → own ≡ []) → all ≡ made_through done ++ own → all ≡ made_through (done_if x done (drop (length (made_through done)) all))
@@ -457,3 +466,14 @@ meets id v other w out begun handle begun' number lane views t at ne at' =
 pub what_is : {T : Type 0} (o : Option T) (or : T) → IsSome o → o ≡ Some (unwrap_or o or)
 what_is None or s = absurd (false≢true s)
 what_is (Some x) or s = refl
+
+-- a key that knows this may put this lane back in the place of that one, and knows then what f says
+abbrev pub Turn : (KnownFacts → LaneFacts → LaneFacts → KnownFacts) → ℕ → KnownFacts → LaneFacts → LaneFacts → Type 0
+Turn f id v old new = TurnsAt Ties id v old new (λ v old new w. w ≡ f v old new)
+
+pub turn_by : (f : KnownFacts → LaneFacts → LaneFacts → KnownFacts) (id : ℕ) (v known : KnownFacts) (old new : LaneFacts) → v ≡ known → Turn f id known old new → Turn f id v old new
+turn_by f id v known old new is turn = subst (λ (z : KnownFacts). Turn f id z old new) (sym is) turn
+
+pub turn_out : (f : KnownFacts → LaneFacts → LaneFacts → KnownFacts) (out : OutFacts) (new : LaneFacts) {id : ℕ} {lock : TableId} {v : KnownFacts} {o : Option LaneFacts} {S : Type 0} → record { lock = lock; known = v; taken = taken_by o } ≡ out → IsSome o → S
+    → Turn f id out.known out.taken new → (t : LaneFacts) × ((o ≡ Some t) × S) × Turn f id v t new
+turn_out f out new {id} {lock} {v} {o} {S} is there slots turn = (taken_by o, (what_is o _ there, slots), subst (λ (z : OutFacts). Turn f id z.known z.taken new) (sym is) turn)

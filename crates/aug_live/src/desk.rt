@@ -1,7 +1,6 @@
 //! The desk: the round that goes on, and the roller's ends of all lanes.
-ghost use Rattle.std.specs.Prelude.{◌≡◌, ◌+◌, ◌<◌, ◌≤◌, IfOk, IfErr, length, vec_len, vec_capacity};
+ghost use Rattle.std.specs.Prelude.{◌≡◌, ◌+◌, ◌<◌, ◌≤◌, IfOk, IfErr, length};
 ghost use Rattle.std.specs.Arc.{arc_value};
-ghost use Rattle.std.specs.List.{insert};
 ghost use mathlib.Core.Option.{some};
 ghost use lib.ListN.{get_elem?};
 ghost use Rattle.atomic_table.specs.Seated.{TableId};
@@ -172,7 +171,7 @@ impl<A: Monoid, B: Monoid> Working<A, B> {
 
     /// Rolls the round over if that was begun, and then sees to it that a lane has a pass, if it was spent in this era: that of a newer round, a spare
     /// lane of the same, or one of the next, which then begins.
-    pub(crate) fn past<W: Patience>(
+    pub(crate) fn refill<W: Patience>(
         self,
         how: &W,
         spent: Option<(u64, usize)>,
@@ -205,20 +204,8 @@ impl<A: Monoid, B: Monoid> Working<A, B> {
         if self.crew.handed() == self.plan.lanes || lane >= self.ports.len() {
             return Ok(false);
         }
-        match self
-            .ports
-            .remove(lane)
-            .replace(how, &self.round, &mut self.crew)
-        {
-            Ok(port) => {
-                put_in(&mut self.ports, lane, port);
-                Ok(true)
-            }
-            Err((port, missed)) => {
-                put_in(&mut self.ports, lane, port);
-                Err(missed)
-            }
-        }
+        self.ports[lane].replace(how, &self.round, &mut self.crew)?;
+        Ok(true)
     }
 
     /// Has the crew know what a note of this trie tells.
@@ -252,16 +239,12 @@ impl<A: Monoid, B: Monoid> Working<A, B> {
         ensures same { IfErr result (λ e. e.0 ≡ end) }
         ensures refused { IfErr result (λ e. IfRefused (RefusesBack lane number self.new) e.1) }
     {
-        match self.ports.remove(lane).take_in(how, number, end) {
-            Ok(port) => {
-                put_in(&mut self.ports, lane, port);
+        match self.ports[lane].take_in(how, number, end) {
+            Ok(()) => {
                 self.counts.missing -= 1;
                 Ok(())
             }
-            Err((port, end, cause)) => {
-                put_in(&mut self.ports, lane, port);
-                Err((end, cause))
-            }
+            Err(refused) => Err(refused),
         }
     }
 
@@ -289,17 +272,16 @@ impl<A: Monoid, B: Monoid> Working<A, B> {
         if self.counts.handles == u64::MAX || self.counts.missing == u64::MAX {
             return Err(TryError::Refused(LiveError::Exhausted));
         }
-        let Ok(theirs) = self.ports[lane].share() else {
+        let port = &self.ports[lane];
+        let Ok(theirs) = Arc::try_clone(&port.lock) else {
             return Err(TryError::Refused(LiveError::TooMany));
         };
         let Ok(round) = Arc::try_clone(&self.round) else {
             return Err(TryError::Refused(LiveError::TooMany));
         };
         let number = self.counts.handles + 1;
-        let port = self.ports.remove(lane);
-        match port.renew(how, number, theirs, &round, &mut self.crew) {
-            Ok((port, end)) => {
-                put_in(&mut self.ports, lane, port);
+        match self.ports[lane].renew(how, number, theirs, &round, &mut self.crew) {
+            Ok(end) => {
                 self.counts.handles = number;
                 self.counts.missing += 1;
                 Ok(Handle {
@@ -311,23 +293,7 @@ impl<A: Monoid, B: Monoid> Working<A, B> {
                     desk,
                 })
             }
-            Err((port, missed)) => {
-                put_in(&mut self.ports, lane, port);
-                Err(TryError::Again(missed))
-            }
+            Err(missed) => Err(TryError::Again(missed)),
         }
     }
-}
-
-// Puts an end in the place from which one was taken.
-fn put_in<A: Monoid, B: Monoid>(ports: &mut Vec<End<A, B>>, lane: usize, port: End<A, B>)
-    requires lane { lane ≤ vec_len ports.old }
-    requires room { vec_len ports.old < vec_capacity ports.old }
-    ensures items { ports.new.items ≡ insert ports.old.items lane port }
-    ensures len { vec_len ports.new ≡ vec_len ports.old + 1 }
-    ensures room { vec_capacity ports.new ≡ vec_capacity ports.old }
-{
-    let Ok(()) = ports.insert(lane, port) else {
-        unreachable!()
-    };
 }

@@ -169,9 +169,9 @@ impl<A: Monoid, B: Monoid> NewDesk<A, B> {
 }
 
 impl<A: Monoid, B: Monoid> DeskEnd<A, B> {
-    /// Rolls the round over if that was begun, and then sees to it that a lane has a pass, if it was spent in this era, as `Working::past` does. Refused
+    /// Rolls the round over if that was begun, and then sees to it that a lane has a pass, if it was spent in this era, as `Working::refill` does. Refused
     /// with `Closed` if there is no round, and with `Exhausted`.
-    pub(crate) fn past<W: Patience>(
+    pub(crate) fn refill<W: Patience>(
         &mut self,
         how: &W,
         spent: Option<(u64, usize)>,
@@ -182,7 +182,7 @@ impl<A: Monoid, B: Monoid> DeskEnd<A, B> {
         match self.lock.take::<Read, W>(how, &mut self.key) {
             Ok(Desk { working, opened }) => match working {
                 Some(working) => {
-                    let (working, done) = working.past(how, spent);
+                    let (working, done) = working.refill(how, spent);
                     lay_on(&self.lock, &mut self.key, working);
                     done
                 }

@@ -1,15 +1,25 @@
 //! The ends of a lane: a pass of its lock each.
-ghost use Rattle.std.specs.Prelude.{◌≡◌, ◌≢◌, [], true, false, ◌<◌, IfOk, IfErr};
+ghost use Rattle.std.specs.Prelude.{◌≡◌, ◌≢◌, ◌⊎◌, ◌+◌, ◌++◌, List, [], false, ◌<◌, IfOk, IfErr};
 ghost use Rattle.std.specs.Arc.{arc_value};
+ghost use Rattle.aug_core.specs.Prefixes.{IsPrefix};
+ghost use Rattle.aug_core.specs.declared.view.Change.{Change};
+ghost use Rattle.aug_trie.specs.Chains.{IsPart};
+ghost use Rattle.aug_trie.specs.Crew.{crew_chain};
+ghost use Rattle.aug_trie.specs.Pass.{chain_of};
 ghost use Rattle.aug_trie.specs.Round.{table_of};
+ghost use Rattle.aug_live.specs.LiveErrors.{IfRefused};
 ghost use Rattle.aug_live.specs.LiveHandles.{Follows};
-ghost use Rattle.aug_live.specs.inside.LaneKnowledge.{IsWhole, Learnt, EndStays, Rolls, Seen, Worked, dealt, given_out, handed, knows_nothing, left, made_at, passed_by, renumbered, rolls, settled, taken_in, worked};
-ghost use Rattle.aug_live.specs.declared.known.Whose.TheVariants.{Alone, Free, Roller, Handle};
+ghost use Rattle.aug_live.specs.inside.LaneKnowledge.{EndStays, Learnt, Seen, Worked, is_out_by, knows_nothing, passed_by, rounds_at, taken_in, worked};
+ghost use Rattle.aug_live.specs.inside.Rolls.{GetsHandle, IsHandleEnd, IsOf, IsPort, given, kept_of, rounds_in};
+ghost use Rattle.aug_live.specs.declared.known.Whose.TheVariants.{Alone, Idle, Roller, Handle};
 
+use crate::error::{LiveError, TryError};
 use crate::known::Known;
 use crate::lane::{Lane, Obstacle};
-use crate::tie::{Deal, Keep, Learn, Leave, Meet, Parts, PassBy, Renumber, Settle, Tie, Work};
+use crate::tie::{Deal, Keep, Learn, Meet, Parts, PassBy, Renumber, Settle, Tie, Work};
+use crate::work::start;
 use aug_monoid::Monoid;
+use aug_trie::{Crew, Round};
 use ruled_lock::{Key, Patience, RuledLock, Tries};
 use std::alloc::{AllocError, Global};
 use std::marker::Model;
@@ -24,8 +34,8 @@ pub(crate) type LaneKey<A, B> = Key<Lane<A, B>, Known<A, B>>;
 /// An end of a lane: the roller's, or a handle's.
 #[derive(Drop)]
 pub(crate) struct End<A: Monoid, B: Monoid> {
-    lock: Arc<LaneLock<A, B>, Global>,
-    key: LaneKey<A, B>,
+    pub(crate) lock: Arc<LaneLock<A, B>, Global>,
+    pub(crate) key: LaneKey<A, B>,
 }
 
 impl<A: Monoid, B: Monoid> Model for End<A, B> {
@@ -44,8 +54,8 @@ impl<A: Monoid, B: Monoid> Model for End<A, B> {
 /// The same while it has what lies in the lane.
 #[derive(Drop)]
 pub(crate) struct Out<A: Monoid, B: Monoid> {
-    lock: Arc<LaneLock<A, B>, Global>,
-    key: LaneKey<A, B>,
+    pub(crate) lock: Arc<LaneLock<A, B>, Global>,
+    pub(crate) key: LaneKey<A, B>,
 }
 
 impl<A: Monoid, B: Monoid> Model for Out<A, B> {
@@ -89,48 +99,7 @@ impl<A: Monoid, B: Monoid> Berth<A, B> {
 }
 
 impl<A: Monoid, B: Monoid> End<A, B> {
-    /// One more owner of the lane's lock.
-    pub(crate) fn share(&self) -> Result<Arc<LaneLock<A, B>, Global>, AllocError>
-        ensures { IfOk result (λ l. (arc_value l).table.shared.table_id ≡ self.now.lock) }
-    {
-        Arc::try_clone(&self.lock)
-    }
-
-    /// The roller's end, and that of a new handle, with this owner of the lane's lock.
-    pub(crate) fn fork(self, theirs: Arc<LaneLock<A, B>, Global>) -> (End<A, B>, End<A, B>)
-        requires alone { self.known.whose ≡ Alone }
-        requires some { 0 < self.known.at.era }
-        requires lock { (arc_value theirs).table.shared.table_id ≡ self.lock }
-        ensures { (result.0 ≡ record self { known = given_out self.known }) × (result.1 ≡ record self { known = handed self.known }) }
-    {
-        let End { lock, mut key } = self;
-        let other = lock.another::<Parts>(&mut key);
-        (
-            End { lock, key },
-            End {
-                lock: theirs,
-                key: other,
-            },
-        )
-    }
-
-    /// Takes what lies in the lane for the roller.
-    pub(crate) fn take_to_roll<W: Patience>(
-        self,
-        how: &W,
-    ) -> Result<(Out<A, B>, Lane<A, B>), (End<A, B>, W::GaveUp)>
-        requires roller { rolls self.known.whose ≡ true }
-        requires some { 0 < self.known.at.era }
-        ensures lock { IfOk result (λ t. t.0.lock ≡ self.lock) }
-        ensures known { IfOk result (λ t. t.0.known ≡ self.known) }
-        ensures taken { IfOk result (λ t. t.0.taken ≡ t.1) }
-        ensures rolls { IfOk result (λ t. Rolls self.known self.known.before t.1) }
-        ensures same { IfErr result (λ e. e.0 ≡ self) }
-    {
-        self.take(how)
-    }
-
-    /// Takes it for the handle with this number. If the lane has a newer handle, it stays there, and the end comes back, which has seen that.
+    /// Takes what lies in the lane for the handle with this number. If the lane has a newer handle, it stays there, and the end comes back, which has seen that.
     #[inline(always)]
     pub(crate) fn take_to_work(
         self,
@@ -178,24 +147,114 @@ impl<A: Monoid, B: Monoid> End<A, B> {
             Err(missed) => Err((End { lock, key }, missed)),
         }
     }
+
+    /// Gives the pass of the lane back to its crew, and puts the next one of the round in.
+    pub(crate) fn replace<W: Patience>(
+        &mut self,
+        how: &W,
+        round: &Round<A, B>,
+        crew: &mut Crew<A, B>,
+    ) -> Result<(), W::GaveUp>
+        requires together { table_of crew.old.round ≡ round.now }
+        requires of_round { IsOf (rounds_in crew.old) self.old.known.at.era self.old }
+        requires some { 0 < self.old.known.at.era }
+        requires lane_left { crew.old.handed < crew.old.round.workers }
+        ensures of_round { IfOk result (λ _. IsOf (rounds_in crew.old) self.old.known.at.era self.new) }
+        ensures changes { IfOk result (λ _. (changes : List Change) × (crew.new.knows.accepted ≡ crew.old.knows.accepted ++ changes) × (kept_of self.new ≡ given changes self.old)) }
+        ensures goes_on { IfOk result (λ _. IsPrefix crew.old.knows.history crew.new.knows.history) }
+        ensures round { IfOk result (λ _. rounds_in crew.new ≡ rounds_in crew.old) }
+        ensures handed { IfOk result (λ _. crew.new.handed ≡ crew.old.handed + 1) }
+        ensures back { IfOk result (λ _. crew.new.back ≡ crew.old.back + 1) }
+        ensures same { IfErr result (λ _. (self.new ≡ self.old) × (crew.new ≡ crew.old)) }
+    {
+        match self.lock.take::<Learn, W>(how, &mut self.key) {
+            Ok(lane) => {
+                let (spent, rest) = lane.into_work();
+                crew.back(round.pass(spent));
+                let work = start(round, crew);
+                self.lock.put::<Deal>(&mut self.key, rest.with(work));
+                Ok(())
+            }
+            Err(missed) => Err(missed),
+        }
+    }
+
+    /// Takes in the end of the handle with this number, which came back. If the lane has a newer handle, or it is not to be had, that end comes back.
+    pub(crate) fn take_in<W: Patience>(
+        &mut self,
+        how: &W,
+        number: u64,
+        other: End<A, B>,
+    ) -> Result<(), (End<A, B>, TryError<W::GaveUp>)>
+        requires port { IsPort self.old.known.whose }
+        requires handle { other.known.whose ≡ Handle }
+        requires some { (0 < self.old.known.at.era) × (0 < other.known.at.era) }
+        requires number { other.known.number ≡ number }
+        requires lock { other.lock ≡ self.old.lock }
+        ensures was { IfOk result (λ _. self.old.known.whose ≡ Roller) }
+        ensures whose { IfOk result (λ _. self.new.known.whose ≡ Idle) }
+        ensures same { IfOk result (λ _. rounds_at self.new.known.at.half ≡ rounds_at self.old.known.at.half) }
+        ensures era { IfOk result (λ _. self.new.known.at.era ≡ self.old.known.at.era) }
+        ensures works { IfOk result (λ _. self.new.known.works ≡ self.old.known.works) }
+        ensures done { IfOk result (λ _. kept_of self.new ≡ kept_of (record self.old { known = record (taken_in self.old.known other.known) { whose = Idle } })) }
+        ensures kept { IfErr result (λ e. (self.new ≡ self.old) × (e.0 ≡ other)) }
+        ensures refused { IfErr result (λ e. IfRefused (λ cause. (cause ≡ LiveError.Replaced) × ((self.old.known.number ≢ number) ⊎ (is_out_by self.old.known.whose ≡ false))) e.1) }
+    {
+        match self.lock.take::<Learn, W>(how, &mut self.key) {
+            Ok(lane) => {
+                if lane.parts.number == number && lane.parts.is_out {
+                    let End { key, .. } = other;
+                    self.lock.join::<Meet>(&mut self.key, key);
+                    self.lock.put::<Settle>(&mut self.key, lane.settled());
+                    Ok(())
+                } else {
+                    self.lock.put::<Keep>(&mut self.key, lane);
+                    Err((other, TryError::Refused(LiveError::Replaced)))
+                }
+            }
+            Err(missed) => Err((other, TryError::Again(missed))),
+        }
+    }
+
+    /// Gives the lane to a new handle, whose end it answers. The two ends know all that the crew does. An older handle finds its lane given on.
+    pub(crate) fn renew<W: Patience>(
+        &mut self,
+        how: &W,
+        number: u64,
+        theirs: Arc<LaneLock<A, B>, Global>,
+        round: &Round<A, B>,
+        crew: &mut Crew<A, B>,
+    ) -> Result<End<A, B>, W::GaveUp>
+        requires of_round { IsOf (rounds_in crew.old) self.old.known.at.era self.old }
+        requires some { 0 < self.old.known.at.era }
+        requires newer { self.old.known.number < number }
+        requires owner { (arc_value theirs).table.shared.table_id ≡ self.old.lock }
+        requires together { table_of crew.old.round ≡ round.now }
+        ensures port { IfOk result (λ _. IsOf (rounds_in crew.old) self.old.known.at.era self.new) }
+        ensures gets { IfOk result (λ _. GetsHandle number self.old self.new) }
+        ensures handle { IfOk result (λ e. IsHandleEnd number (table_of crew.old.round) e × (e.lock ≡ self.old.lock) × (e.known.made ≡ [])) }
+        ensures at { IfOk result (λ e. e.known.at ≡ self.new.known.at) }
+        ensures knows { IfOk result (λ _. IsPart (crew_chain crew.old) (chain_of self.new.known.at.half)) }
+        ensures same { crew.new ≡ crew.old }
+        ensures missed { IfErr result (λ _. self.new ≡ self.old) }
+    {
+        match self.lock.take::<Learn, W>(how, &mut self.key) {
+            Ok(lane) => {
+                let (work, rest) = lane.into_work();
+                let mut pass = round.pass(work);
+                pass.learn(crew.note(round));
+                let era = rest.parts.era;
+                let lane = rest.working(era, number, pass.into_half());
+                self.lock.put::<Renumber>(&mut self.key, lane);
+                let key = self.lock.another::<Parts>(&mut self.key);
+                Ok(End { lock: theirs, key })
+            }
+            Err(missed) => Err(missed),
+        }
+    }
 }
 
 impl<A: Monoid, B: Monoid> Out<A, B> {
-    /// The roller's end takes in that of its lane's handle, which came back.
-    pub(crate) fn join(self, other: End<A, B>) -> Out<A, B>
-        requires roller { self.known.whose ≡ Roller }
-        requires handle { other.known.whose ≡ Handle }
-        requires some { (0 < self.known.at.era) × (0 < other.known.at.era) }
-        requires number { other.known.number ≡ self.known.number }
-        requires lock { other.lock ≡ self.lock }
-        ensures { result ≡ record self { known = taken_in self.known other.known } }
-    {
-        let Out { lock, mut key } = self;
-        let End { key: other, .. } = other;
-        lock.join::<Meet>(&mut key, other);
-        Out { lock, key }
-    }
-
     /// Puts the lane back, with what its handle made of it.
     #[inline(always)]
     pub(crate) fn put(self, lane: Lane<A, B>) -> End<A, B>
@@ -210,17 +269,6 @@ impl<A: Monoid, B: Monoid> Out<A, B> {
         End { lock, key }
     }
 
-    /// Puts the lane back as it was.
-    #[inline(always)]
-    pub(crate) fn keep(self, lane: Lane<A, B>) -> End<A, B>
-        requires { lane ≡ self.taken }
-        ensures { result ≡ record { lock = self.lock; known = self.known } }
-    {
-        let Out { lock, mut key } = self;
-        lock.put::<Keep>(&mut key, lane);
-        End { lock, key }
-    }
-
     /// Puts the lane back as it was, which has a newer handle than the one whose end this is.
     pub(crate) fn pass_by(self, lane: Lane<A, B>) -> End<A, B>
         requires handle { self.known.whose ≡ Handle }
@@ -230,60 +278,6 @@ impl<A: Monoid, B: Monoid> Out<A, B> {
     {
         let Out { lock, mut key } = self;
         lock.put::<PassBy>(&mut key, lane);
-        End { lock, key }
-    }
-
-    /// Puts the lane back with the pass that the roller took, or with none.
-    pub(crate) fn leave(self, lane: Lane<A, B>) -> End<A, B>
-        requires roller { rolls self.known.whose ≡ true }
-        requires some { 0 < self.known.at.era }
-        requires same { lane.at ≡ self.taken.at }
-        requires number { (lane.number ≡ self.taken.number) × (lane.is_out ≡ self.taken.is_out) }
-        ensures { result ≡ record { lock = self.lock; known = left self.known lane } }
-    {
-        let Out { lock, mut key } = self;
-        lock.put::<Leave>(&mut key, lane);
-        End { lock, key }
-    }
-
-    /// Puts the lane of a handle that came back in as it was, but for the mark.
-    pub(crate) fn settle(self, lane: Lane<A, B>) -> End<A, B>
-        requires free { self.known.whose ≡ Free }
-        requires some { 0 < self.known.at.era }
-        requires same { lane ≡ record self.taken { is_out = false } }
-        ensures { result ≡ record { lock = self.lock; known = settled self.known lane } }
-    {
-        let Out { lock, mut key } = self;
-        lock.put::<Settle>(&mut key, lane);
-        End { lock, key }
-    }
-
-    /// Puts the lane back with a new pass.
-    pub(crate) fn deal(self, lane: Lane<A, B>) -> End<A, B>
-        requires roller { rolls self.known.whose ≡ true }
-        requires some { 0 < self.known.at.era }
-        requires follows { Follows self.taken.at lane.at }
-        requires together { table_of lane.at.half.round ≡ table_of self.taken.at.half.round }
-        requires number { (lane.number ≡ self.taken.number) × (lane.is_out ≡ self.taken.is_out) }
-        requires none_accepted { lane.at.half.knows.accepted ≡ [] }
-        ensures { result ≡ record { lock = self.lock; known = dealt self.known self.taken lane } }
-    {
-        let Out { lock, mut key } = self;
-        lock.put::<Deal>(&mut key, lane);
-        End { lock, key }
-    }
-
-    /// Puts the lane back with a number that no handle has.
-    pub(crate) fn renumber(self, lane: Lane<A, B>) -> End<A, B>
-        requires roller { rolls self.known.whose ≡ true }
-        requires newer { self.taken.number < lane.number }
-        requires out { lane.is_out ≡ true }
-        requires some { 0 < lane.at.era }
-        requires whole { IsWhole self.known lane.at }
-        ensures { result ≡ record { lock = self.lock; known = renumbered self.known lane } }
-    {
-        let Out { lock, mut key } = self;
-        lock.put::<Renumber>(&mut key, lane);
         End { lock, key }
     }
 }

@@ -238,7 +238,7 @@ impl<A: Monoid, B: Monoid> Handle<A, B> {
                     obstacle
                 }
             };
-            if let Err(cause) = handle.wait_past(rt, obstacle) {
+            if let Err(cause) = handle.wait_to_refill(rt, obstacle) {
                 return Err((handle, cause));
             }
         }
@@ -257,7 +257,7 @@ impl<A: Monoid, B: Monoid> Handle<A, B> {
             Ok(look) => return Ok(look),
             Err(obstacle) => obstacle,
         };
-        if let Err(cause) = handle.try_past(obstacle) {
+        if let Err(cause) = handle.try_to_refill(obstacle) {
             return Err((handle, cause));
         }
         match handle.attempt_look() {
@@ -328,7 +328,7 @@ impl<A: Monoid, B: Monoid> Handle<A, B> {
                 Ok(answer) => return Ok(answer),
                 Err(obstacle) => obstacle,
             };
-            if let Err(cause) = self.wait_past(rt, obstacle) {
+            if let Err(cause) = self.wait_to_refill(rt, obstacle) {
                 return Err(cause);
             }
         }
@@ -361,7 +361,7 @@ impl<A: Monoid, B: Monoid> Handle<A, B> {
         ensures not_made { IfErr result (λ _. Follows self.old self.new) }
         ensures refused { IfErr result (IfRefused (RefusesCall self.new)) }
     {
-        if let Err(cause) = self.try_past(obstacle) {
+        if let Err(cause) = self.try_to_refill(obstacle) {
             return Err(cause);
         }
         match self.attempt(op) {
@@ -439,26 +439,30 @@ impl<A: Monoid, B: Monoid> Handle<A, B> {
         })
     }
 
-    // Goes past what is in the way: to the next round, or to a spare lane of this one.
-    fn past<W: Patience>(&mut self, how: &W, obstacle: Obstacle) -> Result<(), TryError<W::GaveUp>>
+    // Sees to what is in the way: with the next round, or a spare lane of this one.
+    fn refill<W: Patience>(
+        &mut self,
+        how: &W,
+        obstacle: Obstacle,
+    ) -> Result<(), TryError<W::GaveUp>>
         requires seen { Seen obstacle self.old.who.replaced }
         ensures follows { Follows self.old self.new }
         ensures refused { IfErr result (IfRefused (RefusesCall self.new)) }
     {
         match obstacle {
-            Obstacle::Held(_) => self.desk.past(how, None),
-            Obstacle::Round(era) => self.desk.past(how, Some((era, self.lane))),
+            Obstacle::Held(_) => self.desk.refill(how, None),
+            Obstacle::Round(era) => self.desk.refill(how, Some((era, self.lane))),
             Obstacle::Replaced => Err(TryError::Refused(LiveError::Replaced)),
         }
     }
 
     // The same, and waits for whoever has what it takes.
-    fn wait_past<R: Wait>(&mut self, rt: &R, obstacle: Obstacle) -> Result<(), LiveError>
+    fn wait_to_refill<R: Wait>(&mut self, rt: &R, obstacle: Obstacle) -> Result<(), LiveError>
         requires seen { Seen obstacle self.old.who.replaced }
         ensures follows { Follows self.old self.new }
         ensures refused { IfErr result (RefusesCall self.new) }
     {
-        match self.past(&Waits(rt), obstacle) {
+        match self.refill(&Waits(rt), obstacle) {
             Ok(()) => Ok(()),
             Err(TryError::Refused(cause)) => Err(cause),
             Err(TryError::Again(never)) => match never {},
@@ -466,12 +470,12 @@ impl<A: Monoid, B: Monoid> Handle<A, B> {
     }
 
     // The same, and waits for nobody.
-    fn try_past(&mut self, obstacle: Obstacle) -> Result<(), TryError<Busy>>
+    fn try_to_refill(&mut self, obstacle: Obstacle) -> Result<(), TryError<Busy>>
         requires seen { Seen obstacle self.old.who.replaced }
         ensures follows { Follows self.old self.new }
         ensures refused { IfErr result (IfRefused (RefusesCall self.new)) }
     {
-        match self.past(&Tries, obstacle) {
+        match self.refill(&Tries, obstacle) {
             Ok(()) => Ok(()),
             Err(TryError::Refused(cause)) => Err(TryError::Refused(cause)),
             Err(TryError::Again(lock)) => Err(TryError::Again(Busy::Lock(lock))),

@@ -7,6 +7,7 @@ ghost use Rattle.aug_live.specs.inside.Rolls.{HasEnded, IsBackIn, IsOf, accepted
 
 use crate::end::{End, Out};
 use crate::lane::Lane;
+use crate::tie::{Deal, Leave};
 use crate::work::start;
 use aug_monoid::Monoid;
 use aug_trie::{Crew, Round};
@@ -87,8 +88,10 @@ impl<A: Monoid, B: Monoid> Emptied<A, B> {
         ensures back { crew.new.back ≡ crew.old.back }
     {
         let Emptied { out, rest } = self;
+        let Out { lock, mut key } = out;
         let work = start(round, crew);
-        out.deal(rest.next(work))
+        lock.put::<Deal>(&mut key, rest.next(work));
+        End { lock, key }
     }
 
     /// Lets the lane go without a pass.
@@ -96,6 +99,8 @@ impl<A: Monoid, B: Monoid> Emptied<A, B> {
         ensures { result ≡ self }
     {
         let Emptied { out, rest } = self;
-        out.leave(rest)
+        let Out { lock, mut key } = out;
+        lock.put::<Leave>(&mut key, rest);
+        End { lock, key }
     }
 }

@@ -231,7 +231,7 @@ impl<A: Monoid, B: Monoid> Live<A, B> {
         ensures none_given { IfErr result (λ _. self.new.given ≡ self.old.given) }
         ensures of_trie { IfOk result (IsHandleOf lane self.new) }
         ensures refused { IfErr result (RefusesHandle lane self.new) }
-        ensures past { length self.old.lanes ≤ lane → IsErr result }
+        ensures beyond { length self.old.lanes ≤ lane → IsErr result }
     {
         match self.give(&Waits(rt), lane) {
             Ok(handle) => Ok(handle),
@@ -249,7 +249,7 @@ impl<A: Monoid, B: Monoid> Live<A, B> {
         ensures none_given { IfErr result (λ _. self.new.given ≡ self.old.given) }
         ensures of_trie { IfOk result (IsHandleOf lane self.new) }
         ensures refused { IfErr result (IfRefused (RefusesHandle lane self.new)) }
-        ensures past { length self.old.lanes ≤ lane → IsErr result }
+        ensures beyond { length self.old.lanes ≤ lane → IsErr result }
     {
         self.give(&Tries, lane)
     }
@@ -262,7 +262,7 @@ impl<A: Monoid, B: Monoid> Live<A, B> {
         ensures none_given { IfErr result (λ _. self.new.given ≡ self.old.given) }
         ensures of_trie { IfOk result (IsHandleOf lane self.new) }
         ensures refused { IfErr result (IfRefused (RefusesHandle lane self.new)) }
-        ensures past { length self.old.lanes ≤ lane → IsErr result }
+        ensures beyond { length self.old.lanes ≤ lane → IsErr result }
     {
         let lane = lane as usize;
         let Ok(lock) = Arc::try_clone(&self.lock) else {

@@ -1,27 +1,23 @@
 //! The end of a round whose passes lie in the lanes, and the beginning of the next.
-ghost use Rattle.std.specs.Prelude.{◌≡◌, ◌≢◌, ◌⊎◌, ℕ, true, false, ◌+◌, ◌<◌, ◌≤◌, ◌^◌, List, [], ◌++◌, All, IfOk, IfErr, vec_len, vec_capacity, length, map, flat_map, reverse};
+ghost use Rattle.std.specs.Prelude.{◌≡◌, ℕ, true, ◌+◌, ◌<◌, ◌≤◌, ◌^◌, List, [], ◌++◌, All, IfOk, IfErr, vec_len, vec_capacity, length, map, flat_map, reverse};
 ghost use Rattle.std.specs.Arc.{arc_value};
 ghost use Rattle.aug_model.specs.Keys.{IsKeySet, keys_of};
 ghost use Rattle.aug_core.specs.Layout.{IsLayout};
 ghost use Rattle.aug_core.specs.Places.{shape_of};
-ghost use Rattle.aug_trie.specs.Chains.{IsPart};
-ghost use Rattle.aug_trie.specs.Crew.{BeginsIn, crew_chain};
+ghost use Rattle.aug_trie.specs.Crew.{BeginsIn};
 ghost use Rattle.aug_trie.specs.Ended.{EndedFacts, set_of_ended};
 ghost use Rattle.aug_trie.specs.Round.{table_of};
-ghost use Rattle.aug_trie.specs.Pass.{chain_of};
 ghost use Rattle.aug_core.specs.Prefixes.{IsPrefix};
-ghost use Rattle.aug_core.specs.declared.view.Change.{Change};
 ghost use Rattle.aug_live.specs.Carrying.{Leads};
-ghost use Rattle.aug_live.specs.LiveErrors.{IfRefused};
-ghost use Rattle.aug_live.specs.inside.LaneKnowledge.{is_out_by, knows_nothing, rolls, rounds_at, taken_in};
-ghost use Rattle.aug_live.specs.inside.Rolls.{FinishesRound, GetsHandle, HasEnded, IsBackIn, IsHandleEnd, IsOf, IsOpenedLane, IsPort, Starts, accepted_by, given, given_all, kept_of, rounds_in};
-ghost use Rattle.aug_live.specs.declared.known.Whose.TheVariants.{Alone, Handle, Idle, Roller};
+ghost use Rattle.aug_live.specs.inside.LaneKnowledge.{knows_nothing, rolls};
+ghost use Rattle.aug_live.specs.inside.Rolls.{FinishesRound, HasEnded, IsBackIn, IsOf, IsOpenedLane, Starts, accepted_by, given_all, kept_of, rounds_in};
+ghost use Rattle.aug_live.specs.declared.known.Whose.TheVariants.{Alone};
 
 use crate::desk_end::DeskLock;
-use crate::end::{Berth, End, LaneLock};
-use crate::error::{LiveError, TryError};
+use crate::end::{Berth, End, Out};
 use crate::held::{Emptied, Held};
 use crate::plan::Plan;
+use crate::tie::{Parts, Renumber};
 use crate::work::{SharedRound, start};
 use aug_monoid::Monoid;
 use aug_trie::{Crew, Members, Round};
@@ -132,109 +128,6 @@ fn taken_back<A: Monoid, B: Monoid>(
     set
 }
 
-impl<A: Monoid, B: Monoid> End<A, B> {
-    /// Gives the pass of the lane back to its crew, and puts the next one of the round in.
-    pub(crate) fn replace<W: Patience>(
-        self,
-        how: &W,
-        round: &Round<A, B>,
-        crew: &mut Crew<A, B>,
-    ) -> Result<End<A, B>, (End<A, B>, W::GaveUp)>
-        requires together { table_of crew.old.round ≡ round.now }
-        requires of_round { IsOf (rounds_in crew.old) self.known.at.era self }
-        requires some { 0 < self.known.at.era }
-        requires lane_left { crew.old.handed < crew.old.round.workers }
-        ensures of_round { IfOk result (IsOf (rounds_in crew.old) self.known.at.era) }
-        ensures changes { IfOk result (λ e. (changes : List Change) × (crew.new.knows.accepted ≡ crew.old.knows.accepted ++ changes) × (kept_of e ≡ given changes self)) }
-        ensures goes_on { IfOk result (λ _. IsPrefix crew.old.knows.history crew.new.knows.history) }
-        ensures round { IfOk result (λ _. rounds_in crew.new ≡ rounds_in crew.old) }
-        ensures handed { IfOk result (λ _. crew.new.handed ≡ crew.old.handed + 1) }
-        ensures back { IfOk result (λ _. crew.new.back ≡ crew.old.back + 1) }
-        ensures same { IfErr result (λ e. (e.0 ≡ self) × (crew.new ≡ crew.old)) }
-    {
-        match self.take_to_roll(how) {
-            Ok((out, lane)) => {
-                let (spent, rest) = lane.into_work();
-                crew.back(round.pass(spent));
-                let work = start(round, crew);
-                Ok(out.deal(rest.with(work)))
-            }
-            Err(missed) => Err(missed),
-        }
-    }
-
-    /// Takes in the end of the handle with this number, which came back. If the lane has a newer handle, or it is not to be had, both ends come back.
-    pub(crate) fn take_in<W: Patience>(
-        self,
-        how: &W,
-        number: u64,
-        other: End<A, B>,
-    ) -> Result<End<A, B>, (End<A, B>, End<A, B>, TryError<W::GaveUp>)>
-        requires roller { rolls self.known.whose ≡ true }
-        requires port { IsPort self.known.whose }
-        requires handle { other.known.whose ≡ Handle }
-        requires some { (0 < self.known.at.era) × (0 < other.known.at.era) }
-        requires number { other.known.number ≡ number }
-        requires lock { other.lock ≡ self.lock }
-        ensures lock { IfOk result (λ e. e.lock ≡ self.lock) }
-        ensures was { IfOk result (λ e. self.known.whose ≡ Roller) }
-        ensures whose { IfOk result (λ e. e.known.whose ≡ Idle) }
-        ensures same { IfOk result (λ e. rounds_at e.known.at.half ≡ rounds_at self.known.at.half) }
-        ensures era { IfOk result (λ e. e.known.at.era ≡ self.known.at.era) }
-        ensures works { IfOk result (λ e. e.known.works ≡ self.known.works) }
-        ensures done { IfOk result (λ e. kept_of e ≡ kept_of (record self { known = record (taken_in self.known other.known) { whose = Idle } })) }
-        ensures kept { IfErr result (λ e. (e.0 ≡ self) × (e.1 ≡ other)) }
-        ensures refused { IfErr result (λ e. IfRefused (λ cause. (cause ≡ LiveError.Replaced) × ((self.known.number ≢ number) ⊎ (is_out_by self.known.whose ≡ false))) e.2) }
-    {
-        match self.take_to_roll(how) {
-            Ok((out, lane)) => {
-                if lane.parts.number == number && lane.parts.is_out {
-                    Ok(out.join(other).settle(lane.settled()))
-                } else {
-                    let replaced = TryError::Refused(LiveError::Replaced);
-                    Err((out.keep(lane), other, replaced))
-                }
-            }
-            Err((end, missed)) => Err((end, other, TryError::Again(missed))),
-        }
-    }
-
-    /// Gives the lane to a new handle, whose end it answers beside the roller's. They know all that the crew does. An older handle finds its lane given on.
-    pub(crate) fn renew<W: Patience>(
-        self,
-        how: &W,
-        number: u64,
-        theirs: Arc<LaneLock<A, B>, Global>,
-        round: &Round<A, B>,
-        crew: &mut Crew<A, B>,
-    ) -> Result<(End<A, B>, End<A, B>), (End<A, B>, W::GaveUp)>
-        requires of_round { IsOf (rounds_in crew.old) self.known.at.era self }
-        requires some { 0 < self.known.at.era }
-        requires newer { self.known.number < number }
-        requires owner { (arc_value theirs).table.shared.table_id ≡ self.lock }
-        requires together { table_of crew.old.round ≡ round.now }
-        ensures port { IfOk result (λ e. IsOf (rounds_in crew.old) self.known.at.era e.0) }
-        ensures gets { IfOk result (λ e. GetsHandle number self e.0) }
-        ensures handle { IfOk result (λ e. IsHandleEnd number (table_of crew.old.round) e.1 × (e.1.lock ≡ self.lock) × (e.1.known.made ≡ [])) }
-        ensures at { IfOk result (λ e. e.1.known.at ≡ e.0.known.at) }
-        ensures knows { IfOk result (λ e. IsPart (crew_chain crew.old) (chain_of e.0.known.at.half)) }
-        ensures same { crew.new ≡ crew.old }
-        ensures missed { IfErr result (λ e. e.0 ≡ self) }
-    {
-        match self.take_to_roll(how) {
-            Ok((out, lane)) => {
-                let (work, rest) = lane.into_work();
-                let mut pass = round.pass(work);
-                pass.learn(crew.note(round));
-                let era = rest.parts.era;
-                let lane = rest.working(era, number, pass.into_half());
-                Ok(out.renumber(lane).fork(theirs))
-            }
-            Err(missed) => Err(missed),
-        }
-    }
-}
-
 impl<A: Monoid, B: Monoid> Berth<A, B> {
     /// Puts a pass of the first round in, and makes the end of the lane's first handle.
     pub(crate) fn open(self, round: &Round<A, B>, crew: &mut Crew<A, B>) -> (End<A, B>, End<A, B>)
@@ -252,8 +145,17 @@ impl<A: Monoid, B: Monoid> Berth<A, B> {
         ensures back { crew.new.back ≡ crew.old.back }
     {
         let Berth { out, lane, theirs } = self;
+        let Out { lock, mut key } = out;
         let work = start(round, crew);
-        out.renumber(lane.working(1, 1, work)).fork(theirs)
+        lock.put::<Renumber>(&mut key, lane.working(1, 1, work));
+        let other = lock.another::<Parts>(&mut key);
+        (
+            End { lock, key },
+            End {
+                lock: theirs,
+                key: other,
+            },
+        )
     }
 }
 
@@ -272,7 +174,7 @@ pub(crate) fn take_all<W: Patience, A: Monoid, B: Monoid>(
     ensures held_room { vec_capacity held.new ≡ vec_capacity held.old }
 {
     while let Some(port) = ports.pop() {
-        match port.take_to_roll(how) {
+        match port.take(how) {
             Ok((out, lane)) => held.push_reserved(Held { out, lane }),
             Err((port, missed)) => {
                 ports.push_reserved(port);

@@ -2,13 +2,12 @@
 
 use crate::assertions::equal;
 use aug_live::{Live, OpenError, Plan};
-use aug_live_testing::opening::{ended, fill, no_keys};
+use aug_live_testing::opening::{Host, ended, fill, no_keys};
 use aug_monoid::{Extent, Sum};
 use aug_trie::{Members, Round};
 use aug_trie_testing::sweeps::{EACH, SOME, Sweep, UPDATES, sizes};
 use std::alloc::Global;
 use std::process::Abort;
-use std::sync::Wait;
 
 // The bits of the keys, the handles, the bytes of a table, and the lanes and the updates of the greatest plan that fits. The plans grow where there is room
 // for one more update of each lane, or for one more lane.
@@ -45,9 +44,8 @@ fn words_of(bits: u32, plan: Plan) -> u64 {
 
 // A trie is opened over a set with a plan, or within as many bytes as that takes, and closed once its last handle has put so many keys in, from the first one
 // on that the set does not have: the set after it.
-fn opens<R: Wait + Abort>(
+fn opens<R: Host + Abort>(
     rt: &R,
-    alloc: Global,
     set: Members,
     (handles, by_plan): (u32, bool),
     plan: Plan,
@@ -55,9 +53,9 @@ fn opens<R: Wait + Abort>(
 ) -> Result<Members, OpenError> {
     let (from, memory) = (set.size(), words_of(set.bits(), plan).saturating_mul(8));
     let opened = if by_plan && handles <= plan.lanes {
-        Live::<Sum, Extent>::open_with(alloc, set, handles, plan)
+        Live::<Sum, Extent>::open_with(rt.alloc(), set, handles, plan)
     } else {
-        Live::open(alloc, set, handles, memory)
+        Live::open(rt.alloc(), set, handles, memory)
     };
     let (live, mut hands) = opened.map_err(|refused| refused.1)?;
     equal(rt, hands.len(), handles as usize);
@@ -71,8 +69,8 @@ fn opens<R: Wait + Abort>(
 
 // How many tries of a sweep open with one number of bits. They take turns: one has as many handles as lanes, one has one handle, and one has a table of as
 // many bytes.
-fn swept<R: Wait + Abort>(rt: &R, alloc: Global, it: &Sweep, bits: u32) -> Result<u32, OpenError> {
-    let mut set = grown(rt, alloc, no_keys(alloc, bits)?, 2)?;
+fn swept<R: Host + Abort>(rt: &R, it: &Sweep, bits: u32) -> Result<u32, OpenError> {
+    let mut set = grown(rt, no_keys(rt.alloc(), bits)?, 2)?;
     let mut tries = 0u32;
     for &updates in it.2 {
         for &lanes in it.1 {
@@ -80,7 +78,7 @@ fn swept<R: Wait + Abort>(rt: &R, alloc: Global, it: &Sweep, bits: u32) -> Resul
             if words_of(bits, plan) <= it.3 {
                 let way = bits.saturating_add(tries) % 3;
                 let handles = if way == 1 { 1 } else { lanes };
-                set = opens(rt, alloc, set, (handles, way < 2), plan, 0)?;
+                set = opens(rt, set, (handles, way < 2), plan, 0)?;
                 tries = tries.saturating_add(1);
             }
         }
@@ -89,10 +87,12 @@ fn swept<R: Wait + Abort>(rt: &R, alloc: Global, it: &Sweep, bits: u32) -> Resul
     Ok(tries)
 }
 
-// Compares how many tries of a row open.
-fn assert_open<R: Wait + Abort>(rt: &R, alloc: Global, it: &Sweep) -> Result<(), OpenError> {
-    for bits in it.0.0..=it.0.1 {
-        equal(rt, (bits, swept(rt, alloc, it, bits)?), (bits, it.4));
+// Compares how many tries of each row open.
+fn assert_open<R: Host + Abort>(rt: &R, table: &[Sweep]) -> Result<(), OpenError> {
+    for it in table {
+        for bits in it.0.0..=it.0.1 {
+            equal(rt, (bits, swept(rt, it, bits)?), (bits, it.4));
+        }
     }
     Ok(())
 }
@@ -104,10 +104,7 @@ const SMALL: &[Sweep] = &[
 
 #[test]
 fn no_trie_is_refused_for_its_handles(rt: HostRuntime) -> Result<(), OpenError> {
-    for it in SMALL {
-        assert_open(&rt, rt.alloc(), it)?;
-    }
-    Ok(())
+    assert_open(&rt, SMALL)
 }
 
 const GREAT: &[Sweep] = &[
@@ -136,26 +133,18 @@ const GREAT: &[Sweep] = &[
 
 #[test]
 fn no_trie_is_refused_for_its_updates(rt: HostRuntime) -> Result<(), OpenError> {
-    for it in GREAT {
-        assert_open(&rt, rt.alloc(), it)?;
-    }
-    Ok(())
+    assert_open(&rt, GREAT)
 }
 
 // Tries over a set, into the first of which the keys are put that it does not have of the `members` least ones: the set after them.
-fn grown<R: Wait + Abort>(
-    rt: &R,
-    alloc: Global,
-    set: Members,
-    members: u32,
-) -> Result<Members, OpenError> {
+fn grown<R: Host + Abort>(rt: &R, set: Members, members: u32) -> Result<Members, OpenError> {
     let count = members.saturating_sub(set.size());
     let (lanes, updates) = (1, count.max(1));
     let plan = Plan { lanes, updates };
-    let set = opens(rt, alloc, set, (1, true), plan, count)?;
-    let set = opens(rt, alloc, set, (1, false), plan, 0)?;
+    let set = opens(rt, set, (1, true), plan, count)?;
+    let set = opens(rt, set, (1, false), plan, 0)?;
     let updates = 1;
-    opens(rt, alloc, set, (1, true), Plan { lanes, updates }, 0)
+    opens(rt, set, (1, true), Plan { lanes, updates }, 0)
 }
 
 // The same set for keys of `bits` bits.
@@ -168,16 +157,11 @@ fn wider(alloc: Global, set: Members, bits: u32) -> Result<Members, OpenError> {
 }
 
 // Tries over sets of each size from that of this one on: the set of all keys.
-fn up_to_all<R: Wait + Abort>(
-    rt: &R,
-    alloc: Global,
-    set: Members,
-    bits: u32,
-) -> Result<Members, OpenError> {
+fn up_to_all<R: Host + Abort>(rt: &R, set: Members, bits: u32) -> Result<Members, OpenError> {
     let mut set = set;
     for members in sizes(bits) {
         if set.size() <= members {
-            set = grown(rt, alloc, set, members)?;
+            set = grown(rt, set, members)?;
         }
     }
     equal(rt, set.bits(), bits);
@@ -189,11 +173,11 @@ fn no_trie_is_refused_for_its_members(rt: HostRuntime) -> Result<(), OpenError> 
     let alloc = rt.alloc();
     let (mut few, mut set) = (no_keys(alloc, 9)?, no_keys(alloc, 1)?);
     for members in 0..=300 {
-        few = grown(&rt, alloc, few, members)?;
+        few = grown(&rt, few, members)?;
     }
     for bits in 1..=16 {
-        grown(&rt, alloc, grown(&rt, alloc, no_keys(alloc, bits)?, 0)?, 1)?;
-        set = up_to_all(&rt, alloc, wider(alloc, set, bits)?, bits)?;
+        grown(&rt, grown(&rt, no_keys(alloc, bits)?, 0)?, 1)?;
+        set = up_to_all(&rt, wider(alloc, set, bits)?, bits)?;
     }
     equal(&rt, set.size(), 65_536);
     Ok(())

@@ -2,12 +2,11 @@
 
 use crate::assertions::{equal, holds};
 use aug_live::OpenError;
-use aug_live_testing::opening::{HandleOf, changed, ended, fill, looked, opened, size};
+use aug_live_testing::opening::{HandleOf, Host, changed, ended, fill, looked, opened, size};
 use aug_trie::Outcome::{Accepted, Refused};
 use aug_trie_testing::rows::Change::Insert;
 use aug_trie_testing::rows::Reply::Came;
 use crossbeam_channel::{Receiver, Sender, unbounded};
-use std::alloc::Global;
 use std::process::Abort;
 use std::sync::Wait;
 use std::thread;
@@ -15,8 +14,8 @@ use std::thread::Threads;
 use std::time::{Clock, Duration};
 
 // A channel on which a thread says that it got somewhere.
-fn signal(rt: &impl Abort, alloc: Global) -> (Sender<()>, Receiver<()>) {
-    unbounded(alloc).expect(rt, "memory")
+fn signal<R: Host + Abort>(rt: &R) -> (Sender<()>, Receiver<()>) {
+    unbounded(rt.alloc()).expect(rt, "memory")
 }
 
 // Makes an update for which the round has to roll over, once the other thread has its look, and says that it was made.
@@ -36,9 +35,7 @@ fn stays<R: Wait + Abort + Clock>(
     held: Sender<()>,
     made: Receiver<()>,
 ) -> (HandleOf, bool) {
-    let Ok(mut look) = looked(rt, hand, true) else {
-        panic!(rt; "no look");
-    };
+    let mut look = looked(rt, hand, true).ok().expect(rt, "a look");
     let mut right = held.send(rt, ()).is_ok();
     thread::sleep(rt, Duration::from_secs(1));
     for _ in 0..1_000 {
@@ -50,15 +47,12 @@ fn stays<R: Wait + Abort + Clock>(
 }
 
 // One thread holds a look, and another one's update waits for it.
-fn assert_waits<R: Threads + Wait + Abort + Sync + Clock>(
-    rt: &R,
-    alloc: Global,
-) -> Result<(), OpenError> {
-    let (live, mut hands) = opened(alloc, 6, 2, 0, 4)?;
+fn assert_waits<R: Threads + Host + Abort + Sync + Clock>(rt: &R) -> Result<(), OpenError> {
+    let (live, mut hands) = opened(rt.alloc(), 6, 2, 0, 4)?;
     let mut hand = hands.pop().expect(rt, "a handle");
     let other = hands.pop().expect(rt, "a handle");
     equal(rt, fill(rt, &mut hand, true, 0, 4), 4);
-    let ((hold, held), (make, made)) = (signal(rt, alloc), signal(rt, alloc));
+    let ((hold, held), (make, made)) = (signal(rt), signal(rt));
     let (done, (mut other, right)) = thread::join(
         rt,
         move || rolls(rt, hand, held, make),
@@ -76,5 +70,5 @@ fn assert_waits<R: Threads + Wait + Abort + Sync + Clock>(
 // tests/faults runs this test, and measures how long a processor works meanwhile.
 #[test]
 fn a_thread_that_waits_for_a_look_sleeps_for_1_second(rt: HostRuntime) -> Result<(), OpenError> {
-    assert_waits(&rt, rt.alloc())
+    assert_waits(&rt)
 }

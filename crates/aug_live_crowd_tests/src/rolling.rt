@@ -2,16 +2,14 @@
 
 use crate::assertions::{equal, holds};
 use aug_live::OpenError;
-use aug_live_testing::acting::{User, done_at_last, give_up};
-use aug_live_testing::opening::{HandleOf, LiveOf, opened};
+use aug_live_testing::acting::{User, at_last, give_up};
+use aug_live_testing::opening::{HandleOf, Host, LiveOf, opened};
 use aug_trie::Outcome::Accepted;
 use aug_trie_testing::rows::Act::{Close, Has, Look, Now, Over, Renew, Roll};
 use aug_trie_testing::rows::Change::{Insert, Remove};
 use aug_trie_testing::rows::Reply::{Came, Closed, Done, Is, IsClosed, Not};
 use aug_trie_testing::rows::{Act, Reply, made};
-use std::alloc::Global;
 use std::process::Abort;
-use std::sync::Wait;
 use std::thread;
 use std::thread::Threads;
 
@@ -38,34 +36,34 @@ fn next(seed: u64) -> u64 {
 }
 
 // A call of a user.
-fn calls<R: Wait>(rt: &R, alloc: Global, user: User, waits: bool, act: Act) -> (User, Reply) {
-    let (_, user, reply) = done_at_last(rt, alloc, None, user, waits, act);
+fn calls<R: Host>(rt: &R, user: User, waits: bool, act: Act) -> (User, Reply) {
+    let (_, user, reply) = at_last(rt, None, user, waits, act);
     (user, reply)
 }
 
 // Looks whether each own key is there as it should be, unless the trie was closed.
-fn looks<R: Wait>(rt: &R, alloc: Global, user: User, did: &mut Did) -> User {
-    let (mut user, looked) = calls(rt, alloc, user, did.waits, Look);
+fn looks<R: Host>(rt: &R, user: User, did: &mut Did) -> User {
+    let (mut user, looked) = calls(rt, user, did.waits, Look);
     if looked == IsClosed {
         return user;
     }
     for i in 0..16 {
         let k = 4 * i + did.lane % 4;
-        let (same, shown) = calls(rt, alloc, user, did.waits, Has(k));
+        let (same, shown) = calls(rt, user, did.waits, Has(k));
         did.right &= shown == Is(did.own.get(k as usize) == Some(&true));
         user = same;
     }
-    let (user, over) = calls(rt, alloc, user, did.waits, Over);
+    let (user, over) = calls(rt, user, did.waits, Over);
     did.right &= over == Done;
     user
 }
 
 // Makes one update of an own key, and compares what it comes to. That the trie was closed is the one refusal that may come.
-fn updates<R: Wait>(rt: &R, alloc: Global, user: User, did: &mut Did, seed: u64) -> User {
+fn updates<R: Host>(rt: &R, user: User, did: &mut Did, seed: u64) -> User {
     let k = 4 * ((seed >> 33) as u32 % 16) + did.lane % 4;
     let inserts = (seed >> 40) % 2 == 0;
     let change = if inserts { Insert(k) } else { Remove(k) };
-    let (user, reply) = calls(rt, alloc, user, did.waits, Now(change));
+    let (user, reply) = calls(rt, user, did.waits, Now(change));
     did.closed = reply == IsClosed;
     let is_made = did.own.get(k as usize) != Some(&inserts);
     did.right &= did.closed || reply == Came(made(is_made));
@@ -80,7 +78,7 @@ fn updates<R: Wait>(rt: &R, alloc: Global, user: User, did: &mut Did, seed: u64)
 }
 
 // Makes so many updates, with a look after each few.
-fn work<R: Wait>(rt: &R, alloc: Global, job: Job, steps: u32) -> Did {
+fn work<R: Host>(rt: &R, job: Job, steps: u32) -> Did {
     let (hand, lane, waits) = job;
     let mut user = User::Works(hand);
     let mut did = Did {
@@ -95,12 +93,12 @@ fn work<R: Wait>(rt: &R, alloc: Global, job: Job, steps: u32) -> Did {
     let mut seed = next(u64::from(lane));
     for i in 0..steps {
         seed = next(seed);
-        user = updates(rt, alloc, user, &mut did, seed);
+        user = updates(rt, user, &mut did, seed);
         if did.closed {
             break;
         }
         if i % 64 == 0 {
-            user = looks(rt, alloc, user, &mut did);
+            user = looks(rt, user, &mut did);
         }
     }
     give_up(user);
@@ -108,8 +106,8 @@ fn work<R: Wait>(rt: &R, alloc: Global, job: Job, steps: u32) -> Did {
 }
 
 // A job for each handle. The calls of the first `trying` ones wait for nobody.
-fn jobs(rt: &impl Abort, alloc: Global, hands: Vec<HandleOf>, trying: u32) -> Vec<Job> {
-    let mut jobs = Vec::new(alloc);
+fn jobs<R: Host + Abort>(rt: &R, hands: Vec<HandleOf>, trying: u32) -> Vec<Job> {
+    let mut jobs = Vec::new(rt.alloc());
     let mut lane = 0u32;
     for hand in hands {
         jobs.push((hand, lane, lane >= trying)).expect(rt, "memory");
@@ -123,18 +121,13 @@ fn jobs(rt: &impl Abort, alloc: Global, hands: Vec<HandleOf>, trying: u32) -> Ve
 type Beside = (&'static [(Act, Reply)], u32, bool);
 
 // Does it. The trie, if it is not closed, what the last act came to, and whether the others were right.
-fn besides<R: Wait>(
-    rt: &R,
-    alloc: Global,
-    live: LiveOf,
-    it: Beside,
-) -> (Option<LiveOf>, Reply, bool) {
+fn besides<R: Host>(rt: &R, live: LiveOf, it: Beside) -> (Option<LiveOf>, Reply, bool) {
     let (acts, times, waits) = it;
     let (mut live, mut user) = (Some(live), User::Gone);
     let (mut last, mut right) = (Done, true);
     for _ in 0..times {
         for &(act, expected) in acts {
-            let (same, next, reply) = done_at_last(rt, alloc, live, user, waits, act);
+            let (same, next, reply) = at_last(rt, live, user, waits, act);
             right &= reply == expected || matches!(act, Close);
             (live, user, last) = (same, next, reply);
         }
@@ -174,40 +167,24 @@ fn assert_end(rt: &impl Abort, end: Reply, done: &[Did], closed: bool, with: &Us
 }
 
 // Uses a trie, and compares what the threads did with what it counted.
-fn assert_used<R: Threads + Wait + Abort + Sync>(
-    rt: &R,
-    alloc: Global,
-    with: &Use,
-) -> Result<(), OpenError> {
+fn assert_used<R: Threads + Host + Abort + Sync>(rt: &R, with: &Use) -> Result<(), OpenError> {
     let ((used, trying, steps), (spare, updates), beside, _, _) = *with;
-    let (live, mut hands) = opened(alloc, 6, 4, spare, updates)?;
+    let (live, mut hands) = opened(rt.alloc(), 6, 4, spare, updates)?;
     let idle = idle_of(&mut hands, used);
-    let jobs = jobs(rt, alloc, hands, trying);
+    let jobs = jobs(rt, hands, trying);
     let (done, (live, last, right)) = thread::join(
         rt,
-        || thread::map_vec(rt, jobs, &|job| work(rt, alloc, job, steps)),
-        move || besides(rt, alloc, live, beside),
+        || thread::map_vec(rt, jobs, &|job| work(rt, job, steps)),
+        move || besides(rt, live, beside),
     );
     drop(idle);
     holds(rt, right);
-    let (_, nobody, ended) = done_at_last(rt, alloc, live, User::Gone, true, Close);
+    let (_, nobody, ended) = at_last(rt, live, User::Gone, true, Close);
     give_up(nobody);
     let closed = ended == Not;
     let end = if closed { last } else { ended };
     let done = done.expect(rt, "memory");
     assert_end(rt, end, done.as_slice(), closed, with);
-    Ok(())
-}
-
-// Uses a trie in each of these ways.
-fn assert_each<R: Threads + Wait + Abort + Sync>(
-    rt: &R,
-    alloc: Global,
-    table: &[Use],
-) -> Result<(), OpenError> {
-    for with in table {
-        assert_used(rt, alloc, with)?;
-    }
     Ok(())
 }
 
@@ -229,7 +206,10 @@ const ALONE: &[Use] = &[
 
 #[test]
 fn threads_see_their_own_updates_in_every_round(rt: HostRuntime) -> Result<(), OpenError> {
-    assert_each(&rt, rt.alloc(), ALONE)
+    for with in ALONE {
+        assert_used(&rt, with)?;
+    }
+    Ok(())
 }
 
 // By calls that wait or by tries.
@@ -245,26 +225,19 @@ const RENEW: &[(Act, Reply)] = &[
     (Now(Remove(3)), Came(Accepted)),
 ];
 
+const RENEWED: Beside = (RENEW, 500, true);
+
+// Each of 200 roll-overs ends a round.
+const ROLLED: (u64, u64) = (201, u64::MAX);
+
 const BESIDE: &[Use] = &[
     // It is closed by a call that waits if those of all threads do.
     ((4, 0, 5_000_000), (0, 500), (CLOSE, 1, true), 0, ANY),
     ((4, 2, 5_000_000), (0, 500), (CLOSE, 1, false), 0, ANY),
     ((4, 4, 5_000_000), (0, 500), (CLOSE, 1, false), 0, ANY),
-    (
-        (4, 2, 5_000),
-        (0, 1000),
-        (ROLL, 200, false),
-        0,
-        (201, u64::MAX),
-    ),
+    ((4, 2, 5_000), (0, 1000), (ROLL, 200, false), 0, ROLLED),
     // 151,000 updates, of which each lane has 1,000 in a round, and 15,100.
-    (
-        (3, 0, 50_000),
-        (0, 1000),
-        (RENEW, 500, true),
-        500,
-        (50, 152),
-    ),
+    ((3, 0, 50_000), (0, 1000), RENEWED, 500, (50, 152)),
     ((3, 2, 5_000), (0, 1000), (RENEW, 50, false), 50, (5, 16)),
 ];
 
@@ -272,5 +245,8 @@ const BESIDE: &[Use] = &[
 fn a_trie_is_closed_rolled_over_and_has_new_handles_while_others_work(
     rt: HostRuntime,
 ) -> Result<(), OpenError> {
-    assert_each(&rt, rt.alloc(), BESIDE)
+    for with in BESIDE {
+        assert_used(&rt, with)?;
+    }
+    Ok(())
 }

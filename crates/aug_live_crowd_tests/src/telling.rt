@@ -6,25 +6,23 @@ use crate::assertions::{equal, holds};
 use aug_live::{Live, LiveError, OpenError, Plan};
 use aug_live_testing::acting::does;
 use aug_live_testing::opening::{
-    HandleOf, LiveOf, ended, looked, no_keys, opened, renewed, rolled,
+    HandleOf, Host, LiveOf, ended, looked, no_keys, opened, renewed, rolled,
 };
 use aug_trie_testing::rows::Act::Has;
 use aug_trie_testing::rows::Reply::{Done, Is};
-use std::alloc::Global;
 use std::process::Abort;
 use std::sync::Wait;
 
 // A trie over no keys of so many bits with so many lanes, and the handles of the last two of these.
-fn two<R: Wait + Abort>(
+fn two<R: Host + Abort>(
     rt: &R,
-    alloc: Global,
     bits: u32,
     lanes: u32,
 ) -> Result<(LiveOf, HandleOf, HandleOf), OpenError>
     ensures tables { IfOk result (λ t. (t.1.half.round.table ≡ t.0.table) × (t.2.half.round.table ≡ t.0.table)) }
     ensures lanes { IfOk result (λ t. (ids_of t.1.who.trie ≡ ids_of t.0) × (ids_of t.2.who.trie ≡ ids_of t.0)) }
 {
-    let plan = Plan { lanes, updates: 4 };
+    let (alloc, plan) = (rt.alloc(), Plan { lanes, updates: 4 });
     let (live, mut hands) = match Live::open_with(alloc, no_keys(alloc, bits)?, lanes, plan) {
         Ok(opened) => opened,
         Err((_, cause)) => return Err(cause),
@@ -141,9 +139,7 @@ fn assert_back_later<R: Wait + Abort>(rt: &R, live: LiveOf, hand: HandleOf, othe
     requires lanes { ids_of hand.who.trie ≡ ids_of live }
 {
     let mut live = live;
-    let Ok(look) = looked(rt, other, true) else {
-        panic!(rt; "no look");
-    };
+    let look = looked(rt, other, true).ok().expect(rt, "a look");
     holds(rt, waits(&mut live));
     drop(look.done());
     equal(rt, back(rt, &mut live, hand), Ok(()));
@@ -153,9 +149,9 @@ fn assert_back_later<R: Wait + Abort>(rt: &R, live: LiveOf, hand: HandleOf, othe
 #[test]
 fn a_note_tells_what_its_maker_did_over_roll_overs(rt: HostRuntime) -> Result<(), OpenError> {
     for bits in 1..=16 {
-        let (mut live, a, b) = two(&rt, rt.alloc(), bits, 2)?;
+        let (mut live, a, b) = two(&rt, bits, 2)?;
         let hand = learnt(&rt, &mut live, a, b, true).expect(&rt, "a note");
-        let (_, seen) = does(&rt, rt.alloc(), hand, true, Has(1));
+        let (_, seen) = does(&rt, hand, true, Has(1));
         equal(&rt, seen, Is(true));
     }
     Ok(())
@@ -163,7 +159,7 @@ fn a_note_tells_what_its_maker_did_over_roll_overs(rt: HostRuntime) -> Result<()
 
 #[test]
 fn a_handle_that_was_replaced_learns_nothing(rt: HostRuntime) -> Result<(), OpenError> {
-    let (mut live, a, b) = two(&rt, rt.alloc(), 6, 2)?;
+    let (mut live, a, b) = two(&rt, 6, 2)?;
     let refused = learnt(&rt, &mut live, b, a, false).err();
     equal(&rt, refused, Some(LiveError::Replaced));
     Ok(())
@@ -172,7 +168,7 @@ fn a_handle_that_was_replaced_learns_nothing(rt: HostRuntime) -> Result<(), Open
 #[test]
 fn a_trie_knows_what_a_handle_did_that_came_back(rt: HostRuntime) -> Result<(), OpenError> {
     for lanes in [2u32, 3, 4, 5, 64] {
-        let (mut live, a, b) = two(&rt, rt.alloc(), 6, lanes)?;
+        let (mut live, a, b) = two(&rt, 6, lanes)?;
         assert_not_back(&rt, &mut live, b, lanes.saturating_sub(1));
         assert_back(&rt, live, a, lanes);
     }
@@ -181,7 +177,7 @@ fn a_trie_knows_what_a_handle_did_that_came_back(rt: HostRuntime) -> Result<(), 
 
 #[test]
 fn a_handle_comes_back_whose_lane_a_roll_over_took(rt: HostRuntime) -> Result<(), OpenError> {
-    let (live, a, b) = two(&rt, rt.alloc(), 6, 2)?;
+    let (live, a, b) = two(&rt, 6, 2)?;
     assert_back_later(&rt, live, b, a);
     Ok(())
 }
@@ -205,10 +201,7 @@ fn each_new_handle_of_each_lane_comes_back(rt: HostRuntime) -> Result<(), OpenEr
     for key in 0..64 * TIMES {
         new_one_is_back(&rt, &mut live, key % 64, key);
     }
-    equal(
-        &rt,
-        end(&rt, live),
-        (64 * TIMES, 1, 64 + u64::from(64 * TIMES), 64),
-    );
+    let handles = 64 + u64::from(64 * TIMES);
+    equal(&rt, end(&rt, live), (64 * TIMES, 1, handles, 64));
     Ok(())
 }

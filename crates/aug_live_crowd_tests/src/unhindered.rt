@@ -5,7 +5,7 @@ use crate::assertions::{equal, holds};
 use aug_live::OpenError;
 use aug_live_testing::acting::does;
 use aug_live_testing::opening::{
-    HandleOf, LiveOf, changed, closed, ended, fill, opened, renewed, rolled,
+    HandleOf, Host, LiveOf, changed, closed, ended, fill, opened, renewed, rolled,
 };
 use aug_trie::Outcome::{Accepted, Replaced};
 use aug_trie::{Outcome, Pop};
@@ -13,7 +13,6 @@ use aug_trie_testing::rows::Act::{Note, Now, Size};
 use aug_trie_testing::rows::Change::{Insert, PopFirst, PopLast, Put, Remove};
 use aug_trie_testing::rows::Reply::{Came, Done, IsReplaced, NoLane, Number, Popped};
 use aug_trie_testing::sweeps::EACH;
-use std::alloc::Global;
 use std::process::Abort;
 use std::sync::Wait;
 
@@ -50,13 +49,13 @@ fn puts_all<R: Wait>(
 }
 
 // Each handle gives each key a weight of its own, and sees them all.
-fn each_puts<R: Wait + Abort>(rt: &R, alloc: Global, hands: Vec<HandleOf>, keys: Keys) {
+fn each_puts<R: Host + Abort>(rt: &R, hands: Vec<HandleOf>, keys: Keys) {
     let mut weight = 0u32;
     for hand in hands {
         let mut hand = hand;
         let outcome = if weight == 0 { Accepted } else { Replaced };
         holds(rt, puts_all(rt, &mut hand, keys, weight, outcome));
-        let (_, members) = does(rt, alloc, hand, weight % 2 == 0, Size);
+        let (_, members) = does(rt, hand, weight % 2 == 0, Size);
         equal(rt, members, Number(keys.count));
         weight = weight.saturating_add(1);
     }
@@ -111,23 +110,20 @@ fn each_lane_takes_out<R: Wait + Abort>(rt: &R, live: &mut LiveOf, handles: u32,
 }
 
 // What calls of a trie with so many handles come to, of which each has so many updates in a round.
-fn assert_made<R: Wait + Abort>(
+fn assert_made<R: Host + Abort>(
     rt: &R,
-    alloc: Global,
     bits: u32,
     handles: u32,
     updates: u32,
 ) -> Result<(), OpenError> {
     let keys = keys_of(bits);
     let spare = (bits % 3).min(64u32.saturating_sub(handles));
-    let (mut live, hands) = opened(alloc, bits, handles, spare, updates)?;
-    each_puts(rt, alloc, hands, keys);
+    let (mut live, hands) = opened(rt.alloc(), bits, handles, spare, updates)?;
+    each_puts(rt, hands, keys);
     equal(rt, rolled(rt, &mut live, false), Done);
     equal(rt, rolled(rt, &mut live, true), Done);
     each_lane_takes_out(rt, &mut live, handles, keys);
-    let Ok((set, counts)) = closed(rt, live, false) else {
-        panic!(rt; "not closed");
-    };
+    let (set, counts) = closed(rt, live, false).ok().expect(rt, "an end");
     let all = u64::from(handles).saturating_mul(2);
     equal(rt, (set.bits(), set.size(), counts.handles), (bits, 1, all));
     Ok(())
@@ -145,10 +141,10 @@ const SWEEPS: &[Sweep] = &[
 ];
 
 // Goes through all numbers of a sweep.
-fn assert_sweep<R: Wait + Abort>(rt: &R, alloc: Global, it: &Sweep) -> Result<(), OpenError> {
+fn assert_sweep<R: Host + Abort>(rt: &R, it: &Sweep) -> Result<(), OpenError> {
     for bits in 1..=it.0 {
         for handles in it.1 {
-            assert_made(rt, alloc, bits, *handles, it.2)?;
+            assert_made(rt, bits, *handles, it.2)?;
         }
     }
     Ok(())
@@ -159,7 +155,7 @@ fn no_call_is_refused_or_made_again_with_nobody_in_its_way(
     rt: HostRuntime,
 ) -> Result<(), OpenError> {
     for it in SWEEPS {
-        assert_sweep(&rt, rt.alloc(), it)?;
+        assert_sweep(&rt, it)?;
     }
     Ok(())
 }
@@ -190,9 +186,9 @@ fn are_refused<R: Wait + Abort>(rt: &R, live: &mut LiveOf, hands: &mut Vec<Handl
 }
 
 // What the trie of a row comes to.
-fn assert_goes_on<R: Wait + Abort>(rt: &R, alloc: Global, it: &Crowd) -> Result<(), OpenError> {
+fn assert_goes_on<R: Host + Abort>(rt: &R, it: &Crowd) -> Result<(), OpenError> {
     let (handles, spare, updates, by_hand, rounds) = *it;
-    let (mut live, mut hands) = opened(alloc, 9, handles, spare, updates)?;
+    let (mut live, mut hands) = opened(rt.alloc(), 9, handles, spare, updates)?;
     let mut members = 0u32;
     for _ in 0..3 {
         for hand in hands.as_mut_slice() {
@@ -205,7 +201,7 @@ fn assert_goes_on<R: Wait + Abort>(rt: &R, alloc: Global, it: &Crowd) -> Result<
         are_refused(rt, &mut live, &mut hands, handles);
     }
     for hand in hands {
-        let (_, seen) = does(rt, alloc, hand, true, Size);
+        let (_, seen) = does(rt, hand, true, Size);
         equal(rt, seen, Number(members));
     }
     let (set, counts) = ended(rt, live);
@@ -221,7 +217,7 @@ fn each_of_64_handles_goes_on_over_roll_overs_and_refusals(
     rt: HostRuntime,
 ) -> Result<(), OpenError> {
     for it in CROWDS {
-        assert_goes_on(&rt, rt.alloc(), it)?;
+        assert_goes_on(&rt, it)?;
     }
     Ok(())
 }
@@ -231,7 +227,7 @@ const ROUNDS: u32 = 3_000;
 
 // Puts key 5 in or takes it out, each time in a new round, with a note before and a look behind. The calls wait, or wait for nobody. Whether each
 // came to that.
-fn goes_on<R: Wait>(rt: &R, alloc: Global, hand: HandleOf) -> bool {
+fn goes_on<R: Host>(rt: &R, hand: HandleOf) -> bool {
     let (mut hand, mut right) = (hand, true);
     for number in 0..ROUNDS {
         let (waits, pops) = match number % 4 {
@@ -251,7 +247,7 @@ fn goes_on<R: Wait>(rt: &R, alloc: Global, hand: HandleOf) -> bool {
             (number % 3 == 0, Size, Number(1 - number % 2)),
         ];
         for (waits, act, expected) in acts {
-            let (same, found) = does(rt, alloc, hand, waits, act);
+            let (same, found) = does(rt, hand, waits, act);
             right &= found == expected;
             hand = same;
         }
@@ -264,18 +260,16 @@ fn goes_on<R: Wait>(rt: &R, alloc: Global, hand: HandleOf) -> bool {
 fn each_handle_goes_on_over_thousands_of_rounds(rt: HostRuntime) -> Result<(), OpenError> {
     let (mut live, hands) = opened(rt.alloc(), 3, 3, 0, 1)?;
     for hand in hands {
-        holds(&rt, goes_on(&rt, rt.alloc(), hand));
+        holds(&rt, goes_on(&rt, hand));
     }
     for waits in [true, false] {
         equal(&rt, rolled(&rt, &mut live, waits), Done);
     }
     for waits in [true, false] {
         let hand = renewed(&rt, &mut live, waits, 1).expect(&rt, "a handle");
-        holds(&rt, goes_on(&rt, rt.alloc(), hand));
+        holds(&rt, goes_on(&rt, hand));
     }
-    let Ok((set, counts)) = closed(&rt, live, false) else {
-        panic!(&rt; "not closed");
-    };
+    let (set, counts) = closed(&rt, live, false).ok().expect(&rt, "an end");
     equal(&rt, (set.size(), counts.rounds), (0, 14_999));
     Ok(())
 }

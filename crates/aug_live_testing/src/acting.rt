@@ -2,15 +2,13 @@
 //! once, in functions that promise nothing, so that the proof of a test is that of its data.
 
 use crate::opening::{
-    HandleOf, LiveOf, LookOf, changed, closed, fill, looked, refused, renewed, rolled, told,
+    HandleOf, Host, LiveOf, LookOf, changed, closed, fill, looked, refused, renewed, rolled, told,
 };
 use aug_query::descent::{
     After, Before, Has, Keys, Pairs, Range, Rank, Select, SelectByWeight, Size, Weight,
 };
 use aug_trie_testing::asked;
 use aug_trie_testing::rows::{Act, Change, Reply, folded, key_of, told_keys, told_pairs};
-use std::alloc::Global;
-use std::sync::Wait;
 use std::thread::yield_now;
 
 /// A user: nobody, a handle, or the look that it has taken.
@@ -19,6 +17,9 @@ pub enum User {
     Works(HandleOf),
     Looks(LookOf),
 }
+
+/// A trie, if it is not closed, its user, and what an act came to.
+pub type Then = (Option<LiveOf>, User, Reply);
 
 /// The user of the next handle.
 pub fn next_user(hands: &mut Vec<HandleOf>) -> User {
@@ -38,28 +39,22 @@ pub fn give_up(user: User) {
 }
 
 /// What a look shows.
-fn shown(alloc: Global, look: &mut LookOf, act: Act) -> Reply {
+fn shown(rt: &impl AllocGlobal, look: &mut LookOf, act: Act) -> Reply {
     match act {
         Act::Again => {
             look.again();
             Reply::Done
         }
         Act::SelectByWeight(number) => Reply::Finds(look.ask(SelectByWeight(number))),
-        _ => asked!(act, alloc, query => look.ask(query)),
+        _ => asked!(act, rt.alloc(), look.ask()),
     }
 }
 
 /// What a look shows that a handle takes for it, and the handle.
-fn shown_to<R: Wait>(
-    rt: &R,
-    alloc: Global,
-    hand: HandleOf,
-    waits: bool,
-    act: Act,
-) -> (HandleOf, Reply) {
+fn shown_to<R: Host>(rt: &R, hand: HandleOf, waits: bool, act: Act) -> (HandleOf, Reply) {
     match looked(rt, hand, waits) {
         Ok(mut look) => {
-            let reply = shown(alloc, &mut look, act);
+            let reply = shown(rt, &mut look, act);
             (look.done(), reply)
         }
         Err(missed) => missed,
@@ -67,13 +62,7 @@ fn shown_to<R: Wait>(
 }
 
 /// An update by a handle, and what its key weighs then.
-fn seen<R: Wait>(
-    rt: &R,
-    alloc: Global,
-    hand: HandleOf,
-    waits: bool,
-    change: Change,
-) -> (HandleOf, Reply) {
+fn seen<R: Host>(rt: &R, hand: HandleOf, waits: bool, change: Change) -> (HandleOf, Reply) {
     let mut hand = hand;
     let reply = changed(rt, &mut hand, waits, change);
     let Some(key) = key_of(change) else {
@@ -82,7 +71,7 @@ fn seen<R: Wait>(
     let Reply::Came(outcome) = reply else {
         return (hand, reply);
     };
-    let (hand, shown) = shown_to(rt, alloc, hand, waits, Act::Weight(key));
+    let (hand, shown) = shown_to(rt, hand, waits, Act::Weight(key));
     match shown {
         Reply::Finds(weight) => (hand, Reply::Seen(outcome, weight)),
         _ => (hand, shown),
@@ -90,34 +79,28 @@ fn seen<R: Wait>(
 }
 
 /// What a handle does that stays with its user.
-pub fn does<R: Wait>(
-    rt: &R,
-    alloc: Global,
-    hand: HandleOf,
-    waits: bool,
-    act: Act,
-) -> (HandleOf, Reply) {
+pub fn does<R: Host>(rt: &R, hand: HandleOf, waits: bool, act: Act) -> (HandleOf, Reply) {
     let mut hand = hand;
     let reply = match act {
         Act::Now(change) => changed(rt, &mut hand, waits, change),
-        Act::See(change) => return seen(rt, alloc, hand, waits, change),
+        Act::See(change) => return seen(rt, hand, waits, change),
         Act::Tell(change) => told(rt, &mut hand, waits, change),
         Act::Fill(from, count) => Reply::Number(fill(rt, &mut hand, waits, from, count)),
         Act::Note => hand.note(rt).map_or_else(refused, |_| Reply::Done),
-        _ => return shown_to(rt, alloc, hand, waits, act),
+        _ => return shown_to(rt, hand, waits, act),
     };
     (hand, reply)
 }
 
 /// What a user does by itself.
-fn by_user<R: Wait>(rt: &R, alloc: Global, user: User, waits: bool, act: Act) -> (User, Reply) {
+fn by_user<R: Host>(rt: &R, user: User, waits: bool, act: Act) -> (User, Reply) {
     match user {
         User::Gone => (User::Gone, Reply::Not),
         User::Looks(mut look) => {
             if matches!(act, Act::Over) {
                 return (User::Works(look.done()), Reply::Done);
             }
-            let reply = shown(alloc, &mut look, act);
+            let reply = shown(rt, &mut look, act);
             (User::Looks(look), reply)
         }
         User::Works(hand) => match act {
@@ -126,7 +109,7 @@ fn by_user<R: Wait>(rt: &R, alloc: Global, user: User, waits: bool, act: Act) ->
                 Err((hand, reply)) => (User::Works(hand), reply),
             },
             _ => {
-                let (hand, reply) = does(rt, alloc, hand, waits, act);
+                let (hand, reply) = does(rt, hand, waits, act);
                 (User::Works(hand), reply)
             }
         },
@@ -134,13 +117,7 @@ fn by_user<R: Wait>(rt: &R, alloc: Global, user: User, waits: bool, act: Act) ->
 }
 
 /// What is done with a trie: its round rolls over, it is closed, or a new handle comes in the place of a user's, if it is not refused.
-fn with_trie<R: Wait>(
-    rt: &R,
-    live: LiveOf,
-    user: User,
-    waits: bool,
-    act: Act,
-) -> (Option<LiveOf>, User, Reply) {
+fn with_trie<R: Host>(rt: &R, live: LiveOf, user: User, waits: bool, act: Act) -> Then {
     let mut live = live;
     match act {
         Act::Renew(lane) => match renewed(rt, &mut live, waits, lane) {
@@ -166,14 +143,7 @@ fn with_trie<R: Wait>(
 }
 
 /// What a user does, or what is done with the trie, unless that is closed.
-pub fn done<R: Wait>(
-    rt: &R,
-    alloc: Global,
-    live: Option<LiveOf>,
-    user: User,
-    waits: bool,
-    act: Act,
-) -> (Option<LiveOf>, User, Reply) {
+pub fn done<R: Host>(rt: &R, live: Option<LiveOf>, user: User, waits: bool, act: Act) -> Then {
     match act {
         Act::GiveUp => {
             give_up(user);
@@ -184,24 +154,17 @@ pub fn done<R: Wait>(
             None => (None, user, Reply::Not),
         },
         _ => {
-            let (user, reply) = by_user(rt, alloc, user, waits, act);
+            let (user, reply) = by_user(rt, user, waits, act);
             (live, user, reply)
         }
     }
 }
 
 /// The same, again until it is done if it would have to wait.
-pub fn done_at_last<R: Wait>(
-    rt: &R,
-    alloc: Global,
-    live: Option<LiveOf>,
-    user: User,
-    waits: bool,
-    act: Act,
-) -> (Option<LiveOf>, User, Reply) {
+pub fn at_last<R: Host>(rt: &R, live: Option<LiveOf>, user: User, waits: bool, act: Act) -> Then {
     let (mut live, mut user) = (live, user);
     for _ in rt.forever() {
-        let (same, next, reply) = done(rt, alloc, live, user, waits, act);
+        let (same, next, reply) = done(rt, live, user, waits, act);
         if !matches!(reply, Reply::Later | Reply::Anew) {
             return (same, next, reply);
         }

@@ -10,6 +10,11 @@ use ruled_lock::WasOut;
 use std::alloc::Global;
 use std::sync::Wait;
 
+/// What a user of a trie may do: wait, and take memory.
+pub trait Host: Wait + AllocGlobal {}
+
+impl<R: Wait + AllocGlobal> Host for R {}
+
 pub type LiveOf = Live<Sum, Extent>;
 
 pub type HandleOf = Handle<Sum, Extent>;
@@ -29,14 +34,14 @@ pub fn opened(
     spare: u32,
     updates: u32,
 ) -> Result<(LiveOf, Vec<HandleOf>), OpenError> {
-    let plan = Plan {
-        lanes: handles.saturating_add(spare),
-        updates,
-    };
-    match Live::open_with(alloc, no_keys(alloc, bits)?, handles, plan) {
-        Ok(opened) => Ok(opened),
-        Err((_, cause)) => Err(cause),
-    }
+    let lanes = handles.saturating_add(spare);
+    let opened = Live::open_with(
+        alloc,
+        no_keys(alloc, bits)?,
+        handles,
+        Plan { lanes, updates },
+    );
+    opened.map_err(|refused| refused.1)
 }
 
 /// Why a call was refused.
@@ -185,14 +190,10 @@ pub fn renewed<R: Wait>(
 
 /// Rolls the round over.
 pub fn rolled<R: Wait>(rt: &R, live: &mut LiveOf, waits: bool) -> Reply {
-    let done = if waits {
-        live.roll(rt).map_err(refused)
+    if waits {
+        live.roll(rt).map_or_else(refused, |()| Reply::Done)
     } else {
-        live.try_roll().map_err(held_up)
-    };
-    match done {
-        Ok(()) => Reply::Done,
-        Err(reply) => reply,
+        live.try_roll().map_or_else(held_up, |()| Reply::Done)
     }
 }
 
@@ -201,10 +202,7 @@ pub fn closed<R: Wait>(rt: &R, live: LiveOf, waits: bool) -> Result<(Members, Li
     if waits {
         return Ok(live.close(rt));
     }
-    match live.try_close() {
-        Ok(end) => Ok(end),
-        Err((live, _)) => Err(live),
-    }
+    live.try_close().map_err(|held| held.0)
 }
 
 /// The end of a trie.
@@ -215,14 +213,11 @@ pub fn ended<R: Wait>(rt: &R, live: LiveOf) -> (Members, LiveCounts) {
 /// A look, or the handle with why there is none.
 pub fn looked<R: Wait>(rt: &R, hand: HandleOf, waits: bool) -> Result<LookOf, (HandleOf, Reply)> {
     if waits {
-        return match hand.look(rt) {
-            Ok(look) => Ok(look),
-            Err((hand, cause)) => Err((hand, refused(cause))),
-        };
-    }
-    match hand.try_look() {
-        Ok(look) => Ok(look),
-        Err((hand, cause)) => Err((hand, missed(cause))),
+        hand.look(rt)
+            .map_err(|(hand, cause)| (hand, refused(cause)))
+    } else {
+        hand.try_look()
+            .map_err(|(hand, cause)| (hand, missed(cause)))
     }
 }
 

@@ -2,12 +2,10 @@
 
 use crate::assertions::equal;
 use aug_live::OpenError;
-use aug_live_testing::opening::{changed_all, ended, opened};
+use aug_live_testing::opening::{Host, changed_all, ended, opened};
 use aug_trie::Outcome::{Accepted, Refused, Replaced, TooGreat};
 use aug_trie::Request::{Add, Insert, Put};
-use std::alloc::Global;
 use std::process::Abort;
-use std::sync::Wait;
 
 #[test]
 fn a_batch_ends_where_the_updates_of_its_lane_do(rt: HostRuntime) -> Result<(), OpenError> {
@@ -41,14 +39,9 @@ const BATCHES: &[Batches] = &[
 ];
 
 // The batches of a row make as many updates as there are keys and room for.
-fn assert_batches<R: Wait + Abort>(
-    rt: &R,
-    alloc: Global,
-    it: &Batches,
-    waits: bool,
-) -> Result<(), OpenError> {
+fn assert_batches<R: Host + Abort>(rt: &R, it: &Batches, waits: bool) -> Result<(), OpenError> {
     let (updates, counts, rounds) = *it;
-    let (live, mut hands) = opened(alloc, 4, 1, 0, updates)?;
+    let (live, mut hands) = opened(rt.alloc(), 4, 1, 0, updates)?;
     let mut hand = hands.pop().expect(rt, "a handle");
     let mut all = 0u64;
     for (number, count) in counts.iter().enumerate() {
@@ -65,8 +58,8 @@ fn assert_batches<R: Wait + Abort>(
 #[test]
 fn a_batch_makes_as_many_updates_as_its_lane_has_left(rt: HostRuntime) -> Result<(), OpenError> {
     for it in BATCHES {
-        assert_batches(&rt, rt.alloc(), it, true)?;
-        assert_batches(&rt, rt.alloc(), it, false)?;
+        assert_batches(&rt, it, true)?;
+        assert_batches(&rt, it, false)?;
     }
     Ok(())
 }

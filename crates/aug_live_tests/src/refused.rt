@@ -70,5 +70,5 @@ fn refused_memory_loses_nothing_of_a_live_trie(rt: HostRuntime) -> Result<(), Op
     let (set, _) = ended(&rt, live);
     equal(&rt, set.as_slice(), PAIRS);
     let (live, hands) = opens_again(&rt, alloc, set, true, PAIRS)?;
-    rows(&rt, alloc, state_of(live, hands), true, 0, LINES)
+    rows(&rt, state_of(live, hands), true, 0, LINES)
 }

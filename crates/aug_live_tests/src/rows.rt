@@ -25,8 +25,8 @@ fn an_update_of_a_handle_comes_to_what_that_of_a_pass_does(
     rt: HostRuntime,
 ) -> Result<(), OpenError> {
     for most in [u32::MAX, 2, 1] {
-        tables(&rt, rt.alloc(), true, most, UPDATES)?;
-        tables(&rt, rt.alloc(), false, most, UPDATES)?;
+        tables(&rt, true, most, UPDATES)?;
+        tables(&rt, false, most, UPDATES)?;
     }
     Ok(())
 }
@@ -184,7 +184,7 @@ fn handles_and_looks_go_on_over_rounds_and_behind_refusals(
     rt: HostRuntime,
 ) -> Result<(), OpenError> {
     for waits in [true, false] {
-        tables(&rt, rt.alloc(), waits, 0, &[ROUNDS, LANES, REFUSALS])?;
+        tables(&rt, waits, 0, &[ROUNDS, LANES, REFUSALS])?;
     }
     Ok(())
 }
@@ -404,5 +404,5 @@ const ENDS: &[Line] = &[
 
 #[test]
 fn what_has_to_wait_comes_once_a_look_is_over(rt: HostRuntime) -> Result<(), OpenError> {
-    tables(&rt, rt.alloc(), true, 0, &[LATER, ROLLS, ENDS])
+    tables(&rt, true, 0, &[LATER, ROLLS, ENDS])
 }

@@ -2,12 +2,11 @@
 
 use crate::assertions::{equal, holds};
 use aug_live::OpenError;
-use aug_live_testing::opening::{HandleOf, changed, ended, opened};
+use aug_live_testing::opening::{HandleOf, Host, changed, ended, opened};
 use aug_trie::Outcome::{Accepted, Replaced, Unchanged};
 use aug_trie::Pop;
 use aug_trie_testing::rows::Change::{Add, PopFirst, PopLast, Put, Sub};
 use aug_trie_testing::rows::Reply::{Came, Popped};
-use std::alloc::Global;
 use std::process::Abort;
 use std::sync::Wait;
 use std::thread;
@@ -33,12 +32,11 @@ fn works<R: Wait>(rt: &R, hand: HandleOf, amounts: (u32, u32)) -> u32 {
 }
 
 // The set that four threads leave, each of which adds so much at ten keys and takes so much of it back.
-fn assert_units<R: Threads + Wait + Abort + Sync>(
+fn assert_units<R: Threads + Host + Abort + Sync>(
     rt: &R,
-    alloc: Global,
     amounts: (u32, u32),
 ) -> Result<(), OpenError> {
-    let (live, hands) = opened(alloc, 4, 4, 2, 500)?;
+    let (live, hands) = opened(rt.alloc(), 4, 4, 2, 500)?;
     let made = thread::map_vec(rt, hands, &|hand| works(rt, hand, amounts)).expect(rt, "memory");
     equal(rt, made.as_slice(), &[20 * TIMES; 4]);
     let (set, _) = ended(rt, live);
@@ -52,7 +50,7 @@ fn assert_units<R: Threads + Wait + Abort + Sync>(
 #[test]
 fn each_unit_that_four_threads_add_at_ten_keys_is_there(rt: HostRuntime) -> Result<(), OpenError> {
     for amounts in [(1, 0), (3, 1), (7, 7)] {
-        assert_units(&rt, rt.alloc(), amounts)?;
+        assert_units(&rt, amounts)?;
     }
     Ok(())
 }
@@ -92,12 +90,11 @@ fn pops<R: Wait>(rt: &R, hand: HandleOf, is_first: bool) -> (u32, u32, bool) {
 }
 
 // Four threads that pop at one end what each put in.
-fn assert_popped<R: Threads + Wait + Abort + Sync>(
+fn assert_popped<R: Threads + Host + Abort + Sync>(
     rt: &R,
-    alloc: Global,
     is_first: bool,
 ) -> Result<(), OpenError> {
-    let (live, mut hands) = opened(alloc, BITS, 4, 2, TIMERS)?;
+    let (live, mut hands) = opened(rt.alloc(), BITS, 4, 2, TIMERS)?;
     for hand in hands.as_mut_slice() {
         for key in 0..TIMERS {
             let reply = changed(rt, hand, true, Put(key, weight_of(key)));
@@ -119,7 +116,7 @@ fn assert_popped<R: Threads + Wait + Abort + Sync>(
 #[test]
 fn four_threads_pop_each_timer_once(rt: HostRuntime) -> Result<(), OpenError> {
     for is_first in [true, false] {
-        assert_popped(&rt, rt.alloc(), is_first)?;
+        assert_popped(&rt, is_first)?;
     }
     Ok(())
 }

@@ -4,12 +4,11 @@
 use crate::assertions::{equal, holds};
 use aug_live::OpenError;
 use aug_live_testing::opening::{
-    HandleOf, LookOf, changed, ended, fill, looked, no_keys, opened, rolled, size,
+    HandleOf, Host, LookOf, changed, ended, fill, looked, no_keys, opened, rolled, size,
 };
 use aug_query::descent::Changes;
 use aug_trie::{AllMembers, Members};
 use aug_trie_testing::rows::{Change, Reply};
-use std::alloc::{AllocError, Global};
 use std::process::Abort;
 use std::sync::Wait;
 
@@ -64,13 +63,9 @@ const STAGES: &[Stage] = &[
 fn next_difference(before: &Plain, after: &Plain, from: u32) -> Option<Told> {
     for key in from..64 {
         let place = key as usize;
-        let change = (
-            key,
-            before.get(place).copied().flatten(),
-            after.get(place).copied().flatten(),
-        );
-        if change.1 != change.2 {
-            return Some(change);
+        let (was, is) = (before.get(place).copied()?, after.get(place).copied()?);
+        if was != is {
+            return Some((key, was, is));
         }
     }
     None
@@ -139,9 +134,8 @@ type Two = (HandleOf, HandleOf);
 type Sets = (Plain, Plain);
 
 // A stage behind a list. The new list, and what it has.
-fn stage<R: Wait + Abort>(
+fn stage<R: Host + Abort>(
     rt: &R,
-    alloc: Global,
     hands: Two,
     list: &Members,
     sets: Sets,
@@ -161,47 +155,42 @@ fn stage<R: Wait + Abort>(
         assert_pages(rt, &mut look, None, (&before, &after), shows);
         assert_pages(rt, &mut look, Some(list), (&listed, &after), shows);
     }
-    let members = look.ask(AllMembers(alloc));
+    let members = look.ask(AllMembers(rt.alloc()));
     let hands = (look.done(), other);
-    match members {
-        Ok(members) => Ok((hands, members, after)),
-        Err(AllocError) => Err(OpenError::OutOfMemory),
-    }
+    let Ok(members) = members else {
+        return Err(OpenError::OutOfMemory);
+    };
+    Ok((hands, members, after))
 }
 
 // Stages of a trie of so many bits, of which the first is compared with a list of another. The last list, and what it has.
-fn stages<R: Wait + Abort>(
+fn stages<R: Host + Abort>(
     rt: &R,
-    alloc: Global,
     bits: u32,
     list: (Members, Plain),
     stages: &[Stage],
 ) -> Result<(Members, Plain), OpenError> {
-    let (mut live, mut hands) = opened(alloc, bits, 2, 0, 150)?;
+    let (mut live, mut hands) = opened(rt.alloc(), bits, 2, 0, 150)?;
     let (Some(hand), Some(other)) = (hands.pop(), hands.pop()) else {
         return Err(OpenError::OutOfMemory);
     };
     let (mut hands, mut before) = ((hand, other), [None; 64]);
     let (mut list, mut listed) = list;
     for it in stages {
-        let (same, members, after) = stage(rt, alloc, hands, &list, (listed, before), it)?;
+        let (same, members, after) = stage(rt, hands, &list, (listed, before), it)?;
         equal(rt, rolled(rt, &mut live, true), Reply::Done);
         (hands, list, listed, before) = (same, members, after, after);
     }
-    equal(
-        rt,
-        ended(rt, live).1.rounds,
-        (stages.len() as u64).saturating_add(1),
-    );
+    let rounds = (stages.len() as u64).saturating_add(1);
+    equal(rt, ended(rt, live).1.rounds, rounds);
     Ok((list, listed))
 }
 
 #[test]
 fn changes_are_told_over_roll_overs(rt: HostRuntime) -> Result<(), OpenError> {
-    let alloc = rt.alloc();
-    let none = (no_keys(alloc, 3)?, [None; 64]);
-    let small = stages(&rt, alloc, 3, none, SMALL)?;
-    stages(&rt, alloc, 6, small, STAGES)?;
+    let none = (no_keys(rt.alloc(), 3)?, [None; 64]);
+    let small = stages(&rt, 3, none, SMALL)?;
+    stages(&rt, 6, small, STAGES)?;
     Ok(())
 }
 
@@ -209,10 +198,7 @@ fn changes_are_told_over_roll_overs(rt: HostRuntime) -> Result<(), OpenError> {
 #[test]
 fn refused_lists_of_a_look_lose_nothing(rt: HostRuntime) -> Result<(), OpenError> {
     let alloc = rt.alloc();
-    let (_live, mut hands) = match opened(alloc, 4, 1, 0, 9) {
-        Ok(opened) => opened,
-        Err(_) => opened(alloc, 4, 1, 0, 9)?,
-    };
+    let (_live, mut hands) = opened(alloc, 4, 1, 0, 9).or_else(|_| opened(alloc, 4, 1, 0, 9))?;
     let Some(mut hand) = hands.pop() else {
         return Err(OpenError::OutOfMemory);
     };
@@ -224,10 +210,7 @@ fn refused_lists_of_a_look_lose_nothing(rt: HostRuntime) -> Result<(), OpenError
     let again = look.ask(AllMembers(alloc));
     equal(&rt, size(&mut look), 2);
     look.done();
-    let list = match first {
-        Ok(list) => list,
-        Err(_) => again.map_err(|_| OpenError::OutOfMemory)?,
-    };
+    let list = first.or(again).map_err(|_| OpenError::OutOfMemory)?;
     equal(&rt, list.as_slice(), [(3, 3), (4, 4)].as_slice());
     Ok(())
 }

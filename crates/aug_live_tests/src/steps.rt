@@ -3,12 +3,11 @@
 use super::own::Band;
 use crate::assertions::equal;
 use aug_live::OpenError;
-use aug_live_testing::acting::{User, done, give_up, next_user};
-use aug_live_testing::opening::{HandleOf, LiveOf, opened};
+use aug_live_testing::acting::{Then, User, done, give_up, next_user};
+use aug_live_testing::opening::{HandleOf, Host, LiveOf, opened};
 use aug_trie_testing::rows::{Act, Line, Reply};
 use std::alloc::Global;
 use std::process::Abort;
-use std::sync::Wait;
 
 /// A trie that is not closed, and two of its users.
 pub(super) struct State {
@@ -41,16 +40,9 @@ fn begun(alloc: Global, state: State, numbers: (u32, u32, u32, u32)) -> Result<S
 }
 
 /// What a user does, and the query of the tests' own.
-fn acted<R: Wait>(
-    rt: &R,
-    alloc: Global,
-    live: Option<LiveOf>,
-    user: User,
-    waits: bool,
-    act: Act,
-) -> (Option<LiveOf>, User, Reply) {
+fn acted<R: Host>(rt: &R, live: Option<LiveOf>, user: User, waits: bool, act: Act) -> Then {
     let Act::Band(level, band) = act else {
-        return done(rt, alloc, live, user, waits, act);
+        return done(rt, live, user, waits, act);
     };
     match user {
         User::Looks(mut look) => {
@@ -62,28 +54,20 @@ fn acted<R: Wait>(
 }
 
 /// What a line comes to, and what it should come to. Handles count nothing, so that it is passed over what passes count.
-fn step<R: Wait>(
-    rt: &R,
-    alloc: Global,
-    state: State,
-    waits: bool,
-    line: Line,
-) -> (State, Reply, Reply) {
+fn step<R: Host>(rt: &R, state: State, waits: bool, line: Line) -> (State, Reply, Reply) {
     let State { live, a, b } = state;
     match line {
-        Line::A(Act::Counts, _) | Line::End(_, _) => (
-            State { live, a, b },
-            Reply::Done,
-            Reply::Done,
-        ),
+        Line::A(Act::Counts, _) | Line::End(_, _) => {
+            (State { live, a, b }, Reply::Done, Reply::Done)
+        }
         Line::A(act, expected) | Line::TryA(act, expected) => {
             let waits = waits && matches!(line, Line::A(_, _));
-            let (live, a, reply) = acted(rt, alloc, live, a, waits, act);
+            let (live, a, reply) = acted(rt, live, a, waits, act);
             (State { live, a, b }, reply, expected)
         }
         Line::B(act, expected) | Line::TryB(act, expected) => {
             let waits = waits && matches!(line, Line::B(_, _));
-            let (live, b, reply) = acted(rt, alloc, live, b, waits, act);
+            let (live, b, reply) = acted(rt, live, b, waits, act);
             (State { live, a, b }, reply, expected)
         }
         _ => (State { live, a, b }, Reply::Not, Reply::Done),
@@ -92,9 +76,8 @@ fn step<R: Wait>(
 
 /// A table, by calls that wait or by those that wait for nobody, but for lines that say how, from a state on. A round of a pass is played by a handle over
 /// rounds of as many updates or of fewer.
-pub(super) fn rows<R: Wait + Abort>(
+pub(super) fn rows<R: Host + Abort>(
     rt: &R,
-    alloc: Global,
     state: State,
     waits: bool,
     most: u32,
@@ -108,13 +91,13 @@ pub(super) fn rows<R: Wait + Abort>(
                 state
             }
             Line::Live(bits, handles, spare, updates) => {
-                begun(alloc, state, (bits, handles, spare, updates))?
+                begun(rt.alloc(), state, (bits, handles, spare, updates))?
             }
             Line::Round(_, (bits, _, updates), _) => {
-                begun(alloc, state, (bits, 1, 0, updates.min(most)))?
+                begun(rt.alloc(), state, (bits, 1, 0, updates.min(most)))?
             }
             line => {
-                let (next, reply, expected) = step(rt, alloc, state, waits, line);
+                let (next, reply, expected) = step(rt, state, waits, line);
                 equal(rt, (shows, number, reply), (shows, number, expected));
                 next
             }
@@ -125,16 +108,15 @@ pub(super) fn rows<R: Wait + Abort>(
 }
 
 /// Tables of tries that they open.
-pub(super) fn tables<R: Wait + Abort>(
+pub(super) fn tables<R: Host + Abort>(
     rt: &R,
-    alloc: Global,
     waits: bool,
     most: u32,
     tables: &[&[Line]],
 ) -> Result<(), OpenError> {
     for table in tables {
         let (live, a, b) = (None, User::Gone, User::Gone);
-        rows(rt, alloc, State { live, a, b }, waits, most, table)?;
+        rows(rt, State { live, a, b }, waits, most, table)?;
     }
     Ok(())
 }

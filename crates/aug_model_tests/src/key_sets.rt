@@ -27,12 +27,8 @@ fn sizes(rt: &impl Abort, alloc: Global, bits: u32) -> Result<(u32, u32, u32), M
 #[test]
 fn refuses_bits_outside_one_to_sixteen(rt: HostRuntime) {
     for bits in 0..18 {
-        let bad = bits < 1 || bits > 16;
-        let expected = if bad {
-            Err(ModelError::BadBits)
-        } else {
-            Ok((bits, 0, 1))
-        };
+        let is_good = bits >= 1 && bits <= 16;
+        let expected = is_good.then_some((bits, 0, 1)).ok_or(ModelError::BadBits);
         equal(&rt, sizes(&rt, rt.alloc(), bits), expected);
     }
 }
@@ -80,11 +76,8 @@ fn refused_memory_spoils_no_other_set(rt: HostRuntime) -> Result<(), Fail> {
     let mut first = made(rt.alloc(), 4)?;
     holds(&rt, put(&rt, &mut first, 9));
     let second = made(rt.alloc(), 16)?;
-    equal(
-        &rt,
-        (first.size(), first.after(0), second.size()),
-        (1, Some(9), 0),
-    );
+    let found = (first.size(), first.after(0), second.size());
+    equal(&rt, found, (1, Some(9), 0));
     Ok(())
 }
 
@@ -157,11 +150,8 @@ fn assert_answers(rt: &impl Abort, set: &KeySet) {
 fn assert_ranges(rt: &impl Abort, set: &KeySet) {
     for (a, b, answer) in RANGES {
         let found: Summary<Sum, Extent> = set.range(*a, *b);
-        equal(
-            rt,
-            (found.count, found.a.value(), found.b.bounds()),
-            *answer,
-        );
+        let found = (found.count, found.a.value(), found.b.bounds());
+        equal(rt, found, *answer);
     }
 }
 

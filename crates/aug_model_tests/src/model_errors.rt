@@ -1,14 +1,11 @@
 //! What the errors of a plain set print.
 use crate::assertions::equal;
 use aug_model::ModelError;
+use aug_model::ModelError::{BadBits, OutOfMemory};
 
 const TEXTS: &[(ModelError, u8, &str)] = &[
-    (
-        ModelError::BadBits,
-        1,
-        "the number of bits is not from 1 to 16",
-    ),
-    (ModelError::OutOfMemory, 2, "out of memory"),
+    (BadBits, 1, "the number of bits is not from 1 to 16"),
+    (OutOfMemory, 2, "out of memory"),
 ];
 
 #[test]

@@ -1,6 +1,6 @@
 //! Assertions as calls. A test is proved like any function, and a call takes a sixth of the time that `assert_eq!` takes, which branches in the
 //! test itself. Each crate of tests has this file, since a library may not end the process; tests/sources compares them.
-ghost use Rattle.std.specs.Prelude.{◌≡◌, IsTrue};
+ghost use Rattle.std.specs.Prelude.{IsTrue};
 
 use std::fmt::{Debug, Display};
 use std::process::Abort;
@@ -20,23 +20,9 @@ pub(crate) fn equal_at<T: PartialEq + Debug + Drop>(
     assert_eq!(rt; found, expected, "{place}");
 }
 
-/// Ends the test unless a length is the expected one. What follows may rely on it.
-pub(crate) fn equal_length(rt: &impl Abort, found: usize, expected: usize)
-    ensures { found ≡ expected }
-{
-    assert_eq!(rt; found, expected);
-}
-
 /// Ends the test unless a condition holds. What follows may rely on it.
 pub(crate) fn holds(rt: &impl Abort, condition: bool)
     ensures { IsTrue condition }
 {
     assert!(rt; condition);
-}
-
-/// Ends the test unless a condition holds, and says where in a table or a loop that was.
-pub(crate) fn holds_at(rt: &impl Abort, condition: bool, place: impl Display + Drop)
-    ensures { IsTrue condition }
-{
-    assert!(rt; condition, "{place}");
 }

@@ -28,18 +28,9 @@ fn folds_have_the_words_of_the_table(rt: HostRuntime) {
     equal(&rt, words_of::<Sum>(), [0, 0, 14, 14, 2, 1]);
     equal(&rt, words_of::<Least>(), [UPPER, UPPER, 5, 5, 3, 1]);
     equal(&rt, words_of::<Greatest>(), [UPPER, UPPER, 9, 9, 3, 1]);
-    equal(
-        &rt,
-        words_of::<Extent>(),
-        [
-            UPPER,
-            UPPER,
-            21_474_836_489,
-            21_474_836_489,
-            17_179_869_183,
-            1,
-        ],
-    );
+    let (both, joined) = (21_474_836_489, 17_179_869_183);
+    let expected = [UPPER, UPPER, both, both, joined, 1];
+    equal(&rt, words_of::<Extent>(), expected);
     equal(&rt, words_of::<Nothing>(), [0, 0, 0, 0, 0, 1]);
     equal(&rt, words_of::<Last>(), [UPPER, UPPER, 9, 5, 3, 1]);
 }

@@ -79,35 +79,6 @@ fn spanned(tree: &mut Small, a: u32, b: u32) -> Spanned {
     (found.count, found.a.value(), found.b.bounds())
 }
 
-// The ranks of keys, behind the numbers that stand first.
-fn ranks_of(
-    rt: &impl Host,
-    tree: &mut Small,
-    first: &[u32],
-    keys: &[u32],
-) -> Result<Vec<u32>, AllocError> {
-    let mut out = Vec::with_capacity(rt.alloc(), first.len() + keys.len())?;
-    out.extend_from_slice(first)?;
-    holds(rt, out.len() + keys.len() <= out.capacity());
-    Ok(ask_tree(tree, Ranks { keys, out }))
-}
-
-// Whether each of some keys is a member.
-fn memberships_of(alloc: Global, tree: &mut Small, keys: &[u32]) -> Result<Vec<bool>, AllocError> {
-    let out = Vec::with_capacity(alloc, keys.len())?;
-    Ok(ask_tree(tree, Memberships { keys, out }))
-}
-
-// The weight of each of some keys.
-fn weights_of(
-    alloc: Global,
-    tree: &mut Small,
-    keys: &[u32],
-) -> Result<Vec<Option<u32>>, AllocError> {
-    let out = Vec::with_capacity(alloc, keys.len())?;
-    Ok(ask_tree(tree, Weights { keys, out }))
-}
-
 // A call, with what it is to answer.
 #[derive(Clone, Copy)]
 pub(super) enum Step<'a> {
@@ -135,16 +106,30 @@ pub(super) fn take(rt: &impl Host, tree: &mut Small, step: &Step<'_>) -> Result<
             equal(rt, found.as_slice(), *expected);
         }
         Step::Ranks(first, keys, expected) => {
-            let found = ranks_of(rt, tree, first, keys)?;
-            equal(rt, found.as_slice(), *expected);
+            let mut out = Vec::with_capacity(rt.alloc(), first.len() + keys.len())?;
+            out.extend_from_slice(first)?;
+            holds(rt, out.len() + keys.len() <= out.capacity());
+            equal(
+                rt,
+                ask_tree(tree, Ranks { keys, out }).as_slice(),
+                *expected,
+            );
         }
         Step::Memberships(keys, expected) => {
-            let found = memberships_of(rt.alloc(), tree, keys)?;
-            equal(rt, found.as_slice(), *expected);
+            let out = Vec::with_capacity(rt.alloc(), keys.len())?;
+            equal(
+                rt,
+                ask_tree(tree, Memberships { keys, out }).as_slice(),
+                *expected,
+            );
         }
         Step::Weights(keys, expected) => {
-            let found = weights_of(rt.alloc(), tree, keys)?;
-            equal(rt, found.as_slice(), *expected);
+            let out = Vec::with_capacity(rt.alloc(), keys.len())?;
+            equal(
+                rt,
+                ask_tree(tree, Weights { keys, out }).as_slice(),
+                *expected,
+            );
         }
     }
     Ok(())

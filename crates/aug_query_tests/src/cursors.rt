@@ -5,42 +5,24 @@ ghost use Rattle.aug_query.specs.inside.Paths.{IsCursor};
 use super::agreeing::tree_of;
 use super::asking::pairs_of;
 use crate::assertions::equal;
-use aug_model::{KeySet, ModelError};
 use aug_monoid::{Monoid, Sum};
 use aug_query::descent::Cursor;
 use aug_query::{Descend, FakeTree, Loaded, NodeWalk, rank};
 use aug_testing::{Host, Last};
-use std::alloc::Global;
+use std::alloc::AllocError;
 use std::marker::PhantomData;
-use std::test::Fail;
-
-// The set of the keys whose bits `mask` has. No key weighs itself.
-pub(super) fn set_of_mask(alloc: Global, width: u32, mask: u32) -> Result<KeySet, ModelError> {
-    let mut set = KeySet::try_new(alloc, width)?;
-    let bits = set.bits();
-    for k in 0..1u32 << bits {
-        if k < 32 && (mask >> k) % 2 == 1 {
-            set.put(k, u32::MAX - k);
-        }
-    }
-    Ok(set)
-}
 
 // What stands at a gap of a list, on the way on or back, and the gap behind it.
 fn passes(list: &[(u32, u32)], gap: usize, on: bool) -> (usize, Option<(u32, u32)>)
     requires { gap ≤ length list.now }
     ensures { result.0 ≤ length list.now }
 {
-    if on {
-        if gap == list.len() {
-            return (gap, None);
-        }
-        return (gap + 1, Some(list[gap]));
+    match (on, gap) {
+        (true, gap) if gap == list.len() => (gap, None),
+        (true, gap) => (gap + 1, Some(list[gap])),
+        (false, 0) => (0, None),
+        (false, gap) => (gap - 1, Some(list[gap - 1])),
     }
-    if gap == 0 {
-        return (0, None);
-    }
-    (gap - 1, Some(list[gap - 1]))
 }
 
 // Moves a cursor on or back.
@@ -111,9 +93,8 @@ const WAYS: &[u32] = &[
 ];
 
 // All these ways over one set.
-fn goes_over(rt: &impl Host, bits: u32, mask: u32) -> Result<(), Fail> {
-    let set = set_of_mask(rt.alloc(), bits, mask)?;
-    let mut tree = tree_of(rt.alloc(), &set)?;
+fn goes_over(rt: &impl Host, bits: u32, mask: u32) -> Result<(), AllocError> {
+    let mut tree = tree_of(rt, bits, 0, mask)?;
     let list = pairs_of(rt.alloc(), &mut tree)?;
     for from in 0..10 {
         for ways in WAYS {
@@ -124,7 +105,9 @@ fn goes_over(rt: &impl Host, bits: u32, mask: u32) -> Result<(), Fail> {
 }
 
 #[test]
-fn a_cursor_passes_each_member_of_each_set_of_three_bits(rt: HostRuntime) -> Result<(), Fail> {
+fn a_cursor_passes_each_member_of_each_set_of_three_bits(
+    rt: HostRuntime,
+) -> Result<(), AllocError> {
     for mask in 0..256 {
         goes_over(&rt, 3, mask)?;
         goes_over(&rt, 1 + mask % 2, mask % 16)?;
@@ -133,7 +116,7 @@ fn a_cursor_passes_each_member_of_each_set_of_three_bits(rt: HostRuntime) -> Res
 }
 
 #[test]
-fn a_cursor_passes_sparse_members_of_many_bits(rt: HostRuntime) -> Result<(), Fail> {
+fn a_cursor_passes_sparse_members_of_many_bits(rt: HostRuntime) -> Result<(), AllocError> {
     for bits in 5..=16 {
         goes_over(&rt, bits, 0x8000_0101)?;
     }

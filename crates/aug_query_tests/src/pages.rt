@@ -1,15 +1,13 @@
 //! Pages against the list of a tree's members, both ways: over each set of up to three bits, from each key on and past the last; over sparse
 //! sets; and over more members than a page has.
-use super::agreeing::{set_of, tree_of};
+use super::agreeing::tree_of;
 use super::asking::pairs_of;
-use super::cursors::set_of_mask;
 use crate::assertions::equal;
-use aug_model::KeySet;
 use aug_monoid::Sum;
 use aug_query::descent::{MembersBelow, MembersFrom};
 use aug_query::{FakeTree, ask};
 use aug_testing::{Host, Last};
-use std::test::Fail;
+use std::alloc::AllocError;
 
 // The member that stands at a place of a page.
 fn expected(list: &[(u32, u32)], below: usize, place: usize, falling: bool) -> Option<(u32, u32)> {
@@ -43,9 +41,15 @@ fn both_agree(rt: &impl Host, tree: &mut FakeTree<Last, Sum>, list: &[(u32, u32)
     agrees(rt, page.as_slice(), list, key, true);
 }
 
-// Those at each key below `end`, and at the greatest numbers.
-fn agree_over(rt: &impl Host, set: &KeySet, end: u32) -> Result<(), Fail> {
-    let mut tree = tree_of(rt.alloc(), set)?;
+// Those of such a tree at each key below `end`, and at the greatest numbers.
+fn agree_over(
+    rt: &impl Host,
+    bits: u32,
+    members: u32,
+    mask: u32,
+    end: u32,
+) -> Result<(), AllocError> {
+    let mut tree = tree_of(rt, bits, members, mask)?;
     let list = pairs_of(rt.alloc(), &mut tree)?;
     for key in 0..end {
         both_agree(rt, &mut tree, &list, key);
@@ -57,29 +61,26 @@ fn agree_over(rt: &impl Host, set: &KeySet, end: u32) -> Result<(), Fail> {
 }
 
 #[test]
-fn pages_have_the_members_of_each_set_of_three_bits(rt: HostRuntime) -> Result<(), Fail> {
+fn pages_have_the_members_of_each_set_of_three_bits(rt: HostRuntime) -> Result<(), AllocError> {
     for mask in 0..256 {
-        let set = set_of_mask(rt.alloc(), 3, mask)?;
-        agree_over(&rt, &set, 10)?;
-        let set = set_of_mask(rt.alloc(), 1 + mask % 2, mask % 16)?;
-        agree_over(&rt, &set, 5)?;
+        agree_over(&rt, 3, 0, mask, 10)?;
+        agree_over(&rt, 1 + mask % 2, 0, mask % 16, 5)?;
     }
     Ok(())
 }
 
 #[test]
-fn pages_have_sparse_members_of_many_bits(rt: HostRuntime) -> Result<(), Fail> {
+fn pages_have_sparse_members_of_many_bits(rt: HostRuntime) -> Result<(), AllocError> {
     for bits in 5..=16 {
-        let set = set_of_mask(rt.alloc(), bits, 0x8000_0101)?;
-        agree_over(&rt, &set, 34)?;
+        agree_over(&rt, bits, 0, 0x8000_0101, 34)?;
     }
     Ok(())
 }
 
 #[test]
-fn pages_have_no_more_members_than_their_places(rt: HostRuntime) -> Result<(), Fail> {
+fn pages_have_no_more_members_than_their_places(rt: HostRuntime) -> Result<(), AllocError> {
     for members in [0, 31, 32, 33, 64, 65, 128, 256] {
-        agree_over(&rt, &set_of(rt.alloc(), 8, members)?, 260)?;
+        agree_over(&rt, 8, members, 0, 260)?;
     }
     Ok(())
 }

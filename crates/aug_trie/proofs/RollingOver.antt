@@ -11,10 +11,10 @@ use Rattle.aug_core.specs.Kinds.{load_node}
 use Rattle.aug_core.specs.Prefixes.{IsPrefix}
 use Rattle.aug_core.specs.Effects.{LoadsNode, opening_of}
 use Rattle.aug_core.specs.declared.view.PastEra.{PastEra}
-use Rattle.aug_core.specs.Eras.{opening_with}
+use Rattle.aug_core.specs.Eras.{opening_with, table_part}
 use Rattle.aug_core.specs.Layout.{IsLayout}
 use Rattle.aug_core.specs.Opening.{Opening}
-use Rattle.aug_core.specs.Places.{Shape}
+use Rattle.aug_core.specs.Places.{Shape, word_count}
 use Rattle.aug_core.specs.Renewals.{EndWith, reopening}
 use Rattle.aug_core.specs.declared.view.SeatView.{SeatView}
 use Rattle.aug_core.proofs.Openings.{opener}
@@ -43,18 +43,18 @@ use Rattle.aug_trie.specs.Tallies.{Tallies, TalliesWithLost}
 use Rattle.aug_core.proofs.PrefixLemmas.{prefix_refl, prefix_trans}
 use Rattle.aug_core.specs.declared.view.Change.{Change}
 
-module _ (face : ℕ → ℕ → List (ℕ × ℕ) → List ℕ) (store : Store) (lead : Known) (before : SeatView) (list : List (ℕ × ℕ)) (together : AreTogether store lead) (opened : lead.view ≡ reopening face list before)
+module _ (face : ℕ → ℕ → List (ℕ × ℕ) → List ℕ) (store : Store) (lead : Known) (before : SeatView) (base : ℕ) (list : List (ℕ × ℕ)) (together : AreTogether store lead) (opened : lead.view ≡ reopening face list base before)
     (laid_out : IsLayout store.shape) (set : IsKeySet store.shape.bits (keys_of list)) (fit : All FitsPair list) (few : length list ≤ store.shape.members) where
   abbrev o : Opening
   o = opening_with store.shape list
 
   -- its lead knows what that of a table knows which was just opened
-  opener_is : lead.view ≡ opener face o before.past before.era before.words
+  opener_is : lead.view ≡ opener face o before.past before.era base (table_part base (word_count store.shape) before.whole) before.whole
   opener_is = let shape : before.shape ≡ store.shape = sym (ap (λ (z : SeatView). z.shape) opened) ∙ together.one_shape in
-      opened ∙ ap (λ (z : Shape). opener face (opening_with z list) before.past before.era before.words) shape
+      opened ∙ ap (λ (z : Shape). opener face (opening_with z list) before.past before.era base (table_part base (word_count z) before.whole) before.whole) shape
 
   pub next_crew : HoldsCrew face lead.view 0 0 0
-  next_crew = subst (λ (z : SeatView). HoldsCrew face z 0 0 0) (sym opener_is) (begins_crew face o laid_out set fit few before.past before.era before.words)
+  next_crew = subst (λ (z : SeatView). HoldsCrew face z 0 0 0) (sym opener_is) (begins_crew face o laid_out set fit few before.past before.era base (table_part base (word_count store.shape) before.whole) before.whole)
 
   -- the round is of its table, and opens with the list
   pub next_round : (now : RoundFacts) → lead.view.era ≡ now.era + 1 → table_of now ≡ facts_of store → round_of lead.table lead.view ≡ record now { era = now.era + 1; members = list }

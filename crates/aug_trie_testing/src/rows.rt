@@ -256,58 +256,30 @@ pub fn told_changes(page: &[Difference]) -> Reply {
     Reply::Changed(page.len(), first, second, page.last().map(differs))
 }
 
-/// What an act comes to that asks one query, by an expression that asks it. A list is requested again if memory was refused.
+/// What an act comes to that asks one query, by a call that takes the query behind what it takes else. A list is requested again if memory was refused.
 #[macro_export]
 macro_rules! asked {
-    ($act:expr, $alloc:expr, $query:ident => $answer:expr) => {
+    ($act:expr, $alloc:expr, $($ask:ident).+($($of:expr,)*)) => {
         match $act {
-            Act::Size => {
-                let $query = Size;
-                Reply::Number($answer)
-            }
-            Act::Has(k) => {
-                let $query = Has(k);
-                Reply::Is($answer)
-            }
-            Act::Weight(k) => {
-                let $query = Weight(k);
-                Reply::Finds($answer)
-            }
-            Act::Rank(k) => {
-                let $query = Rank(k);
-                Reply::Number($answer)
-            }
-            Act::Select(i) => {
-                let $query = Select(i);
-                Reply::Finds($answer)
-            }
-            Act::Before(k) => {
-                let $query = Before(k);
-                Reply::Finds($answer)
-            }
-            Act::After(k) => {
-                let $query = After(k);
-                Reply::Finds($answer)
-            }
-            Act::Range(from, to) => {
-                let $query = Range(from, to);
-                folded($answer)
-            }
+            Act::Size => Reply::Number($($ask).+($($of,)* Size)),
+            Act::Has(k) => Reply::Is($($ask).+($($of,)* Has(k))),
+            Act::Weight(k) => Reply::Finds($($ask).+($($of,)* Weight(k))),
+            Act::Rank(k) => Reply::Number($($ask).+($($of,)* Rank(k))),
+            Act::Select(i) => Reply::Finds($($ask).+($($of,)* Select(i))),
+            Act::Before(k) => Reply::Finds($($ask).+($($of,)* Before(k))),
+            Act::After(k) => Reply::Finds($($ask).+($($of,)* After(k))),
+            Act::Range(from, to) => folded($($ask).+($($of,)* Range(from, to))),
             Act::Keys => {
-                let $query = Keys($alloc);
-                let mut listed = $answer;
+                let mut listed = $($ask).+($($of,)* Keys($alloc));
                 if listed.is_err() {
-                    let $query = Keys($alloc);
-                    listed = $answer;
+                    listed = $($ask).+($($of,)* Keys($alloc));
                 }
                 listed.map_or(Reply::NoMemory, |list| told_keys(&list))
             }
             Act::Pairs => {
-                let $query = Pairs($alloc);
-                let mut listed = $answer;
+                let mut listed = $($ask).+($($of,)* Pairs($alloc));
                 if listed.is_err() {
-                    let $query = Pairs($alloc);
-                    listed = $answer;
+                    listed = $($ask).+($($of,)* Pairs($alloc));
                 }
                 listed.map_or(Reply::NoMemory, |list| told_pairs(&list))
             }

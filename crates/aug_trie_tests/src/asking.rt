@@ -34,7 +34,7 @@ fn look(pass: &mut Pass<Sum, Extent>, alloc: Global, act: Act) -> Reply
     ensures { pass.new.round ≡ pass.old.round }
 {
     let snapshot = pass.snapshot();
-    asked!(act, alloc, query => pass.ask(snapshot, query))
+    asked!(act, alloc, pass.ask(snapshot,))
 }
 
 // What a pass looks at.

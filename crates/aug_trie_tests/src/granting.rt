@@ -8,7 +8,8 @@ use aug_trie::{BeginError, Ended};
 use aug_trie_testing::rows::Act::{Bits, Fill};
 use aug_trie_testing::rows::Line::{A, End, Rest, Round};
 use aug_trie_testing::rows::Reply::Number;
-use aug_trie_testing::rows::{Line, Numbers, Way};
+use aug_trie_testing::rows::Way::{Begin, OverList, Wider};
+use aug_trie_testing::rows::{Line, Numbers};
 use aug_trie_testing::sweeps::{EACH, Sweep, UPDATES, sizes};
 
 // These lines over a trie: the trie after them.
@@ -26,37 +27,20 @@ fn is_within(numbers: Numbers, most: u64) -> bool {
     }
 }
 
-// Rounds of one number of updates, behind so many others: the trie after them, and how many there were. The three calls take turns.
-fn swept(
-    rt: &impl Host,
-    ended: Trie,
-    it: &Sweep,
-    bits: u32,
-    updates: u32,
-    before: u32,
-) -> Result<(Trie, u32), BeginError> {
-    let (mut ended, mut rounds) = (ended, before);
-    for workers in it.1 {
-        let numbers = (bits, *workers, updates);
-        if is_within(numbers, it.3) {
-            let way = match rounds.saturating_add(bits) % 3 {
-                0 => Way::Begin,
-                1 => Way::Wider,
-                _ => Way::OverList,
-            };
-            ended = goes_on(rt, ended, &[Round(way, numbers, 0)])?;
-            rounds = rounds.saturating_add(1);
-        }
-    }
-    Ok((ended, rounds))
-}
-
-// How many rounds of a row begin with one number of bits.
+// How many rounds of a row begin with one number of bits. The three calls take turns.
 fn rounds(rt: &impl Host, it: &Sweep, bits: u32) -> Result<u32, BeginError> {
     let mut ended = grown(rt, Ended::empty(rt.alloc(), bits)?, bits, 2)?;
     let mut rounds = 0u32;
     for updates in it.2 {
-        (ended, rounds) = swept(rt, ended, it, bits, *updates, rounds)?;
+        for workers in it.1 {
+            let numbers = (bits, *workers, *updates);
+            if is_within(numbers, it.3) {
+                let ways = [Begin, Wider, OverList];
+                let way = ways[(rounds.saturating_add(bits) % 3) as usize];
+                ended = goes_on(rt, ended, &[Round(way, numbers, 0)])?;
+                rounds = rounds.saturating_add(1);
+            }
+        }
     }
     equal(rt, (ended.bits(), ended.size()), (bits, 2));
     Ok(rounds)
@@ -118,10 +102,10 @@ fn grown(rt: &impl Host, ended: Trie, bits: u32, members: u32) -> Result<Trie, B
     let from = ended.size();
     let more = members.saturating_sub(from);
     let lines = [
-        Round(Way::Wider, (bits, 1, more.max(1)), 1),
+        Round(Wider, (bits, 1, more.max(1)), 1),
         A(Fill(from, more), Number(more)),
-        Round(Way::Begin, (bits, 1, 1), 0),
-        Round(Way::OverList, (bits, 1, 1), 0),
+        Round(Begin, (bits, 1, 1), 0),
+        Round(OverList, (bits, 1, 1), 0),
         Rest(Bits, Number(bits)),
         End(members, (0, 0, 0)),
     ];
@@ -150,9 +134,9 @@ fn no_round_is_refused_for_its_members(rt: HostRuntime) -> Result<(), BeginError
 // A trie of `bits` bits with so many members goes on to rounds of each number of bits by both calls.
 fn widens(rt: &impl Host, members: u32, bits: u32) -> Result<(), BeginError> {
     for more in bits..=16 {
-        for (workers, way) in [(1, Way::Wider), (2, Way::OverList)] {
+        for (workers, way) in [(1, Wider), (2, OverList)] {
             let lines = [
-                Round(Way::Begin, (bits, 1, 128), 1),
+                Round(Begin, (bits, 1, 128), 1),
                 A(Fill(0, members), Number(members)),
                 Round(way, (more, workers, 1), 0),
                 Rest(Bits, Number(more)),

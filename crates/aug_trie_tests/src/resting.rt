@@ -30,7 +30,7 @@ fn answer(alloc: Global, ended: &mut Trie, act: Act) -> Reply {
         Act::Universe => Reply::Number(ended.universe()),
         Act::Counts => Reply::Counted(ended.inserts(), ended.removals(), ended.missing()),
         Act::Top => top(ended),
-        _ => asked!(act, alloc, query => ask(ended, query)),
+        _ => asked!(act, alloc, ask(ended,)),
     }
 }
 

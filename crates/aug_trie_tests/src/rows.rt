@@ -40,10 +40,7 @@ fn begun_over(
         return Err(refused.1);
     }
     lists(rt, &refused.0, shows, asked);
-    match tried_over(rt, refused.0, numbers) {
-        Ok(stage) => Ok(stage),
-        Err((_, cause)) => Err(cause),
-    }
+    tried_over(rt, refused.0, numbers).map_err(|refused| refused.1)
 }
 
 // A round over a trie that answered these lines.
@@ -64,10 +61,7 @@ fn begun(
         Err(refused) => refused,
     };
     let ended = came_back(rt, refused, OutOfMemory, shows, asked)?;
-    match tried(rt, ended, way, numbers) {
-        Ok(stage) => Ok(stage),
-        Err((_, cause)) => Err(cause),
-    }
+    tried(rt, ended, way, numbers).map_err(|refused| refused.1)
 }
 
 // The empty set, if there is no trie.

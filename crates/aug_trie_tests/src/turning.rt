@@ -287,38 +287,26 @@ fn updates_by_turns_and_looks_come_to_what_they_meet(rt: HostRuntime) -> Result<
 // weighs before the change and after it, and the turn that leaves the change to be shown. The second turn exchanges the leaf's word. From it on the
 // change is shown if the other pass brings the node over both keys up to date with its children. It is shown from the eleventh on if only the pass
 // that is given up can bring that node up to date.
-type GivenUp = (&'static str, Change, u32, Option<u32>, Option<u32>, u32);
+type GivenUp = (&'static str, (Change, u32, Option<u32>, Option<u32>, u32));
 
 const GIVEN_UP: &[GivenUp] = &[
     (
         "an insertion below a node that its neighbour refreshes",
-        Insert(0),
-        1,
-        None,
-        Some(0),
-        2,
+        (Insert(0), 1, None, Some(0), 2),
     ),
     (
         "an insertion below a node that nobody else refreshes",
-        Insert(0),
-        2,
-        None,
-        Some(0),
-        11,
+        (Insert(0), 2, None, Some(0), 11),
     ),
     (
         "a replacement leaves one weight or the other",
-        Put(0, 8),
-        1,
-        Some(0),
-        Some(8),
-        2,
+        (Put(0, 8), 1, Some(0), Some(8), 2),
     ),
 ];
 
 // The rest of the round shows the change or does not, and in the next round 0 goes in if it is not there.
 fn given_up(rt: &impl Host, row: &GivenUp, turned: u32) -> Result<(), BeginError> {
-    let (shows, change, other, before, after, shown_from) = *row;
+    let (shows, (change, other, before, after, shown_from)) = *row;
     let weight = if turned < shown_from { before } else { after };
     let members = if weight.is_some() { 2 } else { 1 };
     let first = if before.is_some() {

@@ -8,7 +8,7 @@ use aug_trie_testing::rows::Change::*;
 use aug_trie_testing::rows::Line::*;
 use aug_trie_testing::rows::Reply::*;
 use aug_trie_testing::rows::Way::*;
-use aug_trie_testing::rows::{Change, Line};
+use aug_trie_testing::rows::{Change, Differs, Line};
 use aug_trie_testing::updates::{AMOUNTS, POPS, PUTS, TOLD};
 
 const OF_TWO: &[Line] = &[
@@ -114,41 +114,50 @@ const FIRST: &[Change] = &[Put(3, 30), Put(5, 50), Put(9, 90)];
 
 const THEN: &[Change] = &[Remove(5), Put(3, 31), Put(12, 120), Remove(9), Put(9, 90)];
 
+// Changes of keys: what they weigh before and behind them.
+const CAME_5: Option<Differs> = Some((5, None, Some(50)));
+
+const CAME_9: Option<Differs> = Some((9, None, Some(90)));
+
+const GREW_3: Option<Differs> = Some((3, Some(30), Some(31)));
+
+const WENT_5: Option<Differs> = Some((5, Some(50), None));
+
+const CAME_12: Option<Differs> = Some((12, None, Some(120)));
+
+const CAME_15: Option<Differs> = Some((15, None, Some(1)));
+
+const WENT_0: Option<Differs> = Some((0, Some(0), None));
+
+const CAME_7: Option<Differs> = Some((7, None, Some(0)));
+
+const FELL_15: Option<Differs> = Some((15, Some(1), Some(0)));
+
+const CAME_20: Option<Differs> = Some((20, None, Some(20)));
+
+const CAME_21: Option<Differs> = Some((21, None, Some(21)));
+
+const CAME_51: Option<Differs> = Some((51, None, Some(51)));
+
+const CAME_52: Option<Differs> = Some((52, None, Some(52)));
+
+const CAME_53: Option<Differs> = Some((53, None, Some(53)));
+
+const CAME_59: Option<Differs> = Some((59, None, Some(59)));
+
+const WENT_59: Option<Differs> = Some((59, Some(59), None));
+
 const CHANGES: &[Line] = &[
     // 9 went and came back with its weight.
     Row("a key that went and came back with its weight has not changed"),
     Round(Begin, (4, 1, 8), 1),
-    A(
-        Since(FIRST, 4),
-        Changed(
-            2,
-            Some((5, None, Some(50))),
-            Some((9, None, Some(90))),
-            Some((9, None, Some(90))),
-        ),
-    ),
-    A(
-        Since(THEN, 0),
-        Changed(
-            3,
-            Some((3, Some(30), Some(31))),
-            Some((5, Some(50), None)),
-            Some((12, None, Some(120))),
-        ),
-    ),
+    A(Since(FIRST, 4), Changed(2, CAME_5, CAME_9, CAME_9)),
+    A(Since(THEN, 0), Changed(3, GREW_3, WENT_5, CAME_12)),
     A(Since(&[], 0), Changed(0, None, None, None)),
     Row("a page begins with its key"),
     Round(Begin, (4, 1, 8), 1),
     A(Since(FIRST, 13), Changed(0, None, None, None)),
-    A(
-        Since(THEN, 5),
-        Changed(
-            2,
-            Some((5, Some(50), None)),
-            Some((12, None, Some(120))),
-            Some((12, None, Some(120))),
-        ),
-    ),
+    A(Since(THEN, 5), Changed(2, WENT_5, CAME_12, CAME_12)),
     Row("a page begins behind a change"),
     Round(Begin, (4, 1, 8), 1),
     A(Since(FIRST, u32::MAX), Changed(0, None, None, None)),
@@ -157,54 +166,29 @@ const CHANGES: &[Line] = &[
     Round(Begin, (4, 1, 8), 1),
     A(
         Since(&[Put(0, 0), Put(15, 1)], 1),
-        Changed(
-            1,
-            Some((15, None, Some(1))),
-            None,
-            Some((15, None, Some(1))),
-        ),
+        Changed(1, CAME_15, None, CAME_15),
     ),
     A(
         Since(&[Remove(0), Put(15, 0), Put(7, 0)], 0),
-        Changed(
-            3,
-            Some((0, Some(0), None)),
-            Some((7, None, Some(0))),
-            Some((15, Some(1), Some(0))),
-        ),
+        Changed(3, WENT_0, CAME_7, FELL_15),
     ),
     Row("a page has 32 changes at most"),
     Round(Begin, (6, 1, 40), 1),
     A(
         Grown((20, 60), 0, true),
-        Changed(
-            32,
-            Some((20, None, Some(20))),
-            Some((21, None, Some(21))),
-            Some((51, None, Some(51))),
-        ),
+        Changed(32, CAME_20, CAME_21, CAME_51),
     ),
     Row("the next page begins behind the last change"),
     Round(Begin, (6, 1, 40), 1),
     A(
         Grown((20, 60), 52, true),
-        Changed(
-            8,
-            Some((52, None, Some(52))),
-            Some((53, None, Some(53))),
-            Some((59, None, Some(59))),
-        ),
+        Changed(8, CAME_52, CAME_53, CAME_59),
     ),
     Row("changes go back"),
     Round(Begin, (6, 1, 40), 1),
     A(
         Grown((20, 60), 59, false),
-        Changed(
-            1,
-            Some((59, Some(59), None)),
-            None,
-            Some((59, Some(59), None)),
-        ),
+        Changed(1, WENT_59, None, WENT_59),
     ),
 ];
 

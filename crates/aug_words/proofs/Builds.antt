@@ -1,7 +1,7 @@
 -- The words of a table are filled node by node.
 use Rattle.std.proofs.Common.{true, false, ◌≡◌, ℕ, zero, suc, ◌+◌, ◌-◌, ◌*◌, ◌%◌, ◌^◌, ◌<◌, ◌≤◌, ◌≢◌, ◌⊎◌, inl, inr, max, Bool, ◌||◌, eqb, eq-eqb, ne_eqb, leb, le-leb, le-ltb, lt-ltb, if◌then◌else◌, List, [], ◌∷◌, ◌++◌, length, get_or, set, take, All, refl, sym, ap, ◌∙◌, subst, ⊎_elim, arith, length-set, length-append, get_or-set_other, get_or-set_same}
 use Rattle.std.proofs.lemmas.Bool.{cases_eq, cases_lt, lt-leb}
-use Rattle.std.proofs.lemmas.List.{take_all, take_more, get_or_read}
+use Rattle.std.proofs.lemmas.List.{take_all, take_more, get_or_past, get_or_read}
 use Rattle.std.proofs.lemmas.List.Elements.{All-filter, All-contains}
 use Rattle.std.proofs.lemmas.List.Folds.{list_any_at, list_any-append}
 use Rattle.std.specs.List.Sorted.{IsStrictlyIncreasing}
@@ -27,7 +27,7 @@ use Rattle.aug_core.proofs.Sizes.{twice, own_more}
 use Rattle.aug_core.proofs.Levels.{level_rises, room_above, above, inner_word, left_word, right_word}
 use Rattle.aug_core.proofs.Below.{owns_some, owns_none, own_room, own_rises, number_own, number_shared, number_low, number_below, number_is, pairs_are, below_both, true_or_false, pairs_over, pairs_of_leaf, number_of_leaf}
 use Rattle.aug_core.specs.Rule.{newcomer}
-use Rattle.aug_core.specs.Eras.{Ruled}
+use Rattle.aug_core.specs.Eras.{Ruled, table_part}
 use Rattle.aug_core.specs.Renewals.{IsOpened}
 use Rattle.atomic_table.specs.Table.{opening}
 use Rattle.aug_core.proofs.Renewals.{first_opening}
@@ -434,5 +434,8 @@ built_is_opened face o words set fit few built = record {
 
 -- and the rule holds of them, where the records of the lanes are blank
 pub built_opens : (face : ℕ → ℕ → List (ℕ × ℕ) → List ℕ) (o : Opening) (words : List ℕ) → IsKeySet o.shape.bits (keys_of o.members) → All FitsPair o.members → length (keys_of o.members) ≤ o.shape.members
-    → IsBuilt face o o.shape.bits (place_count o.shape) words → Ruled face o.shape (opening words [] (newcomer face o))
-built_opens face o words set fit few built = first_opening face o words (built_is_opened face o words set fit few built) (λ lane k low small. built.blocks lane k low small)
+    → IsBuilt face o o.shape.bits (place_count o.shape) words → Ruled face o.shape (opening words [] (newcomer face record { opening = o; words = length words }))
+built_opens face o words set fit few built =
+    let long = built.long in let all : table_part 0 (word_count o.shape) words ≡ words = take_all (word_count o.shape) words (omega arith) in
+    first_opening face o (length words) words refl (subst (IsOpened face o) (sym all) (built_is_opened face o words set fit few built))
+    (λ lane k low small. ap (λ (z : List ℕ). get_or z (block_start o.shape lane + k) 0) all ∙ built.blocks lane k low small) (λ i past. get_or_past words i 0 (omega arith))

@@ -3,8 +3,8 @@ use Rattle.std.proofs.Common.{◌≡◌, ℕ, zero, suc, ◌+◌, ◌-◌, ◌*�
 use Rattle.std.proofs.Math.Nat.{two-pow-succ, mul-add, min-eq_left}
 use Rattle.std.proofs.Math.Pow.{pow_mono}
 use Rattle.std.specs.List.Sorted.{IsStrictlyIncreasing}
-use Rattle.std.proofs.lemmas.List.{get_or_default}
-use Rattle.std.proofs.lemmas.Bool.{lt-leb, cases_lt, cases_order}
+use Rattle.std.proofs.lemmas.List.{get_or_default, set-get_or}
+use Rattle.std.proofs.lemmas.Bool.{lt-leb, cases_lt, cases_eq, cases_order}
 use Rattle.aug_model.specs.Keys.{IsKeySet, is_member, keys_of}
 use Rattle.aug_model.specs.NodeKeys.{first_key}
 use Rattle.aug_model.specs.Queries.{rank_of, weight_in}
@@ -22,14 +22,23 @@ use Rattle.aug_core.specs.Places.{Shape, lane_place, level_start, opening_count,
 use Rattle.aug_core.specs.Addresses.{place_count, root_place, IsInner, left_of, right_of, level_of, place_on}
 use Rattle.aug_core.specs.inside.WordPlaces.{IsWord}
 use Rattle.aug_core.specs.Opening.{Opening, has_room, opening_leaf_word, opening_number, opening_pairs, opening_words, shared_words}
-use Rattle.aug_core.specs.Renewals.{rewriting, IsOpened}
+use Rattle.aug_core.specs.Renewals.{rewriting, reread, rewrote, IsOpened}
 use Rattle.aug_core.specs.declared.view.SeatView.{SeatView}
 use Rattle.aug_core.proofs.Sizes.{twice, some_leaf, own_none, own_more}
 use Rattle.aug_core.proofs.Levels.{Above, above, on_level, root_word, room_above, leaf_level, leaf_word, level_inside, level_is, one_level}
 use Rattle.aug_core.proofs.Below.{true_or_false, own_is_place, owns_all, number_is, number_own, number_of_leaf, pairs_are, pairs_over}
-use Rattle.aug_words.specs.inside.Builds.{AreWords, IsReady}
-use Rattle.aug_words.specs.inside.SeatState.{IsStore}
-use Rattle.aug_words.specs.inside.Laying.{laid_pairs, own_number, InChunk, IsKept, FreesLanes, LaysNode, LaysOut}
+use Rattle.aug_words.specs.inside.Builds.{AreWords, WritesFive, IsReady}
+use Rattle.aug_words.specs.inside.SeatState.{IsStore, IsPlaced, IsIdleSeat}
+use Rattle.aug_words.specs.inside.Laying.{laid_pairs, own_number, InChunk, IsKept, FreesLanes, LaysNode, LaysOut, ChangesPart, PutsWord, MayLay, words_in}
+use Rattle.aug_core.specs.declared.opening.TableKey.{TableKey}
+use Rattle.aug_core.specs.declared.view.LaneState.TheVariants.{Free}
+use Rattle.aug_core.specs.Lanes.{word_of_state}
+use Rattle.aug_core.specs.Effects.{Sat}
+use Rattle.aug_core.specs.Eras.{table_part, Ruled}
+use Rattle.aug_core.proofs.Eras.{part_set, part_long, beside_set}
+use Rattle.aug_core.proofs.Renewals.{rereads, rewrites, looks_beside, lays}
+use Rattle.atomic_table.specs.Table.{step, Allows}
+use mathlib.Core.Option.{none}
 use Rattle.aug_words.proofs.Builds.{rises, pairs_fit, count_same, leaf_there, leaf_not}
 
 -- ---- the numbers of the nodes' own records
@@ -109,18 +118,17 @@ module _ (face : ℕ → ℕ → List (ℕ × ℕ) → List ℕ) (o : Opening) (
         ap (λ (z : ℕ). get_or new (record_start o.shape z + n) 0) number ∙ k.own_record n inner small ∙ ap (λ (z : ℕ). get_or old (record_start o.shape z + n) 0) (sym number) ∙ r.node past n small;
   }
 
-  pub leaf_laid : (key : ℕ) (v w : SeatView) → key < 2 ^ o.shape.bits → length v.words ≡ word_count o.shape → w ≡ rewriting v key (opening_leaf_word o.members key) → LaysOut face o (level_of o.shape key) (place_on o.shape key) v w
+  pub leaf_laid : (key : ℕ) (v w : List ℕ) → key < 2 ^ o.shape.bits → length v ≡ word_count o.shape → w ≡ set v key (opening_leaf_word o.members key) → LaysOut face o (level_of o.shape key) (place_on o.shape key) v w
   leaf_laid key v w low wide is =
       let t = twice o.shape.bits in let at = leaf_level o.shape key low in let top = level_is o.shape key 0 key at in let word : ℕ = opening_leaf_word o.members key in
-      let stays : (i : ℕ) → i ≢ key → get_or (set v.words key word) i 0 ≡ get_or v.words i 0 = λ i other. get_or-set_other v.words key i word 0 other in
-      let laid : LaysOut face o 0 key v (rewriting v key word) = record {
-        view_is = refl;
-        long = length-set v.words key word;
+      let stays : (i : ℕ) → i ≢ key → get_or (set v key word) i 0 ≡ get_or v i 0 = λ i other. get_or-set_other v key i word 0 other in
+      let laid : LaysOut face o 0 key v (set v key word) = record {
+        long = length-set v key word;
         laid = λ q c. let none : c.level ≡ 0 = (let under = c.low in omega arith) in let here = leaf_word o.shape c.place q (subst (λ (z : ℕ). IsWord o.shape z c.place q) none c.here) in let first = c.from_first in let last = c.to_last in let one : 0 - c.level ≡ 0 = omega (arith, none) in let e : 2 ^ (0 - c.level) ≡ 1 = ap (λ (z : ℕ). 2 ^ z) one in
-            let a = ap (λ (z : ℕ). key * z) e in let b = ap (λ (z : ℕ). (key + 1) * z) e in let same : q ≡ key = (let h = here.0 in omega arith) in subst (IsReady face o (set v.words key word)) (sym same) record {
+            let a = ap (λ (z : ℕ). key * z) e in let b = ap (λ (z : ℕ). (key + 1) * z) e in let same : q ≡ key = (let h = here.0 in omega arith) in subst (IsReady face o (set v key word)) (sym same) record {
               inside = omega arith;
-              long = length-set v.words key word ∙ wide;
-              word = get_or-set_same v.words key word 0 (omega arith) ∙ sym (number_of_leaf o key low);
+              long = length-set v key word ∙ wide;
+              word = get_or-set_same v key word 0 (omega arith) ∙ sym (number_of_leaf o key low);
               node = λ past. absurd (omega arith);
             };
         others = λ q inside out. record {
@@ -128,23 +136,23 @@ module _ (face : ℕ → ℕ → List (ℕ × ℕ) → List ℕ) (o : Opening) (
           own_record = λ k inner small. stays (record_start o.shape (own_number o.shape q) + k) (λ e. omega arith);
         };
         between = λ i past under. stays i (λ e. omega arith);
-      } in subst (λ (z : SeatView). LaysOut face o (level_of o.shape key) (place_on o.shape key) v z) (sym is) (subst (λ (z : ℕ × ℕ). LaysOut face o z.0 z.1 v (rewriting v key word)) (λ i. (sym top.0 i, sym top.1 i)) laid)
+      } in subst (λ (z : List ℕ). LaysOut face o (level_of o.shape key) (place_on o.shape key) v z) (sym is) (subst (λ (z : ℕ × ℕ). LaysOut face o z.0 z.1 v (set v key word)) (λ i. (sym top.0 i, sym top.1 i)) laid)
 
   -- a node's record and word are stored, and nothing else
-  module _ (q : ℕ) (inner : IsInner o.shape q) (five : List ℕ) (v w : SeatView) (n : LaysNode o.shape q five v w) (wide : length v.words ≡ word_count o.shape) where
+  module _ (q : ℕ) (inner : IsInner o.shape q) (five v w : List ℕ) (n : LaysNode o.shape q five v w) (wide : length v ≡ word_count o.shape) where
     abbrev number : ℕ
     number = own_number o.shape q
 
-    lies : (place_count o.shape ≤ record_start o.shape number) × (record_start o.shape number + record_words ≤ length v.words)
+    lies : (place_count o.shape ≤ record_start o.shape number) × (record_start o.shape number + record_words ≤ length v)
     lies = let low = own_low o.shape q room inner in (omega arith, omega arith)
 
-    words_are : w.words ≡ set n.mid q number
-    words_are = ap (λ (z : SeatView). z.words) n.view_is
+    words_are : w ≡ set n.mid q number
+    words_are = n.is
 
-    pub node_long : length w.words ≡ length v.words
+    pub node_long : length w ≡ length v
     node_long = ap length words_are ∙ length-set n.mid q number ∙ n.writes.long
 
-    pub node_ready : five ≡ opening_words face o q → IsReady face o w.words q
+    pub node_ready : five ≡ opening_words face o q → IsReady face o w q
     node_ready are = let l = lies in let l0 = l.0 in let inside = inner.inside in let long = n.writes.long in let t = twice o.shape.bits in let e = room_number o room q inner in subst (λ (z : List ℕ). IsReady face o z q) (sym words_are) record {
       inside = inner.inside;
       long = length-set n.mid q number ∙ n.writes.long ∙ wide;
@@ -152,20 +160,20 @@ module _ (face : ℕ → ℕ → List (ℕ × ℕ) → List ℕ) (o : Opening) (
       node = λ _ k small. ap (λ (z : ℕ). get_or (set n.mid q number) (record_start o.shape z + k) 0) e ∙ get_or-set_other n.mid q (record_start o.shape number + k) number 0 (λ same. omega arith) ∙ n.writes.written k small ∙ ap (λ (z : List ℕ). get_or z k 0) are;
     }
 
-    pub node_keeps : (r : ℕ) → r < place_count o.shape → r ≢ q → IsKept o.shape v.words w.words r
-    node_keeps r low other = let l = lies in let l0 = l.0 in let inside = inner.inside in let past = inner.past_leaves in subst (λ (z : List ℕ). IsKept o.shape v.words z r) (sym words_are) record {
+    pub node_keeps : (r : ℕ) → r < place_count o.shape → r ≢ q → IsKept o.shape v w r
+    node_keeps r low other = let l = lies in let l0 = l.0 in let inside = inner.inside in let past = inner.past_leaves in subst (λ (z : List ℕ). IsKept o.shape v z r) (sym words_are) record {
       word = get_or-set_other n.mid q r number 0 other ∙ n.writes.before r (omega arith);
       own_record = λ k inner' small. let past' = inner'.past_leaves in let m : ℕ = own_number o.shape r in get_or-set_other n.mid q (record_start o.shape m + k) number 0 (λ e. omega arith) ∙ ⊎_elim
           (λ (same : m ≡ number). absurd (other (omega arith)))
           (λ z. ⊎_elim (λ (lt : m < number). n.writes.before (record_start o.shape m + k) (omega arith)) (λ (gt : number < m). n.writes.behind (record_start o.shape m + k) (omega arith)) z) (cases_order m number);
     }
 
-    pub node_between : (i : ℕ) → place_count o.shape ≤ i → i < record_start o.shape o.shape.bits → get_or w.words i 0 ≡ get_or v.words i 0
+    pub node_between : (i : ℕ) → place_count o.shape ≤ i → i < record_start o.shape o.shape.bits → get_or w i 0 ≡ get_or v i 0
     node_between i past under = let inside = inner.inside in let past' = inner.past_leaves in
         ap (λ (z : List ℕ). get_or z i 0) words_are ∙ get_or-set_other n.mid q i number 0 (λ e. omega arith) ∙ n.writes.before i (omega arith)
 
   -- both children are laid out, and then the node
-  pub node_laid : (q : ℕ) (five : List ℕ) (v a b w : SeatView) → IsInner o.shape q → length v.words ≡ word_count o.shape
+  pub node_laid : (q : ℕ) (five v a b w : List ℕ) → IsInner o.shape q → length v ≡ word_count o.shape
       → LaysOut face o (level_of o.shape (left_of o.shape q)) (place_on o.shape (left_of o.shape q)) v a → LaysOut face o (level_of o.shape (right_of o.shape q)) (place_on o.shape (right_of o.shape q)) a b
       → LaysNode o.shape q five b w → five ≡ opening_words face o q → LaysOut face o (level_of o.shape q) (place_on o.shape q) v w
   node_laid q five v a b w inner wide to_left to_right n are =
@@ -173,21 +181,20 @@ module _ (face : ℕ → ℕ → List (ℕ × ℕ) → List ℕ) (o : Opening) (
       let on = level_is o.shape q (suc l) p t.here in let on_left = level_is o.shape (left_of o.shape q) l (2 * p) t.left in let on_right = level_is o.shape (right_of o.shape q) l (2 * p + 1) t.right in
       let x : LaysOut face o l (2 * p) v a = subst (λ (z : ℕ × ℕ). LaysOut face o z.0 z.1 v a) (λ i. (on_left.0 i, on_left.1 i)) to_left in
       let y : LaysOut face o l (2 * p + 1) a b = subst (λ (z : ℕ × ℕ). LaysOut face o z.0 z.1 a b) (λ i. (on_right.0 i, on_right.1 i)) to_right in
-      let before : length b.words ≡ word_count o.shape = y.long ∙ x.long ∙ wide in let longer = node_long q inner five b w n before in
+      let before : length b ≡ word_count o.shape = y.long ∙ x.long ∙ wide in let longer = node_long q inner five b w n before in
       let keeps = node_keeps q inner five b w n before in
       let laid : LaysOut face o (suc l) p v w = record {
-        view_is = n.view_is ∙ (let back = sym (words_are q inner five b w n before) in λ i. record b { words = back i }) ∙ (λ i. record (y.view_is i) { words = w.words }) ∙ (λ i. record (x.view_is i) { words = w.words });
         long = longer ∙ y.long ∙ x.long;
         laid = λ r c. ⊎_elim
-            (λ (same : r ≡ q). subst (IsReady face o w.words) (sym same) (node_ready q inner five b w n before are))
+            (λ (same : r ≡ q). subst (IsReady face o w) (sym same) (node_ready q inner five b w n before are))
             (λ halves. ⊎_elim
             (λ (h : InChunk o.shape l (2 * p) r). let inside = level_inside o.shape r h.level h.place h.here in
-            ready_kept b.words w.words r longer (ready_kept a.words b.words r y.long (x.laid r h) (y.others r inside (λ h'. halves_apart o.shape l p r h h')))
+            ready_kept b w r longer (ready_kept a b r y.long (x.laid r h) (y.others r inside (λ h'. halves_apart o.shape l p r h h')))
             (keeps r inside (λ e. none_above o.shape l (2 * p) (suc l) p r (subst (IsWord o.shape (suc l) p) (sym e) t.here) (omega arith) h)))
             (λ (h : InChunk o.shape l (2 * p + 1) r). let inside = level_inside o.shape r h.level h.place h.here in
-            ready_kept b.words w.words r longer (y.laid r h) (keeps r inside (λ e. none_above o.shape l (2 * p + 1) (suc l) p r (subst (IsWord o.shape (suc l) p) (sym e) t.here) (omega arith) h))) halves)
+            ready_kept b w r longer (y.laid r h) (keeps r inside (λ e. none_above o.shape l (2 * p + 1) (suc l) p r (subst (IsWord o.shape (suc l) p) (sym e) t.here) (omega arith) h))) halves)
             (chunk_parts o.shape l p q r t.here c);
-        others = λ r inside out. kept_on v.words b.words w.words r (kept_on v.words a.words b.words r (x.others r inside (λ h. out (left_in o.shape l p r h))) (y.others r inside (λ h. out (right_in o.shape l p r h))))
+        others = λ r inside out. kept_on v b w r (kept_on v a b r (x.others r inside (λ h. out (left_in o.shape l p r h))) (y.others r inside (λ h. out (right_in o.shape l p r h))))
             (keeps r inside (λ e. out (subst (InChunk o.shape (suc l) p) (sym e) (node_in o.shape (suc l) p q t.here))));
         between = λ i past under. node_between q inner five b w n before i past under ∙ y.between i past under ∙ x.between i past under;
       } in subst (λ (z : ℕ × ℕ). LaysOut face o z.0 z.1 v w) (λ i. (sym on.0 i, sym on.1 i)) laid
@@ -222,14 +229,14 @@ module _ (o : Opening) (set : IsKeySet o.shape.bits (keys_of o.members)) (q : �
 -- ---- in the numbers of the code
 
 -- how many leaves there are, by the place of the first lane
-pub leaves_are : (table : TableId) (made : Opening) (layout s : Shape) (lanes records : ℕ) → IsStore table made layout lanes records → layout ≡ s → lanes / 2 + 1 ≡ 2 ^ s.bits
+pub leaves_are : (table : TableId) (made : TableKey) (layout s : Shape) (lanes records : ℕ) → IsStore table made layout lanes records → layout ≡ s → lanes / 2 + 1 ≡ 2 ^ s.bits
 leaves_are table made layout s lanes records store same = let at : lanes ≡ lane_place s 0 = store.lanes_are ∙ ap (λ (z : Shape). lane_place z 0) same in let t = twice s.bits in let some = some_leaf s.bits in omega arith
 
 -- and the root's place
-pub root_at : (table : TableId) (made : Opening) (layout s : Shape) (lanes records : ℕ) → IsStore table made layout lanes records → layout ≡ s → (1 ≤ lanes) × (lanes - 1 ≡ root_place s) × (lanes - 1 < place_count s)
+pub root_at : (table : TableId) (made : TableKey) (layout s : Shape) (lanes records : ℕ) → IsStore table made layout lanes records → layout ≡ s → (1 ≤ lanes) × (lanes - 1 ≡ root_place s) × (lanes - 1 < place_count s)
 root_at table made layout s lanes records store same = let at : lanes ≡ lane_place s 0 = store.lanes_are ∙ ap (λ (z : Shape). lane_place z 0) same in let t = twice s.bits in let some = some_leaf s.bits in (omega arith, omega arith, omega arith)
 
-pub few_keys_all : (table : TableId) (made : Opening) (layout s : Shape) (lanes records : ℕ) → IsStore table made layout lanes records → layout ≡ s → 2 ^ s.bits ≤ 2 ^ 16
+pub few_keys_all : (table : TableId) (made : TableKey) (layout s : Shape) (lanes records : ℕ) → IsStore table made layout lanes records → layout ≡ s → 2 ^ s.bits ≤ 2 ^ 16
 few_keys_all table made layout s lanes records store same = let bits : layout.bits ≡ s.bits = ap (λ (z : Shape). z.bits) same in let few = store.laid_out.bits.1 in pow_mono {i = s.bits} {j = 16} (omega arith)
 
 pub rank_few : (keys : List ℕ) (k : ℕ) → rank_of keys k ≤ length keys
@@ -265,8 +272,8 @@ pub root_first : (s : Shape) (keys : List ℕ) → 0 ≡ rank_of keys (first_key
 root_first s keys = let on = level_is s (root_place s) s.bits 0 (root_word s) in sym (ap (rank_of keys) ((λ i. first_key (on.0 i) (on.1 i)) ∙ (let none : 0 * 2 ^ s.bits ≡ 0 = omega arith in none)) ∙ ap length (below_is keys 0 ∙ range_none keys 0 0 (omega arith)))
 
 -- once it is laid out and all lanes are free, the table is as the opening demands
-pub laid_opens : (face : ℕ → ℕ → List (ℕ × ℕ) → List ℕ) (o : Opening) (v u w : SeatView) → 2 ^ o.shape.bits ≤ o.shape.members → IsKeySet o.shape.bits (keys_of o.members) → All FitsPair o.members → length v.words ≡ word_count o.shape
-    → ((level : ℕ) → level < o.shape.bits → AreWords v.words (record_start o.shape level) (shared_words face level)) → FreesLanes o.shape o.shape.workers v u → LaysOut face o (level_of o.shape (root_place o.shape)) (place_on o.shape (root_place o.shape)) u w → IsOpened face o w.words
+pub laid_opens : (face : ℕ → ℕ → List (ℕ × ℕ) → List ℕ) (o : Opening) (v u w : List ℕ) → 2 ^ o.shape.bits ≤ o.shape.members → IsKeySet o.shape.bits (keys_of o.members) → All FitsPair o.members → length v ≡ word_count o.shape
+    → ((level : ℕ) → level < o.shape.bits → AreWords v (record_start o.shape level) (shared_words face level)) → FreesLanes o.shape o.shape.workers v u → LaysOut face o (level_of o.shape (root_place o.shape)) (place_on o.shape (root_place o.shape)) u w → IsOpened face o w
 laid_opens face o v u w room set fit wide shared frees lays =
     let on = level_is o.shape (root_place o.shape) o.shape.bits 0 (root_word o.shape) in let t = twice o.shape.bits in
     let l : LaysOut face o o.shape.bits 0 u w = subst (λ (z : ℕ × ℕ). LaysOut face o z.0 z.1 u w) (λ i. (on.0 i, on.1 i)) lays in record {
@@ -285,5 +292,118 @@ laid_opens face o v u w room set fit wide shared frees lays =
 
 -- ---- the lanes
 
-pub frees_none : (s : Shape) (v : SeatView) → FreesLanes s 0 v v
-frees_none s v = record { view_is = refl; long = refl; free = λ lane low. absurd (omega arith); others = λ i past. refl }
+pub frees_none : (s : Shape) (words : List ℕ) → FreesLanes s 0 words words
+frees_none s words = record { long = refl; free = λ lane low. absurd (omega arith); others = λ i past. refl }
+
+-- one more is freed
+pub frees_more : (s : Shape) (lane : ℕ) (v u w : List ℕ) → FreesLanes s lane v u → w ≡ set u (lane_place s lane) (word_of_state Free) → lane_place s lane < length u → FreesLanes s (lane + 1) v w
+frees_more s lane v u w f is inside = subst (FreesLanes s (lane + 1) v) (sym is) record {
+  long = length-set u (lane_place s lane) (word_of_state Free) ∙ f.long;
+  free = λ k low. ⊎_elim
+      (λ (same : k ≡ lane). subst (λ (z : ℕ). get_or (set u (lane_place s lane) (word_of_state Free)) (lane_place s z) 0 ≡ word_of_state Free) (sym same) (get_or-set_same u (lane_place s lane) (word_of_state Free) 0 inside))
+      (λ ne. get_or-set_other u (lane_place s lane) (lane_place s k) (word_of_state Free) 0 (λ e. ne (omega (arith, e))) ∙ f.free k (omega (arith, ne))) (cases_eq k lane);
+  others = λ i past. get_or-set_other u (lane_place s lane) i (word_of_state Free) 0 (λ e. omega arith) ∙ f.others i (omega arith);
+}
+
+-- ---- a seat that lays a part out
+
+module _ (base : ℕ) (s : Shape) where
+  pub changes_none : (v : SeatView) → ChangesPart base s v v
+  changes_none v = record { view_is = refl; beside = record { long = refl; same = λ i apart. refl } }
+
+  pub changes_on : (u v w : SeatView) → ChangesPart base s u v → ChangesPart base s v w → ChangesPart base s u w
+  changes_on u v w a b = record {
+    view_is = b.view_is ∙ (λ i. record (a.view_is i) { whole = w.whole });
+    beside = record { long = a.beside.long ∙ b.beside.long; same = λ i apart. a.beside.same i apart ∙ b.beside.same i apart };
+  }
+
+  -- a word is put there
+  pub puts_word : (v w : SeatView) (i place value : ℕ) → i ≡ base + place → place < word_count s → w ≡ rewriting v i value → PutsWord base s place value v w
+  puts_word v w i place value at inside is = subst (PutsWord base s place value v) (sym is) (subst (λ (z : ℕ). PutsWord base s place value v (rewriting v z value)) (sym at) record {
+    changes = record { view_is = refl; beside = beside_set base (word_count s) place value v.whole v.whole inside record { long = refl; same = λ k apart. refl } };
+    puts = part_set base (word_count s) place value v.whole inside;
+  })
+
+  -- or it was there
+  pub puts_none : (v w : SeatView) (i place value : ℕ) → i ≡ base + place → place < word_count s → w ≡ v → value ≡ get_or v.whole i 0 → PutsWord base s place value v w
+  puts_none v w i place value at inside is found =
+      let same : get_or v.whole (base + place) 0 ≡ value = ap (λ (z : ℕ). get_or v.whole z 0) (sym at) ∙ sym found in
+      let again : set v.whole (base + place) value ≡ v.whole = ap (set v.whole (base + place)) (sym same) ∙ set-get_or v.whole (base + place) 0 in
+      subst (PutsWord base s place value v) (sym is) record { changes = changes_none v; puts = ap (table_part base (word_count s)) (sym again) ∙ part_set base (word_count s) place value v.whole inside }
+
+  module _ (a a' t : TableId) (me me' : Sat) (m : MayLay a t base s me) (one : a' ≡ a) (empty : me'.1 ≡ []) where
+    -- it may go on to do so
+    pub lays_on : ChangesPart base s me.0 me'.0 → MayLay a' t base s me'
+    lays_on c = subst (λ (z : SeatView × List (ℕ × Unit {0})). MayLay a' t base s z) (λ i. (sym c.view_is i, sym empty i)) record {
+      seated = one ∙ m.seated;
+      no_slot = refl;
+      long = sym c.beside.long ∙ m.long;
+      inside = m.inside;
+      few = m.few;
+      may = ⊎_elim (λ renews. inl renews) (λ l. inr record { next = l.next; leads = l.leads; live = l.live; apart = l.apart }) m.may;
+    }
+
+  module _ (a t : TableId) (me : Sat) (m : MayLay a t base s me) where
+    -- the part has its words
+    pub part_words : length (words_in base s me.0) ≡ word_count s
+    part_words = part_long base (word_count s) me.0.whole (let e = m.long in let inside = m.inside in omega arith)
+
+    module _ (face : ℕ → ℕ → List (ℕ × ℕ) → List ℕ) (shape : Shape) (n id place i x : ℕ) (at : i ≡ base + place) (inside : place < word_count s) where
+      -- each word of it may be loaded
+      pub lay_loads : Allows (Ruled face shape) n id me i (λ z. z) (reread (step n i 0 0 none) me)
+      lay_loads = ⊎_elim (λ renews. rereads face shape n id i me renews m.no_slot)
+          (λ l. looks_beside face shape n id l.next i me l.leads m.no_slot l.live (⊎_elim (λ below. inl (omega (arith, below, at, inside))) (λ above. inr (omega (arith, above, at))) l.apart)) m.may
+
+      -- and stored
+      pub lay_stores : Allows (Ruled face shape) n id me i (λ _. x) (λ _ m. rewrote (step n i x 0 none) me x m)
+      lay_stores = ⊎_elim (λ renews. rewrites face shape n id i x me renews m.no_slot)
+          (λ l. lays face shape n id l.next i x me l.leads m.no_slot l.live (⊎_elim (λ below. inl (omega (arith, below, at, inside))) (λ above. inr (omega (arith, above, at))) l.apart)) m.may
+
+-- a lead at rest may lay out the part that was at work last
+pub idle_may : (face : ℕ → ℕ → List (ℕ × ℕ) → List ℕ) (a t : TableId) (b : ℕ) (me : Sat) (s : Shape) → IsPlaced a b me.0 × IsIdleSeat face a me → a ≡ t → me.0.shape ≡ s → MayLay a t b s me
+idle_may face a t b me s idle one shape = let placed = idle.0 in let words = ap (λ (z : TableId). z.words) one in record {
+  seated = one;
+  no_slot = idle.1.no_slot;
+  long = idle.1.long ∙ words;
+  inside = subst (λ (z : ℕ × ℕ × Shape). z.0 + word_count z.2 ≤ z.1) (λ i. (sym placed.base_is i, words i, shape i)) placed.wide;
+  few = subst (λ (z : ℕ). z < 2 ^ 60) words placed.few;
+  may = inl idle.1.renews;
+}
+
+-- ---- five words
+
+module _ (words five : List ℕ) (i : ℕ) (inside : i + 5 ≤ length words) where
+  -- as five stores leave them
+  abbrev five_stored : List ℕ
+  five_stored = set (set (set (set (set words i (get_or five 0 0)) (i + 1) (get_or five 1 0)) (i + 2) (get_or five 2 0)) (i + 3) (get_or five 3 0)) (i + 4) (get_or five 4 0)
+
+  five_there : AreWords five_stored i five
+  five_there k small =
+      let w1 : List ℕ = set words i (get_or five 0 0) in let w2 : List ℕ = set w1 (i + 1) (get_or five 1 0) in let w3 : List ℕ = set w2 (i + 2) (get_or five 2 0) in let w4 : List ℕ = set w3 (i + 3) (get_or five 3 0) in
+      let l1 = length-set words i (get_or five 0 0) in let l2 = length-set w1 (i + 1) (get_or five 1 0) in let l3 = length-set w2 (i + 2) (get_or five 2 0) in let l4 = length-set w3 (i + 3) (get_or five 3 0) in
+      let at : (j : ℕ) → k ≡ j → get_or five_stored (i + j) 0 ≡ get_or five j 0 → get_or five_stored (i + k) 0 ≡ get_or five k 0 = λ j is here. subst (λ (z : ℕ). get_or five_stored (i + z) 0 ≡ get_or five z 0) (sym is) here in
+      let none : i + 0 ≡ i = omega arith in
+      ⊎_elim (λ (z : k ≡ 0). at 0 z (ap (λ (j : ℕ). get_or five_stored j 0) none ∙ get_or-set_other w4 (i + 4) i (get_or five 4 0) 0 (λ q. omega arith) ∙ get_or-set_other w3 (i + 3) i (get_or five 3 0) 0 (λ q. omega arith)
+      ∙ get_or-set_other w2 (i + 2) i (get_or five 2 0) 0 (λ q. omega arith) ∙ get_or-set_other w1 (i + 1) i (get_or five 1 0) 0 (λ q. omega arith) ∙ get_or-set_same words i (get_or five 0 0) 0 (omega arith)))
+      (λ n0. ⊎_elim (λ (z : k ≡ 1). at 1 z (get_or-set_other w4 (i + 4) (i + 1) (get_or five 4 0) 0 (λ q. omega arith) ∙ get_or-set_other w3 (i + 3) (i + 1) (get_or five 3 0) 0 (λ q. omega arith)
+      ∙ get_or-set_other w2 (i + 2) (i + 1) (get_or five 2 0) 0 (λ q. omega arith) ∙ get_or-set_same w1 (i + 1) (get_or five 1 0) 0 (omega arith)))
+      (λ n1. ⊎_elim (λ (z : k ≡ 2). at 2 z (get_or-set_other w4 (i + 4) (i + 2) (get_or five 4 0) 0 (λ q. omega arith) ∙ get_or-set_other w3 (i + 3) (i + 2) (get_or five 3 0) 0 (λ q. omega arith) ∙ get_or-set_same w2 (i + 2) (get_or five 2 0) 0 (omega arith)))
+      (λ n2. ⊎_elim (λ (z : k ≡ 3). at 3 z (get_or-set_other w4 (i + 4) (i + 3) (get_or five 4 0) 0 (λ q. omega arith) ∙ get_or-set_same w3 (i + 3) (get_or five 3 0) 0 (omega arith)))
+      (λ n3. at 4 (omega (arith, n0, n1, n2, n3)) (get_or-set_same w4 (i + 4) (get_or five 4 0) 0 (omega arith))) (cases_eq k 3)) (cases_eq k 2)) (cases_eq k 1)) (cases_eq k 0)
+
+  five_apart : (j : ℕ) → (j < i) ⊎ (i + 5 ≤ j) → get_or five_stored j 0 ≡ get_or words j 0
+  five_apart j out =
+      let w1 : List ℕ = set words i (get_or five 0 0) in let w2 : List ℕ = set w1 (i + 1) (get_or five 1 0) in let w3 : List ℕ = set w2 (i + 2) (get_or five 2 0) in let w4 : List ℕ = set w3 (i + 3) (get_or five 3 0) in
+      let other : (m : ℕ) → m ≤ 4 → j ≢ i + m = λ m few. ⊎_elim (λ low q. omega (arith, low)) (λ high q. omega (arith, high)) out in let none : j ≢ i = λ q. other 0 (omega arith) (omega arith) in
+      get_or-set_other w4 (i + 4) j (get_or five 4 0) 0 (other 4 (omega arith)) ∙ get_or-set_other w3 (i + 3) j (get_or five 3 0) 0 (other 3 (omega arith)) ∙ get_or-set_other w2 (i + 2) j (get_or five 2 0) 0 (other 2 (omega arith))
+      ∙ get_or-set_other w1 (i + 1) j (get_or five 1 0) 0 (other 1 (omega arith)) ∙ get_or-set_other words i j (get_or five 0 0) 0 none
+
+  pub five_put : (after : List ℕ) → after ≡ five_stored → WritesFive words after i five
+  five_put after is =
+      let w1 : List ℕ = set words i (get_or five 0 0) in let w2 : List ℕ = set w1 (i + 1) (get_or five 1 0) in let w3 : List ℕ = set w2 (i + 2) (get_or five 2 0) in let w4 : List ℕ = set w3 (i + 3) (get_or five 3 0) in
+      subst (λ (z : List ℕ). WritesFive words z i five) (sym is) record {
+        written = five_there;
+        before = λ j low. five_apart j (inl low);
+        behind = λ j high. five_apart j (inr high);
+        long = length-set w4 (i + 4) (get_or five 4 0) ∙ length-set w3 (i + 3) (get_or five 3 0) ∙ length-set w2 (i + 2) (get_or five 2 0) ∙ length-set w1 (i + 1) (get_or five 1 0) ∙ length-set words i (get_or five 0 0);
+      }

@@ -32,18 +32,20 @@ use mathlib.Core.Option.{some}
 use lib.ListN.{get_elem?}
 use Rattle.aug_words.specs.Leads.{HandsLaneOut}
 use Rattle.aug_words.specs.Notes.{LearnsNote}
-use Rattle.aug_words.specs.inside.SeatState.{SitsAt, IsPassSeat, IsLeadSeat, IsStore}
+use Rattle.aug_words.specs.inside.SeatState.{SitsAt, IsPassSeat, IsLeadSeat, IsLead, IsStore}
+use Rattle.aug_words.proofs.Passes.{placed_on}
+use Rattle.aug_core.specs.declared.opening.TableKey.{TableKey}
 use Rattle.aug_words.specs.Seats.{IsNextLane}
 
 -- a table has a word
-pub some_words : (table : TableId) (made : Opening) (layout : Shape) (lanes records : ℕ) → IsStore table made layout lanes records → 0 < table.words
+pub some_words : (table : TableId) (made : TableKey) (layout : Shape) (lanes records : ℕ) → IsStore table made layout lanes records → 0 < table.words
 some_words table made layout lanes records store = let wide = store.wide in let workers = store.laid_out.workers.0 in omega arith
 
-pub pass_has_words : (face : ℕ → ℕ → List (ℕ × ℕ) → List ℕ) (seat_table table : TableId) (lanes records lane : ℕ) (me : Sat) → SitsAt seat_table table lanes records me.0.shape → IsPassSeat face lane me → 0 < table.words
-pass_has_words face seat_table table lanes records lane me sits seat = let wide = sits.wide in let low = seat.exists in omega arith
+pub pass_has_words : (face : ℕ → ℕ → List (ℕ × ℕ) → List ℕ) (seat_table table : TableId) (base lanes records lane : ℕ) (me : Sat) → SitsAt seat_table table base lanes records me.0 → IsPassSeat face lane me → 0 < table.words
+pass_has_words face seat_table table base lanes records lane me sits seat = let wide = sits.placed.wide in let low = seat.exists in omega arith
 
 -- the first lane's word comes after the root's
-pub lanes_at : (table : TableId) (made : Opening) (layout : Shape) (lanes records : ℕ) → IsStore table made layout lanes records → (lanes ≡ root_place layout + 1) × (2 ≤ lanes) × (lanes < word_count layout)
+pub lanes_at : (table : TableId) (made : TableKey) (layout : Shape) (lanes records : ℕ) → IsStore table made layout lanes records → (lanes ≡ root_place layout + 1) × (2 ≤ lanes) × (lanes < word_count layout)
 lanes_at table made layout lanes records store = let begins = store.lanes_are in let workers = store.laid_out.workers.0 in let bits = keys-within layout.bits store.laid_out.bits.0 store.laid_out.bits.1 in let b = bits.0 in let t = twice layout.bits in (omega arith, omega arith, omega arith)
 
 -- the root is an inner node
@@ -51,13 +53,13 @@ pub root_inner : (s : Shape) → 1 ≤ s.bits → s.bits ≤ 16 → IsInner s (r
 root_inner s some_bits few = let b = (keys-within s.bits some_bits few).0 in let t = twice s.bits in record { past_leaves = omega arith; inside = omega arith }
 
 -- the seat that opens a table, which has the number of the root's opening record
-pub opening_seat : (face : ℕ → ℕ → List (ℕ × ℕ) → List ℕ) (o : Opening) (past : List PastEra) (era : ℕ) (words : List ℕ) (number : ℕ) → IsLayout o.shape → IsKeySet o.shape.bits (keys_of o.members) → All FitsPair o.members → length (keys_of o.members) ≤ o.shape.members
-    → number ≡ opening_number o (root_place o.shape) → IsLeadSeat face 0 number (opener face o past era words, [])
-opening_seat face o past era words number laid_out set fit few named = let inner = root_inner o.shape laid_out.bits.0 laid_out.bits.1 in let only = inner_history face o (root_place o.shape) inner in record {
+pub opening_seat : (face : ℕ → ℕ → List (ℕ × ℕ) → List ℕ) (o : Opening) (past : List PastEra) (era base : ℕ) (words whole : List ℕ) (number : ℕ) → IsLayout o.shape → IsKeySet o.shape.bits (keys_of o.members) → All FitsPair o.members → length (keys_of o.members) ≤ o.shape.members
+    → number ≡ opening_number o (root_place o.shape) → IsLeadSeat face 0 number (opener face o past era base words whole, [])
+opening_seat face o past era base words whole number laid_out set fit few named = let inner = root_inner o.shape laid_out.bits.0 laid_out.bits.1 in let only = inner_history face o (root_place o.shape) inner in record {
   live = refl;
   no_slot = refl;
   hands_out = refl;
-  knows = opener_knows face o past era words laid_out set fit few;
+  knows = opener_knows face o past era base words whole laid_out set fit few;
   names_root = record {
     index = 0;
     entry = opening_entry face o (root_place o.shape);
@@ -66,10 +68,17 @@ opening_seat face o past era words number laid_out set fit few named = let inner
   };
 }
 
-module _ (face : ℕ → ℕ → List (ℕ × ℕ) → List ℕ) (next root : ℕ) (me me' : Sat) (seat : IsLeadSeat face next root me) where
+module _ (face : ℕ → ℕ → List (ℕ × ℕ) → List ℕ) (a a' : TableId) (b next root : ℕ) (me me' : Sat) (lead : IsLead face a b next root me) (one : a' ≡ a) where
+  seat : IsLeadSeat face next root me
+  seat = lead.1
+
+  -- a lead that works where it did
+  works_there : (next' root' : ℕ) → me'.0.shape ≡ me.0.shape → me'.0.base ≡ me.0.base → me'.0.whole ≡ me.0.whole → IsLeadSeat face next' root' me' → IsLead face a' b next' root' me'
+  works_there next' root' shape base whole is = subst (λ (z : TableId). IsLead face z b next' root' me') (sym one) (placed_on a b me.0 me'.0 lead.0 shape base, is, ap (λ (z : List ℕ). length z) whole ∙ lead.2)
+
   -- a lead that loaded the root's word
-  pub lead_loaded : (found : ℕ) → me'.1 ≡ [] → LoadsNode face me.0 (root_place me.0.shape) found me'.0 → IsLeadSeat face next found me'
-  lead_loaded found empty did = let is = did.stepped in record {
+  pub lead_loaded : (found : ℕ) → me'.1 ≡ [] → LoadsNode face me.0 (root_place me.0.shape) found me'.0 → IsLead face a' b next found me'
+  lead_loaded found empty did = let is = did.stepped in works_there next found (ap (λ (z : SeatView). z.shape) is) (ap (λ (z : SeatView). z.base) is) (ap (λ (z : SeatView). z.whole) is) record {
     live = ap (λ (z : SeatView). z.live) is ∙ seat.live;
     no_slot = empty;
     hands_out = ap (λ (z : SeatView). z.spare) is ∙ seat.hands_out;
@@ -83,44 +92,44 @@ module _ (face : ℕ → ℕ → List (ℕ × ℕ) → List ℕ) (next root : �
   }
 
   -- one that loaded a word of a record
-  pub lead_looked : (taken : StepTaken) → me'.0 ≡ stepping me.0 taken → me'.1 ≡ [] → IsLeadSeat face next root me'
-  lead_looked taken is empty = subst (IsLeadSeat face next root) (λ i. (sym is i, sym empty i)) record {
+  pub lead_looked : (taken : StepTaken) → me'.0 ≡ stepping me.0 taken → me'.1 ≡ [] → IsLead face a' b next root me'
+  lead_looked taken is empty = works_there next root (ap (λ (z : SeatView). z.shape) is) (ap (λ (z : SeatView). z.base) is) (ap (λ (z : SeatView). z.whole) is) (subst (IsLeadSeat face next root) (λ i. (sym is i, sym empty i)) record {
     live = seat.live;
     no_slot = refl;
     hands_out = seat.hands_out;
     knows = knows_same face me.0 me.0.live me.0.also me.0.held me.0.spare me.0.began (me.0.steps ++ taken ∷ []) seat.knows;
     names_root = let at = seat.names_root in record { index = at.index; entry = at.entry; newest = at.newest; named = at.named };
-  }
+  })
 
   -- one that handed a lane out
-  pub lead_handed : me'.0 ≡ handing_out me.0 → me'.1 ≡ me.1 → IsLeadSeat face (next + 1) root me'
-  lead_handed is same = subst (IsLeadSeat face (next + 1) root) (λ i. (sym is i, sym same i)) record {
+  pub lead_handed : me'.0 ≡ handing_out me.0 → me'.1 ≡ me.1 → IsLead face a' b (next + 1) root me'
+  lead_handed is same = works_there (next + 1) root (ap (λ (z : SeatView). z.shape) is) (ap (λ (z : SeatView). z.base) is) (ap (λ (z : SeatView). z.whole) is) (subst (IsLeadSeat face (next + 1) root) (λ i. (sym is i, sym same i)) record {
     live = seat.live;
     no_slot = seat.no_slot;
     hands_out = ap (option_map (λ n. n + 1)) seat.hands_out;
     knows = knows_same face me.0 me.0.live me.0.also me.0.held (option_map (λ n. n + 1) me.0.spare) me.0.began me.0.steps seat.knows;
     names_root = let at = seat.names_root in record { index = at.index; entry = at.entry; newest = at.newest; named = at.named };
-  }
+  })
 
   -- one that took a pass in
-  pub lead_joined : (w : SeatView) → me'.0 ≡ taking_back me.0 w → me'.1 ≡ me.1 → IsLeadSeat face next root me'
-  lead_joined w is same = subst (IsLeadSeat face next root) (λ i. (sym is i, sym same i)) record {
+  pub lead_joined : (w : SeatView) → me'.0 ≡ taking_back me.0 w → me'.1 ≡ me.1 → IsLead face a' b next root me'
+  lead_joined w is same = works_there next root (ap (λ (z : SeatView). z.shape) is) (ap (λ (z : SeatView). z.base) is) (ap (λ (z : SeatView). z.whole) is) (subst (IsLeadSeat face next root) (λ i. (sym is i, sym same i)) record {
     live = seat.live;
     no_slot = seat.no_slot;
     hands_out = seat.hands_out;
     knows = knows_same face me.0 me.0.live w.seen (me.0.held ++ w.held) me.0.spare me.0.began me.0.steps seat.knows;
     names_root = let at = seat.names_root in record { index = at.index; entry = at.entry; newest = at.newest; named = at.named };
-  }
+  })
 
   -- one that took in a note
-  pub lead_learnt : (w : SeatView) → me'.0 ≡ learning me.0 w → me'.1 ≡ me.1 → IsLeadSeat face next root me'
-  lead_learnt w is same = subst (IsLeadSeat face next root) (λ i. (sym is i, sym same i)) record {
+  pub lead_learnt : (w : SeatView) → me'.0 ≡ learning me.0 w → me'.1 ≡ me.1 → IsLead face a' b next root me'
+  lead_learnt w is same = works_there next root (ap (λ (z : SeatView). z.shape) is) (ap (λ (z : SeatView). z.base) is) (ap (λ (z : SeatView). z.whole) is) (subst (IsLeadSeat face next root) (λ i. (sym is i, sym same i)) record {
     live = seat.live;
     no_slot = seat.no_slot;
     hands_out = seat.hands_out;
     knows = knows_told face me.0 (seen_in me.0.era w).seen (Some (learnt_of w)) seat.knows;
     names_root = let at = seat.names_root in record { index = at.index; entry = at.entry; newest = at.newest; named = at.named };
-  }
+  })
 
 -- a lead that may hand a lane out may do so after it loaded a node
 pub may_hand_out : (face : ℕ → ℕ → List (ℕ × ℕ) → List ℕ) (old new : SeatView) (q found lane next : ℕ) → LoadsNode face old q found new → IsNextLane old lane → new.spare ≡ Some next → next < new.shape.workers

@@ -25,38 +25,52 @@ use Rattle.aug_core.proofs.Sizes.{record_inside}
 use Rattle.aug_core.proofs.Fits.{knows_shown, knows_same, knows_told}
 use Rattle.aug_core.proofs.Stores.{alone, one_held}
 use Rattle.aug_core.proofs.Eras.{holds_lane}
-use Rattle.aug_words.specs.inside.SeatState.{SitsAt, IsPassSeat, HasReached}
+use Rattle.aug_words.specs.inside.SeatState.{IsPlaced, SitsAt, IsPassSeat, HasReached}
 use Rattle.aug_words.specs.Seats.{AreTogether, Known, MayLoad, LoadsRecordWord, Store}
 
+-- a seat that stayed in its part
+pub placed_on : (t : TableId) (b : ℕ) (v w : SeatView) → IsPlaced t b v → w.shape ≡ v.shape → w.base ≡ v.base → IsPlaced t b w
+placed_on t b v w p shape base = record {
+  base_is = p.base_is ∙ sym base;
+  wide = subst (λ (z : ℕ × Shape). z.0 + word_count z.1 ≤ t.words) (λ i. (sym base i, sym shape i)) p.wide;
+  few = p.few;
+}
+
 -- a seat that belongs to a table sits there
-pub sits_at : (k now : Known) (store words : Store) (lanes records : ℕ) → k ≡ now → store ≡ words → AreTogether words now → word_count store.shape ≡ store.table.words → lanes ≡ lane_place store.shape 0 → records ≡ record_start store.shape 0
-    → SitsAt k.table store.table lanes records k.view.shape
-sits_at k now store words lanes records is stored together wide l r =
+pub sits_at : (k now : Known) (store words : Store) (base lanes records : ℕ) → k ≡ now → store ≡ words → AreTogether words now → IsPlaced k.table base k.view → lanes ≡ lane_place store.shape 0 → records ≡ record_start store.shape 0
+    → SitsAt k.table store.table base (base + lanes) (base + records) k.view
+sits_at k now store words base lanes records is stored together placed l r =
     let shape : store.shape ≡ k.view.shape = ap (λ (s : Store). s.shape) stored ∙ sym together.one_shape ∙ sym (ap (λ (z : Known). z.view.shape) is) in
+    let seated : k.table ≡ store.table = ap (λ (z : Known). z.table) is ∙ together.one_table ∙ sym (ap (λ (s : Store). s.table) stored) in
     record {
-      seated = ap (λ (z : Known). z.table) is ∙ together.one_table ∙ sym (ap (λ (s : Store). s.table) stored);
-      wide = sym wide ∙ ap word_count shape;
-      lanes_are = l ∙ ap (λ (s : Shape). lane_place s 0) shape;
-      records_are = r ∙ ap (λ (s : Shape). record_start s 0) shape;
+      seated = seated;
+      placed = subst (λ (z : TableId). IsPlaced z base k.view) seated placed;
+      lanes_are = λ i. placed.base_is i + (l ∙ ap (λ (s : Shape). lane_place s 0) shape) i;
+      records_are = λ i. placed.base_is i + (r ∙ ap (λ (s : Shape). record_start s 0) shape) i;
     }
 
 -- a record that was seen is one of the table
 pub seen_inside : (face : ℕ → ℕ → List (ℕ × ℕ) → List ℕ) (v : SeatView) (number : ℕ) → KnowsTable face v → HasSeen v number → number < record_count v.shape
 seen_inside face v number knows seen = subst (λ (z : ℕ). z < record_count v.shape) seen.numbered (knows.book.below seen.place seen.index seen.entry seen.inner seen.at)
 
--- a seat whose shape and table stayed
-pub sits_on : (a a' t : TableId) (l r : ℕ) (s s' : Shape) → SitsAt a t l r s → a' ≡ a → s' ≡ s → SitsAt a' t l r s'
-sits_on a a' t l r s s' sits one same = subst (λ (z : TableId). SitsAt z t l r s') (sym one) (subst (SitsAt a t l r) (sym same) sits)
+-- a seat that stayed at its table and in its part
+pub sits_on : (a a' t : TableId) (b l r : ℕ) (v w : SeatView) → SitsAt a t b l r v → a' ≡ a → w.shape ≡ v.shape → w.base ≡ v.base → SitsAt a' t b l r w
+sits_on a a' t b l r v w sits one shape base = record {
+  seated = one ∙ sits.seated;
+  placed = placed_on t b v w sits.placed shape base;
+  lanes_are = sits.lanes_are ∙ (λ i. sym base i + lane_place (sym shape i) 0);
+  records_are = sits.records_are ∙ (λ i. sym base i + record_start (sym shape i) 0);
+}
 
-module _ (face : ℕ → ℕ → List (ℕ × ℕ) → List ℕ) (a a' t : TableId) (l r lane : ℕ) (me me' : Sat) (is_pass : SitsAt a t l r me.0.shape × IsPassSeat face lane me) (one : a' ≡ a) where
+module _ (face : ℕ → ℕ → List (ℕ × ℕ) → List ℕ) (a a' t : TableId) (b l r lane : ℕ) (me me' : Sat) (is_pass : SitsAt a t b l r me.0 × IsPassSeat face lane me) (one : a' ≡ a) where
   abbrev IsPass : Type 0
-  IsPass = SitsAt a' t l r me'.0.shape × IsPassSeat face lane me'
+  IsPass = SitsAt a' t b l r me'.0 × IsPassSeat face lane me'
 
   -- a pass that was shown the whole book, and whose lane is the one that it was
   shown : (h : Held) (held : List Held) (book : Book) (began : Beginning) (steps : List StepTaken) → held ≡ h ∷ [] → h.lane ≡ lane → h.state ≡ Taken → length h.words ≡ block_size me.0.shape → me'.1 ≡ []
       → me'.0 ≡ record me.0 { seen = book; held = held; began = began; steps = steps } → Sees face me.0 me'.0 → IsPass
   shown h held book began steps only named taken long empty is sees = let seat = is_pass.1 in let same : me'.0.shape ≡ me.0.shape = ap (λ (z : SeatView). z.shape) is in (
-    sits_on a a' t l r me.0.shape me'.0.shape is_pass.0 one same,
+    sits_on a a' t b l r me.0 me'.0 is_pass.0 one same (ap (λ (z : SeatView). z.base) is),
     record {
       live = ap (λ (z : SeatView). z.live) is ∙ seat.live;
       no_slot = empty;
@@ -98,7 +112,7 @@ module _ (face : ℕ → ℕ → List (ℕ × ℕ) → List ℕ) (a a' t : Table
   -- a pass that was shown nothing of the book
   kept : (h : Held) (held : List Held) (steps : List StepTaken) → held ≡ h ∷ [] → h.lane ≡ lane → h.state ≡ Taken → length h.words ≡ block_size me.0.shape → me'.1 ≡ [] → me'.0 ≡ record me.0 { held = held; steps = steps } → IsPass
   kept h held steps only named taken long empty is = let seat = is_pass.1 in (
-    sits_on a a' t l r me.0.shape me'.0.shape is_pass.0 one (ap (λ (z : SeatView). z.shape) is),
+    sits_on a a' t b l r me.0 me'.0 is_pass.0 one (ap (λ (z : SeatView). z.shape) is) (ap (λ (z : SeatView). z.base) is),
     subst (IsPassSeat face lane) (λ i. (sym is i, sym empty i)) record {
       live = seat.live;
       no_slot = refl;
@@ -115,7 +129,7 @@ module _ (face : ℕ → ℕ → List (ℕ × ℕ) → List ℕ) (a a' t : Table
   -- a pass that took in a note
   pub pass_learnt : (w : SeatView) → me'.0 ≡ learning me.0 w → me'.1 ≡ me.1 → IsPass
   pass_learnt w is same = let seat = is_pass.1 in (
-    sits_on a a' t l r me.0.shape me'.0.shape is_pass.0 one (ap (λ (z : SeatView). z.shape) is),
+    sits_on a a' t b l r me.0 me'.0 is_pass.0 one (ap (λ (z : SeatView). z.shape) is) (ap (λ (z : SeatView). z.base) is),
     subst (IsPassSeat face lane) (λ i. (sym is i, sym same i)) record {
       live = seat.live;
       no_slot = seat.no_slot;

@@ -3,12 +3,13 @@
 use Rattle.std.specs.Prelude.{◌≡◌, ℕ, ◌+◌, ◌<◌, List, slice_index}
 use mathlib.Core.Option.{some}
 use lib.ListN.{get_elem?}
-use Rattle.aug_core.specs.Places.{Shape, lane_place, record_start, record_words}
+use Rattle.aug_core.specs.Places.{Shape, lane_place, record_start, record_words, word_count}
 use Rattle.aug_core.specs.Addresses.{IsInner, root_place}
 use Rattle.aug_core.specs.Lanes.{IsOfLane, word_of_state}
 use Rattle.aug_core.specs.Book.{At}
 use Rattle.aug_core.specs.Opening.{Opening, IsIdle, opening_number, opening_words, shared_words}
 use Rattle.aug_core.specs.Effects.{KnowsTable, LoadsNode, held_word, opening_of}
+use Rattle.aug_core.specs.Eras.{table_part}
 use Rattle.aug_core.specs.Renewals.{EndWith, renewing}
 use Rattle.aug_core.specs.declared.view.Entry.{Entry}
 use Rattle.aug_core.specs.declared.view.Held.{Held}
@@ -43,6 +44,5 @@ module _ (face : ℕ → ℕ → List (ℕ × ℕ) → List ℕ) where
     pub loaded : LoadsNode face v (root_place v.shape) root last
     pub knows : KnowsTable face last
     pub named : NamesRoot last root
-    pub idle_is : idle ≡ renewing last idle.words
-    pub rule : EndWith face (opening_of last) last idle.words
-    pub words : ShowAll face (opening_of last) last idle.words
+    pub idle_is : idle ≡ renewing last idle.whole
+    pub rule : EndWith face (opening_of last) last (table_part v.base (word_count v.shape) idle.whole)

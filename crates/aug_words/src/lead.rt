@@ -1,7 +1,8 @@
 //! The seat that hands lanes out and takes passes back.
-ghost use Rattle.std.specs.Prelude.{◌≡◌, ◌<◌, ℕ, [], true};
+ghost use Rattle.std.specs.Prelude.{◌≡◌, ◌+◌, ◌<◌, ℕ, [], true};
 ghost use Rattle.aug_core.specs.Faces.{face};
 ghost use Rattle.aug_core.specs.Addresses.{root_place};
+ghost use Rattle.aug_core.specs.Places.{lane_place, word_count};
 ghost use Rattle.aug_core.specs.Fields.{field_offset};
 ghost use Rattle.aug_core.specs.Effects.{HasSeen, KnowsTable, taking, finishing, own_lane_place};
 ghost use Rattle.aug_core.specs.Renewals.{Surveys};
@@ -24,6 +25,8 @@ use std::marker::{Model, PhantomData};
 #[derive(Drop)]
 pub struct Lead<A: Monoid, B: Monoid> {
     pub(crate) seat: Seat<(), SeatView>,
+    // The first word of the part of the table that it works in.
+    pub(crate) base: usize,
     // The lane that is handed out next.
     pub(crate) next: u32,
     // The number of the newest record of the root that the lead has seen.
@@ -34,13 +37,13 @@ pub struct Lead<A: Monoid, B: Monoid> {
 impl<A: Monoid, B: Monoid> Model for Lead<A, B> {
     ghost use Rattle.aug_core.specs.Faces.{face};
     ghost use Rattle.aug_words.specs.Seats.{Known};
-    ghost use Rattle.aug_words.specs.inside.SeatState.{IsLeadSeat};
+    ghost use Rattle.aug_words.specs.inside.SeatState.{IsLead};
 
     ghost Value = { Known };
 
     ghost view = { λ p. record { table = p.seat.table_id; view = p.seat.me.0 } };
 
-    ghost invariant = { λ p. IsLeadSeat (face A.parts B.parts) p.next p.root p.seat.me };
+    ghost invariant = { λ p. IsLead (face A.parts B.parts) p.seat.table_id p.base p.next p.root p.seat.me };
 }
 
 // Takes the lane of a seat that was just split off: a compare-exchange of its word from free to taken.
@@ -54,10 +57,11 @@ fn take_lane<A: Monoid, B: Monoid>(
     requires live { seat.old.me.0.live ≡ true }
     requires no_slot { seat.old.me.1 ≡ [] }
     requires free { MayTake seat.old.me.0 }
-    requires own { place ≡ own_lane_place seat.old.me.0 }
+    requires exists { own_lane_place seat.old.me.0 < word_count seat.old.me.0.shape }
+    requires own { place ≡ seat.old.me.0.base + own_lane_place seat.old.me.0 }
     ensures table { seat.new.table_id ≡ seat.old.table_id }
     ensures no_slot { seat.new.me.1 ≡ [] }
-    ensures view { seat.new.me.0 ≡ taking seat.old.me.0 place }
+    ensures view { seat.new.me.0 ≡ taking seat.old.me.0 (own_lane_place seat.old.me.0) }
 {
     words.compare_exchange::<TakeOwnLane>(seat, place, LANE_FREE, LANE_TAKEN);
 }
@@ -73,10 +77,11 @@ fn finish_lane<A: Monoid, B: Monoid>(
     requires live { seat.old.me.0.live ≡ true }
     requires no_slot { seat.old.me.1 ≡ [] }
     requires taken { HasTakenLane seat.old.me.0 }
-    requires own { place ≡ own_lane_place seat.old.me.0 }
+    requires exists { own_lane_place seat.old.me.0 < word_count seat.old.me.0.shape }
+    requires own { place ≡ seat.old.me.0.base + own_lane_place seat.old.me.0 }
     ensures table { seat.new.table_id ≡ seat.old.table_id }
     ensures no_slot { seat.new.me.1 ≡ [] }
-    ensures view { seat.new.me.0 ≡ finishing seat.old.me.0 place }
+    ensures view { seat.new.me.0 ≡ finishing seat.old.me.0 (own_lane_place seat.old.me.0) }
 {
     words.store::<FinishOwnLane>(seat, place, LANE_ENDED);
 }
@@ -99,11 +104,20 @@ impl<A: Monoid, B: Monoid> Lead<A, B> {
         self.root
     }
 
+    // The root's word in the part that the lead works in, by that of lane 0 in each part.
+    pub(crate) fn root_word(&self, lanes: usize) -> usize
+        requires { lanes ≡ lane_place self.now.view.shape 0 }
+        ensures value { result ≡ self.now.view.base + root_place self.now.view.shape }
+        ensures inside { result < self.now.table.words }
+    {
+        self.base + lanes - 1
+    }
+
     // Loads the root's word: the lead then knows all that was published, and all that a pass or a note that it took in knew.
     fn load_root(&mut self, words: &SharedWords<A, B>, root: usize) -> u64
         requires table { self.old.table ≡ words.now.table_id }
         requires inside { root < words.now.table_id.words }
-        requires root { root ≡ root_place self.old.view.shape }
+        requires root { root ≡ self.old.view.base + root_place self.old.view.shape }
         ensures table { self.new.table ≡ self.old.table }
         ensures view { Surveys (face A.parts B.parts) self.old.view (root_place self.old.view.shape) result self.new.view }
     {
@@ -119,7 +133,8 @@ impl<A: Monoid, B: Monoid> Lead<A, B> {
         ensures table { self.new.table ≡ self.old.table }
         ensures surveys { Surveys (face A.parts B.parts) self.old.view (root_place self.old.view.shape) result self.new.view }
     {
-        self.load_root(&words.table.shared, words.lanes - 1)
+        let root = self.root_word(words.lanes);
+        self.load_root(&words.table.shared, root)
     }
 
     /// Loads one of the five words of a record that the lead has seen, as a pass does.
@@ -130,9 +145,11 @@ impl<A: Monoid, B: Monoid> Lead<A, B> {
         ensures table { self.new.table ≡ self.old.table }
         ensures view { LoadsRecordWord self.old.view number (field_offset field) result self.new.view }
     {
-        let seat = &mut self.seat;
-        let place = record_word(words.records, number, field.offset());
-        words.table.shared.load::<LoadAnyRecord>(seat, place)
+        let place = record_word(self.base + words.records, number, field.offset());
+        words
+            .table
+            .shared
+            .load::<LoadAnyRecord>(&mut self.seat, place)
     }
 
     /// Makes a pass with the next lane: loads the root, splits off a seat that knows what the lead knows after that load, and
@@ -144,14 +161,17 @@ impl<A: Monoid, B: Monoid> Lead<A, B> {
         ensures pass_table { result.table ≡ self.old.table }
         ensures hands_out { HandsLaneOut (face A.parts B.parts) self.old.view self.new.view result.view }
     {
-        self.load_root(&words.table.shared, words.lanes - 1);
+        let root = self.root_word(words.lanes);
+        self.load_root(&words.table.shared, root);
         let mut seat = words.table.shared.split_seat::<HandOut>(&mut self.seat);
         let lane = self.next;
         self.next += 1;
-        take_lane(&words.table.shared, &mut seat, words.lanes + lane as usize);
+        let place = self.base + words.lanes + lane as usize;
+        take_lane(&words.table.shared, &mut seat, place);
         words.pass(WordHalf {
             seat,
             lane,
+            base: self.base,
             sums: PhantomData,
         })
     }
@@ -167,11 +187,13 @@ impl<A: Monoid, B: Monoid> Lead<A, B> {
             mut seat,
             words,
             lane,
+            base,
             lanes,
             records: _,
         } = pass;
+        let root = self.root_word(lanes - base);
         finish_lane(words, &mut seat, lanes + lane as usize);
         words.join_seat::<TakeBack>(&mut self.seat, seat);
-        self.load_root(words, lanes - 1);
+        self.load_root(words, root);
     }
 }

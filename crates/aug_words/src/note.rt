@@ -1,5 +1,5 @@
 //! What a pass or a lead has seen, for another to take in.
-ghost use Rattle.std.specs.Prelude.{◌≡◌, ◌<◌, ℕ, IfSome};
+ghost use Rattle.std.specs.Prelude.{◌≡◌, ◌+◌, ◌<◌, ℕ, IfSome};
 ghost use Rattle.aug_core.specs.Faces.{face};
 ghost use Rattle.aug_core.specs.Addresses.{root_place};
 ghost use Rattle.aug_core.specs.Pasts.{IsLearnt};
@@ -101,18 +101,19 @@ impl<A: Monoid, B: Monoid> Lead<A, B> {
         ensures learns { (found : ℕ) × LearnsNote (face A.parts B.parts) self.old.view note.view found self.new.view }
     {
         let WordNote { seat } = note;
+        let root = self.root_word(words.lanes);
         words
             .table
             .shared
             .join_seat::<TakeNote>(&mut self.seat, seat);
-        self.load_after_note(&words.table.shared, words.lanes - 1);
+        self.load_after_note(&words.table.shared, root);
     }
 
     // Loads the root's word after a note was taken in.
     fn load_after_note(&mut self, words: &SharedWords<A, B>, root: usize)
         requires table { self.old.table ≡ words.now.table_id }
         requires inside { root < words.now.table_id.words }
-        requires root { root ≡ root_place self.old.view.shape }
+        requires root { root ≡ self.old.view.base + root_place self.old.view.shape }
         ensures table { self.new.table ≡ self.old.table }
         ensures view { (found : ℕ) × LoadsNode (face A.parts B.parts) self.old.view (root_place self.old.view.shape) found self.new.view }
         ensures told { IfSome self.old.view.told (IsLearnt self.old.view.shape self.old.view.era self.old.view.past self.old.view.members) }

@@ -24,9 +24,9 @@ pub struct WordPass<'r, A: Monoid, B: Monoid> {
     pub(crate) seat: Seat<(), SeatView>,
     pub(crate) words: &'r SharedWords<A, B>,
     pub(crate) lane: u32,
-    // The word of lane 0.
+    // The first word of the part of the table that it works in, the word of lane 0 there, and the first word of record 0.
+    pub(crate) base: usize,
     pub(crate) lanes: usize,
-    // The first word of record 0.
     pub(crate) records: usize,
 }
 
@@ -39,7 +39,7 @@ impl<'r, A: Monoid, B: Monoid> Model for WordPass<'r, A, B> {
 
     ghost view = { λ p. record { table = p.seat.table_id; view = p.seat.me.0 } };
 
-    ghost invariant = { λ p. SitsAt p.seat.table_id p.words.now.table_id p.lanes p.records p.seat.me.0.shape × IsPassSeat (face A.parts B.parts) p.lane p.seat.me };
+    ghost invariant = { λ p. SitsAt p.seat.table_id p.words.now.table_id p.base p.lanes p.records p.seat.me.0 × IsPassSeat (face A.parts B.parts) p.lane p.seat.me };
 }
 
 // The place of a word of a record.
@@ -68,7 +68,8 @@ impl<'r, A: Monoid, B: Monoid> WordPass<'r, A, B> {
         ensures table { self.new.table ≡ self.old.table }
         ensures view { LoadsLeaf (face A.parts B.parts) self.old.view leaf result self.new.view }
     {
-        self.words.load::<LoadAnyLeaf<A, B>>(&mut self.seat, leaf)
+        self.words
+            .load::<LoadAnyLeaf<A, B>>(&mut self.seat, self.base + leaf)
     }
 
     /// Loads a leaf's word as the first step of an update. From then on the view says in what state that update began.
@@ -77,7 +78,8 @@ impl<'r, A: Monoid, B: Monoid> WordPass<'r, A, B> {
         ensures table { self.new.table ≡ self.old.table }
         ensures view { BeginsAtLeaf (face A.parts B.parts) self.old.view leaf result self.new.view }
     {
-        self.words.load::<BeginAtLeaf<A, B>>(&mut self.seat, leaf)
+        self.words
+            .load::<BeginAtLeaf<A, B>>(&mut self.seat, self.base + leaf)
     }
 
     /// Replaces a leaf's word by a new one, if the leaf still has the word that it was known to have. True if it did: then the
@@ -89,9 +91,10 @@ impl<'r, A: Monoid, B: Monoid> WordPass<'r, A, B> {
         ensures table { self.new.table ≡ self.old.table }
         ensures view { TriedLeaf (face A.parts B.parts) self.old.view leaf old new result self.new.view }
     {
+        let place = self.base + leaf;
         let found = self
             .words
-            .compare_exchange::<TryAnyLeaf<A, B>>(&mut self.seat, leaf, old, new);
+            .compare_exchange::<TryAnyLeaf<A, B>>(&mut self.seat, place, old, new);
         found == old
     }
 
@@ -101,7 +104,8 @@ impl<'r, A: Monoid, B: Monoid> WordPass<'r, A, B> {
         ensures table { self.new.table ≡ self.old.table }
         ensures view { LoadsNode (face A.parts B.parts) self.old.view node result self.new.view }
     {
-        self.words.load::<LoadAnyNode<A, B>>(&mut self.seat, node)
+        self.words
+            .load::<LoadAnyNode<A, B>>(&mut self.seat, self.base + node)
     }
 
     /// Replaces a node's record by one of the pass's own, if the node still has the record that is given. True if it did: then
@@ -113,9 +117,10 @@ impl<'r, A: Monoid, B: Monoid> WordPass<'r, A, B> {
         ensures table { self.new.table ≡ self.old.table }
         ensures view { TriedNode (face A.parts B.parts) self.old.view node from number result self.new.view }
     {
+        let place = self.base + node;
         let found = self
             .words
-            .compare_exchange::<TryAnyNode<A, B>>(&mut self.seat, node, from, number);
+            .compare_exchange::<TryAnyNode<A, B>>(&mut self.seat, place, from, number);
         found == from
     }
 

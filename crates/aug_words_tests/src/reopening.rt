@@ -103,37 +103,15 @@ fn reopens(
 }
 
 #[test]
-fn a_table_of_1_bit_is_opened_again(rt: HostRuntime) -> Result<(), AllocError> {
-    reopens(&rt, rt.alloc(), 1, 2, &[], &[(0, 7), (1, 8)])?;
-    reopens(&rt, rt.alloc(), 1, 2, &[(0, 7), (1, 8)], &[])
-}
-
-// The same weight again, another one, a key that went and one that came.
-#[test]
-fn a_table_of_2_bits_is_opened_again(rt: HostRuntime) -> Result<(), AllocError> {
-    reopens(
-        &rt,
-        rt.alloc(),
-        2,
-        4,
-        &[(0, 5), (1, 5), (2, 0)],
-        &[(0, 5), (1, 6), (3, u32::MAX)],
-    )
-}
-
-#[test]
-fn a_table_of_3_bits_is_opened_again(rt: HostRuntime) -> Result<(), AllocError> {
-    reopens(&rt, rt.alloc(), 3, 8, &[(3, 3), (4, 4)], &[(0, 1), (7, 2)])
-}
-
-#[test]
-fn a_table_of_5_bits_is_opened_again(rt: HostRuntime) -> Result<(), AllocError> {
-    reopens(
-        &rt,
-        rt.alloc(),
-        5,
-        32,
-        &[(0, 1), (31, 2)],
-        &[(0, 1), (15, 9), (16, 0)],
-    )
+fn tables_of_1_to_5_bits_are_opened_again(rt: HostRuntime) -> Result<(), AllocError> {
+    let (r, alloc) = (&rt, rt.alloc());
+    let both = [(0, 7), (1, 8)];
+    reopens(r, alloc, 1, 2, &[], &both)?;
+    reopens(r, alloc, 1, 2, &both, &[])?;
+    // The same weight again, another one, a key that went and one that came.
+    let (three, others) = ([(0, 5), (1, 5), (2, 0)], [(0, 5), (1, 6), (3, u32::MAX)]);
+    reopens(r, alloc, 2, 4, &three, &others)?;
+    reopens(r, alloc, 3, 8, &[(3, 3), (4, 4)], &[(0, 1), (7, 2)])?;
+    let (ends, halves) = ([(0, 1), (31, 2)], [(0, 1), (15, 9), (16, 0)]);
+    reopens(r, alloc, 5, 32, &ends, &halves)
 }

@@ -124,33 +124,21 @@ fn play<A: Monoid, B: Monoid>(
     })
 }
 
-// What two passes did, and the words at rest.
-#[derive(Drop)]
-struct Outcome {
-    lanes: [u32; 2],
-    handed: u32,
-    played: Option<Played>,
-    rest: Rest,
-}
+// The lanes of two passes and how many were handed out, what the passes did, and the words at rest.
+type Raced = (([u32; 2], u32), Option<Played>, Rest);
 
 // Two passes play on a table of one bit, two workers and one update.
-fn race(alloc: Global) -> Result<Outcome, AllocError>
-    ensures { IfOk result (λ done. done.rest.shape ≡ shape_of 1 2 1 0) }
+fn race(alloc: Global) -> Result<Raced, AllocError>
+    ensures { IfOk result (λ done. done.2.shape ≡ shape_of 1 2 1 0) }
 {
     let (words, mut lead) = table_of(alloc, 1, 2, 1, 0, &[])?;
     let mut first = next_pass(&mut lead, &words, 0, 1);
     let mut second = next_pass(&mut lead, &words, 1, 2);
-    let lanes = [first.lane(), second.lane()];
-    let handed = lead.handed();
+    let lanes = ([first.lane(), second.lane()], lead.handed());
     let played = play(&mut first, &mut second);
     join(&mut lead, &words, first);
     join(&mut lead, &words, second);
-    Ok(Outcome {
-        lanes,
-        handed,
-        played,
-        rest: words.close(lead),
-    })
+    Ok((lanes, played, words.close(lead)))
 }
 
 const LEAVES: &[(u32, u64)] = &[(0, 4_294_967_296), (1, 4_294_967_297)];
@@ -165,13 +153,13 @@ const RECORDS: &[(u64, [u64; 5])] = &[
 #[test]
 fn a_record_is_filled_again_after_a_lost_exchange(rt: HostRuntime) -> Result<(), AllocError> {
     let done = race(rt.alloc())?;
-    equal(&rt, (done.lanes, done.handed), ([0, 1], 2));
-    let played = done.played.expect(&rt, "a lost exchange");
+    equal(&rt, done.0, ([0, 1], 2));
+    let played = done.1.expect(&rt, "a lost exchange");
     equal(&rt, played.inserted, [true, true]);
     equal(&rt, played.loaded, [0, 0, 1]);
     equal(&rt, played.published, [true, false, true]);
-    assert_leaves(&rt, &done.rest, 1, LEAVES);
-    assert_nodes(&rt, &done.rest, 1, NODES);
-    assert_records(&rt, &done.rest, 3, RECORDS);
+    assert_leaves(&rt, &done.2, 1, LEAVES);
+    assert_nodes(&rt, &done.2, 1, NODES);
+    assert_records(&rt, &done.2, 3, RECORDS);
     Ok(())
 }

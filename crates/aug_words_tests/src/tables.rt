@@ -129,8 +129,3 @@ pub(super) fn assert_records(rt: &impl Abort, rest: &Rest, count: u64, records: 
         equal(rt, (number, record_at(rest, number)), (number, *words));
     }
 }
-
-// The number of the root's record that a lead knows.
-pub(super) fn root_of(lead: &Lead<Sum, Extent>) -> u64 {
-    lead.root()
-}

@@ -41,13 +41,14 @@ pub(super) fn next_half(
     next_pass(lead, words, lane, number).into_half()
 }
 
-// Takes a half of the table back.
-pub(super) fn take_back(lead: &mut Lead<Sum, Extent>, words: &WordsOf, half: WordHalf<Sum, Extent>)
+// Takes the half of a worker back: what it read.
+pub(super) fn take_back(lead: &mut Lead<Sum, Extent>, words: &WordsOf, filled: Filled) -> [u64; 5]
     requires together { AreTogether words.now lead.old }
-    requires half { AreTogether words.now half }
+    requires half { AreTogether words.now filled.half }
     ensures { AreTogether words.now lead.new }
 {
-    join(lead, words, words.pass(half));
+    join(lead, words, words.pass(filled.half));
+    filled.words
 }
 
 // Stores one word of a record of the pass.
@@ -116,63 +117,35 @@ fn work_of_two<R: Threads + Wait + Sync>(
     )
 }
 
-// The work of three halves in three threads.
-fn work_of_three<R: Threads + Wait + Sync>(
+// Hands three lanes out, and takes them back once their records were filled: what was read of these, and the words at rest.
+fn three<R: Threads + Wait + Sync>(
     rt: &R,
-    words: &WordsOf,
-    first: WordHalf<Sum, Extent>,
-    second: WordHalf<Sum, Extent>,
-    third: WordHalf<Sum, Extent>,
-) -> (Filled, (Filled, Filled))
-    requires first { AreTogether words.now first × MayStore first.view 5 }
-    requires second { AreTogether words.now second × MayStore second.view 9 }
-    requires third { AreTogether words.now third × MayStore third.view 14 }
-    ensures one { AreTogether words.now result.0.half }
-    ensures two { AreTogether words.now result.1.0.half }
-    ensures other { AreTogether words.now result.1.1.half }
-{
-    thread::join(
-        rt,
-        move ||
-            requires { AreTogether words.now first × MayStore first.view 5 }
-            ensures { AreTogether words.entry.now result.half }
-        { work(words, first, 5, 10) },
-        move ||
-            requires together { AreTogether words.now second × AreTogether words.now third }
-            requires numbers { MayStore second.view 9 × MayStore third.view 14 }
-            ensures one { AreTogether words.entry.now result.0.half }
-            ensures other { AreTogether words.entry.now result.1.half }
-        { work_of_two(rt, words, second, third) },
-    )
-}
-
-// What three workers read of their records, and the words at rest.
-#[derive(Drop)]
-struct Outcome {
-    read: [[u64; 5]; 3],
-    rest: Rest,
-}
-
-// Hands three lanes out, and takes them back once their records were filled.
-fn three<R: Threads + Wait + Sync>(rt: &R, alloc: Global) -> Result<Outcome, AllocError>
-    ensures { IfOk result (λ done. done.rest.shape ≡ shape_of 2 3 2 2) }
+    alloc: Global,
+) -> Result<([[u64; 5]; 3], Rest), AllocError>
+    ensures { IfOk result (λ done. done.1.shape ≡ shape_of 2 3 2 2) }
 {
     let (words, mut lead) = small(alloc)?;
     let first = next_half(&mut lead, &words, 0, 5);
     let second = next_half(&mut lead, &words, 1, 9);
     let third = next_half(&mut lead, &words, 2, 14);
-    let (one, (two, other)) = work_of_three(rt, &words, first, second, third);
-    let Filled { half, words: one } = one;
-    take_back(&mut lead, &words, half);
-    let Filled { half, words: two } = two;
-    take_back(&mut lead, &words, half);
-    let Filled { half, words: other } = other;
-    take_back(&mut lead, &words, half);
-    let read = [one, two, other];
-    Ok(Outcome {
-        read,
-        rest: words.close(lead),
-    })
+    let w = &words;
+    let (one, (two, other)) = thread::join(
+        rt,
+        move ||
+            requires { AreTogether w.now first × MayStore first.view 5 }
+            ensures { AreTogether w.entry.now result.half }
+        { work(w, first, 5, 10) },
+        move ||
+            requires together { AreTogether w.now second × AreTogether w.now third }
+            requires numbers { MayStore second.view 9 × MayStore third.view 14 }
+            ensures one { AreTogether w.entry.now result.0.half }
+            ensures other { AreTogether w.entry.now result.1.half }
+        { work_of_two(rt, w, second, third) },
+    );
+    let one = take_back(&mut lead, &words, one);
+    let two = take_back(&mut lead, &words, two);
+    let other = take_back(&mut lead, &words, other);
+    Ok(([one, two, other], words.close(lead)))
 }
 
 const RECORDS: &[(u64, [u64; 5])] = &[
@@ -184,12 +157,7 @@ const RECORDS: &[(u64, [u64; 5])] = &[
 #[test]
 fn three_passes_fill_their_records(rt: HostRuntime) -> Result<(), AllocError> {
     let done = three(&rt, rt.alloc())?;
-    let filled = [
-        [10, 11, 12, 13, 14],
-        [20, 21, 22, 23, 24],
-        [30, 31, 32, 33, 34],
-    ];
-    equal(&rt, done.read, filled);
-    assert_records(&rt, &done.rest, 15, RECORDS);
+    equal(&rt, done.0, [RECORDS[0].1, RECORDS[1].1, RECORDS[2].1]);
+    assert_records(&rt, &done.1, 15, RECORDS);
     Ok(())
 }

@@ -118,9 +118,7 @@ fn misses<'l>(rt: &impl Abort, end: End<'l>) -> End<'l> {
 
 // Tries to take the count, while no other end has it, and puts it back with one more.
 fn raises<'l>(rt: &impl Abort, end: End<'l>, count: u64) -> End<'l> {
-    let Ok(held) = end.try_take() else {
-        panic!(rt; "not taken, while it was there");
-    };
+    let held = end.try_take().ok().expect(rt, "the count");
     equal(rt, held.count, count);
     held.put()
 }
@@ -137,9 +135,7 @@ fn a_try_takes_the_value_unless_it_is_out(rt: HostRuntime) -> Result<(), AllocEr
     let one = held.put();
     let other = raises(&rt, other, 9);
     let one = raises(&rt, one, 10);
-    let Ok(held) = third.try_take() else {
-        panic!(&rt; "not taken, while it was there");
-    };
+    let held = third.try_take().ok().expect(&rt, "the count");
     drop((misses(&rt, one), misses(&rt, other)));
     let held = held.put().take(&rt);
     equal(&rt, held.count, 12);

@@ -1,12 +1,14 @@
 -- What the fields of a table, of a lead and of a pass keep.
-use Rattle.std.specs.Prelude.{◌≡◌, ℕ, ◌<◌, true, false, Some, List, [], length}
+use Rattle.std.specs.Prelude.{◌≡◌, ℕ, ◌+◌, ◌^◌, ◌<◌, ◌≤◌, true, false, Some, List, [], length}
 use Rattle.atomic_table.specs.Seated.{TableId}
 use Rattle.aug_core.specs.Places.{Shape, lane_place, record_start, word_count}
 use Rattle.aug_core.specs.Layout.{IsLayout}
 use Rattle.aug_core.specs.Lanes.{block_size}
 use Rattle.aug_core.specs.Book.{At}
-use Rattle.aug_core.specs.Opening.{Opening, shared_words}
+use Rattle.aug_core.specs.Opening.{shared_words}
 use Rattle.aug_core.specs.Effects.{Sat, HoldsOnly, KnowsTable}
+use Rattle.aug_core.specs.Eras.{table_part}
+use Rattle.aug_core.specs.declared.opening.TableKey.{TableKey}
 use Rattle.aug_core.specs.declared.view.Entry.{Entry}
 use Rattle.aug_core.specs.declared.view.Held.{Held}
 use Rattle.aug_core.specs.declared.view.SeatView.{SeatView}
@@ -14,21 +16,28 @@ use Rattle.aug_core.specs.declared.view.LaneState.TheVariants.{Taken}
 use Rattle.aug_words.specs.Seats.{NamesRoot}
 use Rattle.aug_words.specs.inside.Builds.{AreWords}
 
--- what a table's fields keep: it was made with this layout, and its lanes and records begin at these words
-pub record IsStore (table : TableId) (made : Opening) (layout : Shape) (lanes records : ℕ) : Type 0 where
+-- what a table's fields keep: it was made with this layout, of which one part or more has room there, and in each part lanes and records begin at these words
+pub record IsStore (table : TableId) (made : TableKey) (layout : Shape) (lanes records : ℕ) : Type 0 where
   pub laid_out : IsLayout layout
-  pub one_shape : made.shape ≡ layout
-  pub wide : table.words ≡ word_count layout
+  pub one_shape : made.opening.shape ≡ layout
+  pub wide : word_count layout ≤ table.words
+  pub few : table.words < 2 ^ 60
   pub no_slots : table.slots ≡ 0
   pub lanes_are : lanes ≡ lane_place layout 0
   pub records_are : records ≡ record_start layout 0
 
--- a seat sits at its table, whose lanes and records begin at these words
-pub record SitsAt (seat_table table : TableId) (lanes records : ℕ) (s : Shape) : Type 0 where
+-- a seat works in the part of its table that begins at this word
+pub record IsPlaced (table : TableId) (base : ℕ) (v : SeatView) : Type 0 where
+  pub base_is : base ≡ v.base
+  pub wide : v.base + word_count v.shape ≤ table.words
+  pub few : table.words < 2 ^ 60
+
+-- a seat sits at its table, in whose part lanes and records begin at these words
+pub record SitsAt (seat_table table : TableId) (base lanes records : ℕ) (v : SeatView) : Type 0 where
   pub seated : seat_table ≡ table
-  pub wide : table.words ≡ word_count s
-  pub lanes_are : lanes ≡ lane_place s 0
-  pub records_are : records ≡ record_start s 0
+  pub placed : IsPlaced table base v
+  pub lanes_are : lanes ≡ v.base + lane_place v.shape 0
+  pub records_are : records ≡ v.base + record_start v.shape 0
 
 -- the leaf has reached the serial
 pub record HasReached (v : SeatView) (key serial : ℕ) : Type 0 where
@@ -63,9 +72,13 @@ module _ (face : ℕ → ℕ → List (ℕ × ℕ) → List ℕ) where
     pub knows : KnowsTable face me.0
     pub names_root : NamesRoot me.0 root
 
-  -- what holds for the seat of a lead at rest: it renews the table, and knows all words, in which each level has its shared record
-  pub record IsIdleSeat (me : Sat) : Type 0 where
+  -- what holds for a lead: it works in a part of its table, and has all words beside that
+  abbrev pub IsLead : TableId → ℕ → ℕ → ℕ → Sat → Type 0
+  IsLead table base next root me = IsPlaced table base me.0 × IsLeadSeat next root me × (length me.0.whole ≡ table.words)
+
+  -- what holds for the seat of a lead at rest: it renews the table, and knows all words; in the part that was at work last each level has its shared record
+  pub record IsIdleSeat (table : TableId) (me : Sat) : Type 0 where
     pub renews : me.0.renews ≡ true
     pub no_slot : me.1 ≡ []
-    pub wide : length me.0.words ≡ word_count me.0.shape
-    pub shared : (level : ℕ) → level < me.0.shape.bits → AreWords me.0.words (record_start me.0.shape level) (shared_words face level)
+    pub long : length me.0.whole ≡ table.words
+    pub shared : (level : ℕ) → level < me.0.shape.bits → AreWords (table_part me.0.base (word_count me.0.shape) me.0.whole) (record_start me.0.shape level) (shared_words face level)

@@ -1,6 +1,5 @@
-use Rattle.std.proofs.Common.{◌≡◌, ◌∙◌, ◌++◌, List, length, map, take, drop, min, ap, refl, sym, rules}
+use Rattle.std.proofs.Common.{◌≡◌, ◌∙◌, ◌++◌, List, length, map, take, drop, min, ap, sym, rules}
 use Rattle.std.proofs.lemmas.List.{length-map}
-use Rattle.aug_model.specs.declared.difference.Difference.{Difference}
 use Rattle.aug_live.specs.LiveHandles.{set_before, set_of_look}
 use Rattle.aug_c.specs.ChangeCalls.{change_of, page_from}
 use Rattle.aug_c.specs.declared.changes.WeightChange.{WeightChange}

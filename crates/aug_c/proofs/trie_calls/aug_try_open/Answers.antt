@@ -1,4 +1,4 @@
-use Rattle.std.proofs.Common.{rules, refl}
+use Rattle.std.proofs.Common.{rules}
 use Rattle.aug_core.specs.Layout.{IsWithin}
 use Rattle.aug_c.specs.declared.state.Opened.{Opened}
 use Rattle.aug_c.specs.Handles.{state_in}

@@ -1,4 +1,4 @@
-use Rattle.std.proofs.Common.{Option, unwrap_or, ℕ, ◌+◌, ◌^◌, ◌<◌, List, [], ◌∷◌, ◌++◌, length, refl, sym, subst, ap, ◌∙◌, arith, inl, inr, length-append}
+use Rattle.std.proofs.Common.{ℕ, ◌+◌, ◌-◌, ◌^◌, ◌<◌, ◌≤◌, rules, List, [], ◌∷◌, ◌++◌, length, refl, sym, subst, ap, ◌∙◌, arith, inl, inr, length-append}
 use Rattle.std.proofs.lemmas.Bool.{cases_lt}
 use Rattle.std.proofs.lemmas.List.{get_or_push, get_or_append_left, map-append}
 use Rattle.std.proofs.lemmas.List.Elements.{All-push, All-weaker}
@@ -6,10 +6,9 @@ use Rattle.std.specs.List.{All}
 use Rattle.std.specs.List.Sorted.{IsStrictlyIncreasing}
 use Rattle.aug_model.specs.Keys.{IsKeySet, keys_of}
 use Rattle.aug_monoid.specs.Weighted.{FitsPair}
-use Rattle.aug_model.proofs.Pairs.{weight_fits}
 use Rattle.aug_query.proofs.Nodes.{wrapped_universe}
 use Rattle.aug_query_tests.proofs.agreeing.tree_of.Goals as goal
-use Rattle.aug_query_tests.proofs.agreeing.tree_of.Goals.{in-Some+in_ok-push, in_default}
+use Rattle.aug_query_tests.proofs.agreeing.tree_of.Goals.{then-is_in+in_ok-push, else-is_in}
 
 -- rising numbers rise still with a greater one at their end
 rises_push : (xs : List ℕ) (k : ℕ) → IsStrictlyIncreasing xs → All (λ x. x < k) xs → IsStrictlyIncreasing (xs ++ k ∷ [])
@@ -20,23 +19,22 @@ rises_push xs k rising below i h =
     ]
 
 pub loop-k-preserved : goal.loop-k-preserved
-loop-k-preserved c =
+loop-k-preserved g c =
     let k = c.loop-k.k in
     let inv = c.loop-k.invariant in
     let old = c.loop-k.list.items in
     let weaker = All-weaker (λ x. x < k) (λ x. x < k + 1) (λ x h. omega arith) (keys_of old) inv.below in
-    elim c.match-weight.branch [
-      | in-Some+in_ok-push w ↦
+    elim c.if-is_in.branch [
+      | then-is_in+in_ok-push w ↦
           let items = ap (λ v. v.items) w.list-is ∙ w.in_ok-push.ensures.items in
-          let keys = ap keys_of items ∙ map-append (λ p. p.0) old ((k, w.in-Some.weight) ∷ []) in
-          let known = ap (λ (o : Option ℕ). unwrap_or o 0) w.in-Some.ensures in
-          let fits : FitsPair (k, w.in-Some.weight) = (omega (arith, c.loop-k-test.true), omega (arith, known, weight_fits c.args.set.now.pairs k c.bits-bits.ensures.fit)) in
+          let keys = ap keys_of items ∙ map-append (λ p. p.0) old ((k, 4294967295 - k) ∷ []) in
+          let fits : FitsPair (k, 4294967295 - k) = (omega (arith, c.loop-k-test.true), omega arith) in
           record {
             rising = subst IsStrictlyIncreasing (sym keys) (rises_push (keys_of old) k inv.rising inv.below);
             below = subst (All (λ x. x < k + 1)) (sym keys) (All-push (λ x. x < k + 1) (keys_of old) k weaker (omega arith));
-            fit = subst (All FitsPair) (sym items) (All-push FitsPair old (k, w.in-Some.weight) inv.fit fits);
+            fit = subst (All FitsPair) (sym items) (All-push FitsPair old (k, 4294967295 - k) inv.fit fits);
           }
-      | in_default w ↦
+      | else-is_in w ↦
           let items = ap (λ v. v.items) w.list-is in
           let keys = ap keys_of items in
           record {
@@ -47,8 +45,9 @@ loop-k-preserved c =
     ]
 
 pub try_new-requires-clause-keys : goal.try_new-requires-clause-keys
-try_new-requires-clause-keys c =
+try_new-requires-clause-keys g c =
     let inv = c.loop-k.invariant in
-    let width = wrapped_universe c.bits-bits.result c.bits-bits.result refl (omega (arith, c.bits-bits.ensures.value, c.bits-bits.ensures.at_most)) in
-    let below = All-weaker (λ x. x < c.loop-k.k) (λ x. x < 2 ^ c.bits-bits.result) (λ x h. omega (arith, h, width)) (keys_of c.loop-k.list.items) inv.below in
-    subst (λ ps. IsKeySet c.bits-bits.result (keys_of ps)) (sym c.deref.ensures.value) (record { rising = inv.rising; below = below })
+    let few : c.args.bits ≤ 16 = search rules in
+    let width = wrapped_universe c.args.bits c.args.bits refl few in
+    let below = All-weaker (λ x. x < c.loop-k.k) (λ x. x < 2 ^ c.args.bits) (λ x h. omega (arith, h, width, c.loop-k.auto.k-end)) (keys_of c.loop-k.list.items) inv.below in
+    subst (λ ps. IsKeySet c.args.bits (keys_of ps)) (sym c.deref.ensures.value) (record { rising = inv.rising; below = below })

@@ -1,10 +1,32 @@
-use Rattle.std.proofs.Common.{◌∙◌, ap, sym, subst}
-use Rattle.aug_live.specs.inside.LaneKnowledge.{EndFacts, LaneFacts, given_out, renumbered}
+use Rattle.std.proofs.Common.{◌≡◌, ◌∙◌, ◌<◌, ap, sym, subst, arith, rules}
+use Rattle.ruled_lock.specs.Locks.{client_of}
+use Rattle.aug_live.specs.inside.LaneKnowledge.{EndFacts, KnownFacts, LaneFacts, Learnt, given_out, renumbered}
 use Rattle.aug_live.specs.inside.Rolls.{GetsHandle}
-use Rattle.aug_live.proofs.Dealing.{gets}
+use Rattle.aug_live.proofs.Dealing.{gets, port_rolls, whole_on}
+use Rattle.aug_live.proofs.Tied.{forks, put_back, roller_renumbers, rolls_on, turn_by}
 use Rattle.aug_live.proofs.end.End.renew.Goals as goal
 
+pub put-requires-clause-holds : goal.put-requires-clause-holds
+put-requires-clause-holds g c =
+    let own = c.args.self.now.known in let lane : LaneFacts = c.in-Ok.lane in let new : LaneFacts = c.working-lane.result in let made = c.working-lane.ensures in
+    let was : client_of c.self.inside.key ≡ own = ap (λ (z : EndFacts). z.known) c.self.view_is in let roller = port_rolls own.whose c.requires.of_round.whose in
+    let knows = rolls_on own lane (subst (λ (z : KnownFacts). Learnt z lane) was c.in-Ok.ensures.fact) roller c.requires.some in
+    let number = ap (λ (z : LaneFacts). z.number) made in let same_number = knows.number in let newer : lane.number < new.number = omega (arith, number, same_number, c.requires.newer) in
+    let era : new.at.era ≡ lane.at.era = search rules in let begun : 0 < new.at.era = subst (λ n. 0 < n) (sym (era ∙ knows.era)) c.requires.some in
+    let whole = whole_on own lane.at new.at era (search rules) knows.whole in (
+      lane,
+      c.in-Ok.ensures.holds,
+      turn_by (λ v _ new. renumbered v new) _ _ own lane new (c.take.ensures.view ∙ was) (λ views ties at. roller_renumbers _ own lane new views ties at roller newer (ap (λ (z : LaneFacts). z.is_out) made) begun whole),
+    )
+
+pub another-key-requires-clause-rule : goal.another-key-requires-clause-rule
+another-key-requires-clause-rule g c =
+    let new : LaneFacts = c.working-lane.result in let is = put_back (client_of c.put.new.key) (λ _. renumbered (client_of c.take.new.key) new) c.take.new.key.me.0.taken c.in-Ok.lane c.in-Ok.ensures.holds.0 c.put.ensures.then in
+    forks _ _ (ap (λ (z : KnownFacts). z.whose) is) (subst (λ (z : KnownFacts). 0 < z.at.era) (sym is) (search rules))
+
 pub returns-in-Ok-clause-gets : goal.returns-in-Ok-clause-gets
-returns-in-Ok-clause-gets g c = let out = c.in-Ok in
-    subst (GetsHandle c.args.number c.args.self) (sym (c.fork.ensures.0 ∙ ap (λ (e : EndFacts). record e { known = given_out e.known }) (c.renumber.ensures ∙ (λ i. record { lock = out.ensures.lock i; known = renumbered (out.ensures.known i) c.working-lane.result }))))
-    (gets c.args.self.lock c.args.number c.args.self.known c.working-lane.result (ap (λ (z : LaneFacts). z.number) c.working-lane.ensures))
+returns-in-Ok-clause-gets g c =
+    let self : EndFacts = c.args.self.now in let new : LaneFacts = c.working-lane.result in let was : client_of c.self.inside.key ≡ self.known = ap (λ (z : EndFacts). z.known) c.self.view_is in
+    let is = put_back (client_of c.put.new.key) (λ _. renumbered (client_of c.take.new.key) new) c.take.new.key.me.0.taken c.in-Ok.lane c.in-Ok.ensures.holds.0 c.put.ensures.then in
+    let known = c.another-key.ensures.left ∙ ap given_out (is ∙ ap (λ (v : KnownFacts). renumbered v new) (c.take.ensures.view ∙ was)) in let lock = ap (λ (z : EndFacts). z.lock) c.self.view_is in
+    subst (GetsHandle c.args.number self) (λ i. record { lock = sym lock i; known = sym known i }) (gets self.lock c.args.number self.known new (ap (λ (z : LaneFacts). z.number) c.working-lane.ensures))

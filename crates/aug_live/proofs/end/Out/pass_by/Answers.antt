@@ -1,12 +1,7 @@
-use Rattle.std.proofs.Common.{◌≡◌, ◌∙◌, ap, sym}
-use Rattle.aug_live.specs.inside.LaneKnowledge.{OutFacts, taken_by}
-use Rattle.aug_live.proofs.Tied.{passes_by, what_is}
+use Rattle.aug_live.specs.inside.LaneKnowledge.{passed_by}
+use Rattle.aug_live.proofs.Tied.{passes_by, turn_out}
 use Rattle.aug_live.proofs.end.Out.pass_by.Goals as goal
 
 pub put-requires-clause-holds : goal.put-requires-clause-holds
-put-requires-clause-holds g c = let o = c.self.inside.key.me.0.taken in let is = c.self.view_is in let taken : taken_by o ≡ _ = ap (λ (z : OutFacts). z.taken) is in (
-  taken_by o,
-  (what_is o _ c.self.invariant.1, c.self.invariant.2),
-  λ views ties at. passes_by _ _ (taken_by o) c.args.lane views ties at
-      (ap (λ (z : OutFacts). z.known.whose) is ∙ c.requires.handle) (λ e. c.requires.other (ap (λ (z : OutFacts). z.known.number) (sym is) ∙ e ∙ ap (λ (z : OutFacts). z.taken.number) is)) (c.requires.same ∙ sym taken),
-)
+put-requires-clause-holds g c = let out = c.args.self in
+    turn_out (λ v _ _. passed_by v) out c.args.lane c.self.view_is c.self.invariant.1 c.self.invariant.2 (λ views ties at. passes_by _ out.known out.taken c.args.lane views ties at c.requires.handle c.requires.other c.requires.same)

@@ -7,10 +7,10 @@ pub loop-init : goal.loop-init
 loop-init g c = (follows_self c.args.self.now, refl)
 
 pub loop-preserved : goal.loop-preserved
-loop-preserved g c = (follows_on c.args.self.now c.attempt.new.self c.wait_past.new.self (follows_on c.args.self.now c.loop.self c.attempt.new.self c.loop.invariant.0 c.in-Err.ensures.not_made) c.wait_past.ensures.follows, c.in-Err.ensures.kept ∙ c.loop.invariant.1)
+loop-preserved g c = (follows_on c.args.self.now c.attempt.new.self c.wait_to_refill.new.self (follows_on c.args.self.now c.loop.self c.attempt.new.self c.loop.invariant.0 c.in-Err.ensures.not_made) c.wait_to_refill.ensures.follows, c.in-Err.ensures.kept ∙ c.loop.invariant.1)
 
-pub returns-in-Err-wait_past-clause-not_made : goal.returns-in-Err-wait_past-clause-not_made
-returns-in-Err-wait_past-clause-not_made g c = follows_on c.args.self.now c.attempt.new.self c.wait_past.new.self (follows_on c.args.self.now c.loop.self c.attempt.new.self c.loop.invariant.0 c.in-Err.ensures.not_made) c.wait_past.ensures.follows
+pub returns-in-Err-wait_to_refill-clause-not_made : goal.returns-in-Err-wait_to_refill-clause-not_made
+returns-in-Err-wait_to_refill-clause-not_made g c = follows_on c.args.self.now c.attempt.new.self c.wait_to_refill.new.self (follows_on c.args.self.now c.loop.self c.attempt.new.self c.loop.invariant.0 c.in-Err.ensures.not_made) c.wait_to_refill.ensures.follows
 
 pub returns-in-Ok-clause-made : goal.returns-in-Ok-clause-made
 returns-in-Ok-clause-made g c = subst (λ (z : g.row.O.Denot). Runs (g.O.Operation.Does z c.attempt.new.op c.in-Ok.answer) c.args.self.now c.attempt.new.self) c.loop.invariant.1

@@ -31,6 +31,6 @@ returns-in-Ok-take_settled-clause-more g c = let own = c.args.self.now in let wa
 pub returns-in-Err-clause-more : goal.returns-in-Err-clause-more
 returns-in-Err-clause-more g c = knows_on_from c.args.self.now _ _ (c.another-key.ensures.left ∙ c.self.view_is) c.in-Err.ensures.free.1.more
 
-pub returns-in-Ok-take_settled-clause-past : goal.returns-in-Ok-take_settled-clause-past
-returns-in-Ok-take_settled-clause-past g c = let own = c.args.self.now in let was = c.in-Ok-take_settled.working in let now = c.give-given.new.self in
+pub returns-in-Ok-take_settled-clause-beyond : goal.returns-in-Ok-take_settled-clause-beyond
+returns-in-Ok-take_settled-clause-beyond g c = let own = c.args.self.now in let was = c.in-Ok-take_settled.working in let now = c.give-given.new.self in
     there c.give-given.result c.args.lane own now (knows_on_from own _ now (c.another-key.ensures.left ∙ c.self.view_is) (more_on _ was now c.in-Ok-take_settled.ensures.settled.0.more c.give-given.ensures.more)) c.give-given.ensures.of_trie

@@ -1,4 +1,4 @@
-use Rattle.std.proofs.Common.{arith, ap, subst, sym, ◌∙◌, ◌≡◌}
+use Rattle.std.proofs.Common.{ap, subst, sym, ◌∙◌, ◌≡◌}
 use Rattle.aug_core.specs.Faces.{face}
 use Rattle.aug_core.specs.Addresses.{root_place}
 use Rattle.std.specs.Prelude.{IfSome}
@@ -9,7 +9,7 @@ use Rattle.aug_core.specs.declared.view.SeatView.{SeatView}
 use Rattle.aug_core.proofs.Eras.{hands_out}
 use Rattle.aug_core.proofs.Notes.{learns_in_its_era}
 use Rattle.aug_words.specs.Seats.{Store, Known}
-use Rattle.aug_words.proofs.Leads.{some_words, lanes_at, learnt_note}
+use Rattle.aug_words.proofs.Leads.{some_words, lead_learnt, learnt_note}
 use Rattle.aug_words.proofs.lead.Lead.learn.Goals as goal
 
 pub join_seat-requires : goal.join_seat-requires
@@ -18,11 +18,12 @@ join_seat-requires g c = let here = c.requires.together.one_table ∙ ap (λ (s 
   ap (λ (k : Known). k.table) c.note.view_is ∙ c.requires.table ∙ here,
   c.note.invariant.no_slot,
   some_words _ _ _ _ _ c.words.invariant,
-  learns_in_its_era _ _ _ _ _ _ (hands_out c.self.inside.seat.me.0 c.self.inside.next c.self.invariant.hands_out) c.self.invariant.live c.note.invariant.live c.note.invariant.no_lane,
+  learns_in_its_era _ _ _ _ _ _ (hands_out c.self.inside.seat.me.0 c.self.inside.next c.self.invariant.1.hands_out) c.self.invariant.1.live c.note.invariant.live c.note.invariant.no_lane,
 )
 
-pub overflow_sub-words-inside : goal.overflow_sub-words-inside
-overflow_sub-words-inside g c = let at = lanes_at _ _ _ _ _ c.words.invariant in omega arith
+pub invariant_of-self : goal.invariant_of-self
+invariant_of-self g c = lead_learnt (face g.A.Monoid.parts g.B.Monoid.parts) _ _ c.self.inside.base c.self.inside.next c.self.inside.root c.self.inside.seat.me c.join_seat.new.seat.me c.self.invariant c.join_seat.ensures.0 c.note.inside.seat.me.0
+    (ap (λ (z : Sat). z.0) c.join_seat.ensures.2) (ap (λ (z : Sat). z.1) c.join_seat.ensures.2)
 
 pub returns-clause-learns : goal.returns-clause-learns
 returns-clause-learns g c = let m = g.A.Monoid in let n = g.B.Monoid in let f = face m.parts n.parts in

@@ -6,4 +6,4 @@ use Rattle.aug_words.proofs.Leads.{some_words}
 use Rattle.aug_words.proofs.lead.Lead.note.Goals as goal
 
 pub split_seat-seat-requires : goal.split_seat-seat-requires
-split_seat-seat-requires g c = (ap (λ (k : Known). k.table) c.self.view_is ∙ c.requires.one_table ∙ ap (λ (s : Store). s.table) (sym c.words.view_is), some_words _ _ _ _ _ c.words.invariant, notes_in_its_era _ _ _ _ (inl (hands_out c.self.inside.seat.me.0 c.self.inside.next c.self.invariant.hands_out)))
+split_seat-seat-requires g c = (ap (λ (k : Known). k.table) c.self.view_is ∙ c.requires.one_table ∙ ap (λ (s : Store). s.table) (sym c.words.view_is), some_words _ _ _ _ _ c.words.invariant, notes_in_its_era _ _ _ _ (inl (hands_out c.self.inside.seat.me.0 c.self.inside.next c.self.invariant.1.hands_out)))

@@ -1,4 +1,4 @@
-use Rattle.std.proofs.Common.{arith, ap, ap₂, sym, subst, ◌∙◌, ◌≡◌, ◌+◌, ◌*◌, ◌-◌, ◌/◌, ℕ, [], ◌∷◌, length}
+use Rattle.std.proofs.Common.{arith, ap, ap₂, sym, subst, ◌∙◌, ◌≡◌, ◌+◌, ◌*◌, ◌-◌, ◌/◌, ℕ, [], ◌∷◌, List, length, set}
 use Rattle.aug_model.specs.Keys.{keys_of}
 use Rattle.aug_model.specs.NodeKeys.{first_key}
 use Rattle.aug_model.specs.Queries.{rank_of}
@@ -10,14 +10,12 @@ use Rattle.aug_core.specs.Addresses.{IsInner, left_of, right_of, level_of, place
 use Rattle.aug_core.specs.Eras.{opening_with}
 use Rattle.aug_core.specs.Opening.{Opening, opening_number, opening_pairs}
 use Rattle.aug_core.specs.Places.{Shape}
-use Rattle.aug_core.specs.Renewals.{rewriting}
-use Rattle.aug_core.specs.declared.view.SeatView.{SeatView}
 use Rattle.aug_core.proofs.Sizes.{twice}
 use Rattle.aug_core.proofs.Below.{number_of_leaf}
 use Rattle.aug_words.specs.Seats.{Store}
-use Rattle.aug_words.specs.inside.Laying.{LaysOut}
+use Rattle.aug_words.specs.inside.Laying.{LaysOut, words_in}
 use Rattle.aug_words.proofs.Builds.{rises, five_are, few_pairs}
-use Rattle.aug_words.proofs.Lays.{leaves_are, few_keys_all, rank_few, leaf_first, leaf_laid, leaf_tells, node_laid, room_number, rank_left, rank_right, count_both, fold_both}
+use Rattle.aug_words.proofs.Lays.{part_words, changes_on, leaves_are, few_keys_all, rank_few, leaf_first, leaf_laid, leaf_tells, node_laid, room_number, rank_left, rank_right, count_both, fold_both}
 use Rattle.aug_words.proofs.words.Words.+lay_below.Goals as goal
 
 pub leaf_word-word-requires-clause-at : goal.leaf_word-word-requires-clause-at
@@ -28,8 +26,8 @@ leaf_word-word-requires-clause-at g t c =
 pub returns-then-node-leaves-clause-lays : goal.returns-then-node-leaves-clause-lays
 returns-then-node-leaves-clause-lays g t c =
     let s : Shape = c.args.self.now.shape in let leaves = leaves_are _ _ _ s _ _ c.self.invariant (ap (λ (z : Store). z.shape) c.self.view_is) in let under = c.if-node-leaves.true in
-    leaf_laid (face g.A.Monoid.parts g.B.Monoid.parts) (opening_with s c.args.members.now) c.requires.room c.args.node c.args.seat.now.me.0 c.put_word.new.seat.me.0 (omega arith) c.requires.wide
-    (c.put_word.ensures.view ∙ ap (rewriting c.args.seat.now.me.0 c.args.node) c.leaf_word-word.ensures)
+    leaf_laid (face g.A.Monoid.parts g.B.Monoid.parts) (opening_with s c.args.members.now) c.requires.room c.args.node _ _ (omega arith) (part_words _ _ _ _ _ c.requires.may)
+    (c.put_word.ensures.puts.puts ∙ ap (λ (z : ℕ). set (words_in c.args.base s c.args.seat.now.me.0) c.args.node z) c.leaf_word-word.ensures)
 
 pub returns-then-node-leaves-clause-number : goal.returns-then-node-leaves-clause-number
 returns-then-node-leaves-clause-number g t c =
@@ -65,25 +63,16 @@ lay_below-left-requires g t c κs lives =
         (
           lives.1,
           (
-            c.requires.table,
+            c.requires.may,
             (
-              c.requires.wide,
+              c.requires.room,
               (
-                c.requires.renews,
+                c.requires.keys,
                 (
-                  c.requires.no_slot,
+                  c.requires.members_fit,
                   (
-                    c.requires.room,
-                    (
-                      c.requires.keys,
-                      (
-                        c.requires.members_fit,
-                        (
-                          omega arith,
-                          c.requires.at ∙ sym (rank_left o c.requires.keys q inner) ∙ ap (λ (z : ℕ). rank_of (keys_of c.args.members.now) (first_key (level_of s z) (place_on s z))) (sym left_at),
-                        ),
-                      ),
-                    ),
+                    omega arith,
+                    c.requires.at ∙ sym (rank_left o c.requires.keys q inner) ∙ ap (λ (z : ℕ). rank_of (keys_of c.args.members.now) (first_key (level_of s z) (place_on s z))) (sym left_at),
                   ),
                 ),
               ),
@@ -114,25 +103,16 @@ lay_below-right-requires g t c κs lives =
         (
           lives.1,
           (
-            left.table ∙ c.requires.table,
+            left.may,
             (
-              left.lays.long ∙ c.requires.wide,
+              c.requires.room,
               (
-                ap (λ (z : SeatView). z.renews) left.lays.view_is ∙ c.requires.renews,
+                c.requires.keys,
                 (
-                  left.no_slot,
+                  c.requires.members_fit,
                   (
-                    c.requires.room,
-                    (
-                      c.requires.keys,
-                      (
-                        c.requires.members_fit,
-                        (
-                          omega arith,
-                          at ∙ ap (λ (z : ℕ). rank_of (keys_of c.args.members.now) (first_key (level_of s z) (place_on s z))) (sym right_at),
-                        ),
-                      ),
-                    ),
+                    omega arith,
+                    at ∙ ap (λ (z : ℕ). rank_of (keys_of c.args.members.now) (first_key (level_of s z) (place_on s z))) (sym right_at),
                   ),
                 ),
               ),
@@ -155,7 +135,7 @@ returns-clause-lays g t c =
     let s : Shape = c.args.self.now.shape in let leaves = leaves_are _ _ _ s _ _ c.self.invariant (ap (λ (z : Store). z.shape) c.self.view_is) in let past = c.if-node-leaves.false in let q : ℕ = c.args.node in let o : Opening = opening_with s c.args.members.now in
     let inner : IsInner s q = record { past_leaves = omega arith; inside = c.requires.node } in let left_at : 2 * (q - (c.self.inside.lanes / 2 + 1)) ≡ left_of s q = omega arith in let right_at : 2 * (q - (c.self.inside.lanes / 2 + 1)) + 1 ≡ right_of s q = omega arith in
     let m = g.A.Monoid.parts in let n = g.B.Monoid.parts in let f = face m n in let left = c.lay_below-left.ensures in let right = c.lay_below-right.ensures in let made = c.lay_node.ensures in
-    let v : SeatView = c.args.seat.now.me.0 in let a : SeatView = c.lay_below-left.new.seat.me.0 in let b : SeatView = c.lay_below-right.new.seat.me.0 in
+    let v : List ℕ = words_in c.args.base s c.args.seat.now.me.0 in let a : List ℕ = words_in c.args.base s c.lay_below-left.new.seat.me.0 in let b : List ℕ = words_in c.args.base s c.lay_below-right.new.seat.me.0 in
     let pairs_left = ap (opening_pairs o) left_at in let pairs_right = ap (opening_pairs o) right_at in let count : ℕ = c.lay_node.result.count in let x : ℕ = m.to_word c.lay_node.result.a in let y : ℕ = n.to_word c.lay_node.result.b in
     let are = five_are m n (laws_of g.met.A.Monoid) (laws_of g.met.B.Monoid) o c.requires.keys c.requires.members_fit q count x y inner
     (made.count ∙ ap₂ (λ (x y : ℕ). x + y) (left.count ∙ ap length pairs_left) (right.count ∙ ap length pairs_right))
@@ -163,8 +143,8 @@ returns-clause-lays g t c =
     (ap n.to_word (made.b ∙ ap₂ n.join (left.b ∙ ap (fold_of n) pairs_left) (right.b ∙ ap (fold_of n) pairs_right))) in
     let numbers : c.lay_below-left.result.number ∷ c.lay_below-right.result.number ∷ count ∷ x ∷ y ∷ [] ≡ opening_number o (left_of s q) ∷ opening_number o (right_of s q) ∷ count ∷ x ∷ y ∷ [] =
     λ i. (left.number ∙ ap (opening_number o) left_at) i ∷ (right.number ∙ ap (opening_number o) right_at) i ∷ count ∷ x ∷ y ∷ [] in
-    node_laid f o c.requires.room q (c.lay_below-left.result.number ∷ c.lay_below-right.result.number ∷ count ∷ x ∷ y ∷ []) v a b c.lay_node.new.seat.me.0 inner c.requires.wide
-    (subst (λ (z : ℕ). LaysOut f o (level_of s z) (place_on s z) v a) left_at left.lays) (subst (λ (z : ℕ). LaysOut f o (level_of s z) (place_on s z) a b) right_at right.lays) made.view (numbers ∙ are)
+    node_laid f o c.requires.room q (c.lay_below-left.result.number ∷ c.lay_below-right.result.number ∷ count ∷ x ∷ y ∷ []) v a b (words_in c.args.base s c.lay_node.new.seat.me.0) inner (part_words _ _ _ _ _ c.requires.may)
+    (subst (λ (z : ℕ). LaysOut f o (level_of s z) (place_on s z) v a) left_at left.lays) (subst (λ (z : ℕ). LaysOut f o (level_of s z) (place_on s z) a b) right_at right.lays) made.lays (numbers ∙ are)
 
 pub returns-clause-number : goal.returns-clause-number
 returns-clause-number g t c =
@@ -192,3 +172,6 @@ returns-clause-b g t c =
     let inner : IsInner s q = record { past_leaves = omega arith; inside = c.requires.node } in let left_at : 2 * (q - (c.self.inside.lanes / 2 + 1)) ≡ left_of s q = omega arith in let right_at : 2 * (q - (c.self.inside.lanes / 2 + 1)) + 1 ≡ right_of s q = omega arith in
     let m = g.B.Monoid.parts in c.lay_node.ensures.b ∙ ap₂ m.join (c.lay_below-left.ensures.b ∙ ap (λ (z : ℕ). fold_of m (opening_pairs o z)) left_at) (c.lay_below-right.ensures.b ∙ ap (λ (z : ℕ). fold_of m (opening_pairs o z)) right_at)
     ∙ sym (fold_both o c.requires.keys q inner m (laws_of g.met.B.Monoid) c.requires.members_fit)
+
+pub returns-clause-changes : goal.returns-clause-changes
+returns-clause-changes g t c = changes_on _ _ _ _ _ c.lay_below-left.ensures.changes (changes_on _ _ _ _ _ c.lay_below-right.ensures.changes c.lay_node.ensures.changes)

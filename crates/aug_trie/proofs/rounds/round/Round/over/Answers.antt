@@ -4,7 +4,6 @@ use Rattle.aug_core.specs.Cuts.{opening_cut}
 use Rattle.aug_core.specs.Faces.{face}
 use Rattle.aug_core.specs.Layout.{IsLayout}
 use Rattle.aug_core.specs.Opening.{Opening}
-use Rattle.aug_core.specs.Rule.{newcomer}
 use Rattle.aug_core.specs.declared.view.SeatView.{SeatView}
 use Rattle.aug_words.specs.Seats.{Known}
 use Rattle.aug_trie.specs.inside.Knows.{knows}
@@ -15,12 +14,12 @@ use Rattle.aug_trie.proofs.rounds.round.Round.over.Goals as goal
 
 pub invariant_of-crew : goal.invariant_of-crew
 invariant_of-crew g c = let f = face g.A.Monoid.parts g.B.Monoid.parts in let e = c.in_ok-words.ensures in let o : Opening = record { shape = c.args.layout; members = c.args.members.now } in
-    let laid : IsLayout o.shape = search rules in let room = c.requires.few in let is : c.in_ok-words.lead.view ≡ newcomer f o = e.lead in
-    record { known = c.in_ok-words.lead; there = refl; holds = subst (λ (z : SeatView). HoldsCrew f z 0 0 0) (sym is) (begins_crew f o laid c.requires.keys c.requires.fit (omega arith) [] 0 []) }
+    let laid : IsLayout o.shape = search rules in let room = c.requires.few in let is = e.lead in
+    record { known = c.in_ok-words.lead; there = refl; holds = subst (λ (z : SeatView). HoldsCrew f z 0 0 0) (sym is) (begins_crew f o laid c.requires.keys c.requires.fit (omega arith) [] 0 0 [] _) }
 
 pub returns : goal.returns
 returns g c = let f = face g.A.Monoid.parts g.B.Monoid.parts in let e = c.in_ok-words.ensures in let o : Opening = record { shape = c.args.layout; members = c.args.members.now } in
-    let laid : IsLayout o.shape = search rules in let room = c.requires.few in let is : c.in_ok-words.lead.view ≡ newcomer f o = e.lead in
+    let laid : IsLayout o.shape = search rules in let room = c.requires.few in let is = e.lead in
     let first = begins_history f o laid c.requires.keys c.requires.fit (omega arith) in let lead : Known = c.in_ok-words.lead in let tog = e.together in
     let opening : knows lead.view ≡ record { history = opening_cut o.shape.bits o.members ∷ []; accepted = [] } = ap knows is ∙ (λ j. record { history = first j; accepted = [] }) in
     let none_out : unwrap_or lead.view.spare 0 ≡ 0 = ap (λ (z : SeatView). unwrap_or z.spare 0) is in

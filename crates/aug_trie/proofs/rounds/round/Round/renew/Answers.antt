@@ -29,7 +29,7 @@ invariant_of-crew g c =
     let here : table_of c.list.new.self.round ≡ c.args.self.now = ap (λ (z : CrewFacts). table_of z.round) c.list.ensures.same ∙ ap (λ (z : CrewFacts). table_of z.round) a.last_is ∙ c.requires.together in
     let together = of_round old c.in-Some.lead c.list.new.self c.args.self.now told.1 here c.self.view_is in let laid_out : IsLayout s = subst IsLayout together.one_shape told.0.is_crew.knows_table.laid_out in
     let e = c.open_again-lead.ensures in
-    record { known = c.open_again-lead.result; there = refl; holds = next_crew (face g.A.Monoid.parts g.B.Monoid.parts) old c.open_again-lead.result e.opened.0 c.as_slice.result.now e.together e.opened.1 laid_out l.keys l.fit (let few = l.few in omega (arith, few, room)) }
+    record { known = c.open_again-lead.result; there = refl; holds = next_crew (face g.A.Monoid.parts g.B.Monoid.parts) old c.open_again-lead.result e.opened.0 e.opened.1 c.as_slice.result.now e.together e.opened.2 laid_out l.keys l.fit (let few = l.few in omega (arith, few, room)) }
 
 pub returns-clause-rolls : goal.returns-clause-rolls
 returns-clause-rolls g c =
@@ -38,7 +38,7 @@ returns-clause-rolls g c =
     let lead : Known = c.in-Some.lead in let told = crew_told c.crew.invariant c.in-Some.is c.crew.view_is in let r = c.rest-idle.ensures.rests in let root = c.rest-idle.result.1 in
     let last : SeatView = r.last in let after : CrewFacts = crew_facts (record { table = lead.table; view = last }) in
     let all : between.back ≡ between.handed = ap (λ (z : CrewFacts). z.back) same ∙ ap (λ (z : CrewFacts). z.back) a.last_is ∙ c.requires.all_back ∙ sym (ap (λ (z : CrewFacts). z.handed) same ∙ ap (λ (z : CrewFacts). z.handed) a.last_is) in
-    let b = closes_account f lead between i.back i.inserts i.removals root last told.1 told.0 r.loaded c.rest-idle.result.0.view.words r.rule all in
+    let b = closes_account f lead between i.back i.inserts i.removals root last told.1 told.0 r.loaded _ r.rule all in
     let again = over_again c.args.crew first between after c.over-inserts.result.0 c.over-inserts.result.1 i.inserts i.removals a same b in let o = again.0 in
     let here : table_of between.round ≡ c.args.self.now = ap (λ (z : CrewFacts). table_of z.round) same ∙ ap (λ (z : CrewFacts). table_of z.round) a.last_is ∙ c.requires.together in
     let together = of_round old lead between c.args.self.now told.1 here c.self.view_is in let shaped : last.shape ≡ s = ap (λ (z : SeatView). z.shape) r.loaded.stepped ∙ together.one_shape in
@@ -49,8 +49,8 @@ returns-clause-rolls g c =
     let fits : length list ≤ s.members = (let few = l.few in omega (arith, few, room)) in
     let e = c.open_again-lead.ensures in let next : Known = c.open_again-lead.result in let members : list ≡ o.ended.members = c.as_slice.ensures.value ∙ c.list.ensures.set ∙ again.1 in
     let era : next.view.era ≡ now.era + 1 = e.era.0 ∙ ap (λ (z : SeatView). z.era) r.idle_is ∙ ap (λ (z : SeatView). z.era + 1) r.loaded.stepped ∙ ap (λ (z : CrewFacts). z.round.era + 1) told.1 ∙ ap (λ (z : CrewFacts). z.round.era + 1) same ∙ ap (λ (z : CrewFacts). z.round.era + 1) a.last_is in
-    let facts = next_facts f old next e.opened.0 list e.together e.opened.1 laid_out l.keys l.fit fits in
-    let round = next_round f old next e.opened.0 list e.together e.opened.1 laid_out l.keys l.fit fits now era (c.requires.together ∙ sym c.self.view_is) in
+    let facts = next_facts f old next e.opened.0 e.opened.1 list e.together e.opened.2 laid_out l.keys l.fit fits in
+    let round = next_round f old next e.opened.0 e.opened.1 list e.together e.opened.2 laid_out l.keys l.fit fits now era (c.requires.together ∙ sym c.self.view_is) in
     let past : next.view.past ≡ last.past ++ record { members = last.members; book = last.seen } ∷ [] = e.era.1 ∙ ap (λ (z : SeatView). z.past) r.idle_is in
     let over : past_rounds next.view.shape next.view.past ≡ chapters (crew_chain after) = over_now f lead between i.back i.inserts i.removals root last told.1 told.0 r.loaded next.view.past next.view.shape past (e.together.one_shape ∙ sym shaped) in
     let bits : s.bits ≡ now.bits = ap (λ (z : TableFacts). z.bits) (c.self.view_is ∙ sym c.requires.together) in

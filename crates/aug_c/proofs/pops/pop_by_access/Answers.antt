@@ -5,8 +5,8 @@ use Rattle.aug_trie.specs.declared.rounds.pop.Pop.{Pop}
 use Rattle.aug_trie.specs.declared.rounds.pop.Side.{Side}
 use Rattle.aug_live.specs.LiveHandles.{HandleFacts, Makes}
 use Rattle.aug_c.specs.UserCalls.{span_of}
-use Rattle.aug_c.proofs.pops.pop_by.Goals as goal
-use Rattle.aug_c.proofs.pops.pop_by.Goals.{in-First, in-Last}
+use Rattle.aug_c.proofs.pops.pop_by_access.Goals as goal
+use Rattle.aug_c.proofs.pops.pop_by_access.Goals.{in-First, in-Last}
 
 -- a pop at one end came to this, by what it promises of that end
 from_end : {E : Type 0} (asked end : Side) (done : Pop) (old new same : HandleFacts) (answer result : Result Pop E) → asked ≡ end → new ≡ same → answer ≡ result → answer ≡ Ok done

@@ -5,14 +5,14 @@ use Rattle.aug_live.specs.LiveTries.{KnowsMore, TrieFacts}
 use Rattle.aug_live.specs.inside.DeskKnowledge.{Moves}
 use Rattle.aug_live.proofs.DeskSteps.{closed_more, keeps_from, knows_on_from, learns, put_known, took_from, turns}
 use Rattle.aug_live.proofs.Lanes.{more_self}
-use Rattle.aug_live.proofs.desk_end.DeskEnd.past.Goals as goal
+use Rattle.aug_live.proofs.desk_end.DeskEnd.refill.Goals as goal
 
 pub take-requires-clause-rule : goal.take-requires-clause-rule
 take-requires-clause-rule g c = learns _ _
 
 pub lay_on-requires-clause-goes_on : goal.lay_on-requires-clause-goes_on
 lay_on-requires-clause-goes_on g c = let pass = c.take.new.key in let was = c.in-Some.working in
-    keeps_from pass was c.past-working.result.0 (took_from pass _ c.in-Ok.field-0 was c.take.ensures.view c.in-Ok.ensures.holds c.in-Some.is c.in-Ok.ensures.fact) c.past-working.ensures.goes_on
+    keeps_from pass was c.refill-working.result.0 (took_from pass _ c.in-Ok.field-0 was c.take.ensures.view c.in-Ok.ensures.holds c.in-Some.is c.in-Ok.ensures.fact) c.refill-working.ensures.goes_on
 
 pub put-requires-clause-holds : goal.put-requires-clause-holds
 put-requires-clause-holds g c = let taken = c.in-Ok.field-0 in let id = c.take.new.key.id in (

@@ -1,7 +1,7 @@
 use Rattle.std.proofs.Common.{rules, ◌≡◌, ◌∙◌, ◌<◌, ℕ, All, true≢false, w64, to_z, of_z, length, sym, subst, arith}
 use Rattle.aug_c.specs.inside.KeyRequests.{requests_of}
 use Rattle.aug_c.proofs.Turns.{lengths_by, lengths_to, bad_lengths, bad_keys, makes_all}
-use Rattle.aug_c.proofs.array_updates.update_all_by.Goals as goal
+use Rattle.aug_c.proofs.array_updates.update_all_by_access.Goals as goal
 
 pub returns-then-not-has_lengths : goal.returns-then-not-has_lengths
 returns-then-not-has_lengths c =

@@ -119,26 +119,3 @@ is_member-range a (suc n) k =
       | inr (inl lt) ↦ rw (ne_eqb a k (λ q. omega (arith, q)), is_member-range (a + 1) n k, le-leb (a + 1) k (omega arith), le-leb a k (omega arith), e)
       | inr (inr gt) ↦ rw (ne_eqb a k (λ q. omega (arith, q)), is_member-range (a + 1) n k, lt-leb (a + 1) k (omega arith), lt-leb a k gt)
     ]
-
-range_below : (n a m : ℕ) → a + n ≤ m → All (λ k. k < m) (range_with_len a n)
-range_below zero a m fits = All-nil (λ k. k < m)
-range_below (suc n) a m fits = All-cons (λ k. k < m) a (range_with_len (a + 1) n) (omega arith) (range_below n (a + 1) m (omega arith))
-
-range_rises : (n : ℕ) → IsStrictlyIncreasing (range_with_len 0 n)
-range_rises n k low =
-    let l = length-range_with_len 0 n in
-    let x = get_or-range_with_len 0 n k 0 (omega arith) in
-    let y = get_or-range_with_len 0 n (k + 1) 0 (omega arith) in
-    omega arith
-
--- the keys of a cut that is no longer than the keys are a set of keys of so many bits
-pub cut_keys : (bits : ℕ) (cut : Cut) → length cut ≤ 2 ^ bits → IsKeySet bits (set_of_cut cut)
-cut_keys bits cut long = record {
-  rising = IsStrictlyIncreasing-filter (λ key. serial_of cut key % 2 == 1) (range_with_len 0 (length cut)) (range_rises (length cut));
-  below = All-filter (λ key. serial_of cut key % 2 == 1) (λ k. k < 2 ^ bits) (range_with_len 0 (length cut)) (range_below (length cut) 0 (2 ^ bits) (omega (arith, long)));
-}
-
--- the members of a cut rise
-pub members_rise : (cut : Cut) → IsStrictlyIncreasing (keys_of (pairs_of_cut cut))
-members_rise cut = subst IsStrictlyIncreasing (sym (keys_of-pairs_of (weight_at cut) (set_of_cut cut)))
-    (IsStrictlyIncreasing-filter (λ key. serial_of cut key % 2 == 1) (range_with_len 0 (length cut)) (range_rises (length cut)))

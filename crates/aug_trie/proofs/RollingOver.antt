@@ -23,10 +23,10 @@ use Rattle.aug_trie.specs.Chains.{chapters}
 use Rattle.aug_query.specs.Tree.{IsTreeSet}
 use Rattle.aug_model.proofs.Boundaries.{IsKeySet-few}
 use Rattle.aug_model.proofs.Pairs.{length-keys_of}
-use Rattle.aug_trie.specs.Crew.{CrewFacts, CrewLooks, crew_chain, Ends, IsOver, set_of_crew}
+use Rattle.aug_trie.specs.Crew.{CrewFacts, CrewLooks, CrewPrepares, crew_chain, Ends, IsOver, set_of_crew}
 use Rattle.aug_trie.specs.Ended.{EndedFacts}
 use Rattle.aug_trie.specs.History.{IsHistory, last_cut}
-use Rattle.aug_trie.specs.Knowledge.{inserts_of, removals_of}
+use Rattle.aug_trie.specs.Knowledge.{IsKnowledge, inserts_of, removals_of}
 use Rattle.aug_trie.specs.Round.{RoundFacts, root_of, table_of}
 use Rattle.aug_trie.specs.inside.CrewState.{crew_facts, HoldsCrew}
 use Rattle.aug_trie.specs.inside.Knows.{knows, root_history}
@@ -38,6 +38,11 @@ use Rattle.aug_trie.proofs.Handing.{loaded_table, loaded_knowledge}
 use Rattle.aug_trie.proofs.Keeping.{weighs_later}
 use Rattle.aug_trie.proofs.Risen.{opening-at_most, opens-some, last-at_most_final, same_end}
 use Rattle.aug_trie.proofs.Tallying.{none_lost_tallies}
+use Rattle.aug_words.proofs.Lays.{knows_steps}
+use Rattle.aug_core.specs.Book.{IsNewest}
+use Rattle.aug_core.specs.declared.view.Entry.{Entry}
+use Rattle.aug_core.specs.inside.RootCuts.{root_cut}
+use Rattle.aug_trie.proofs.Histories.{last_is as last_is_cut}
 use Rattle.aug_trie.specs.Pass.{KeepWeights, Weighed}
 use Rattle.aug_trie.specs.Tallies.{Tallies, TalliesWithLost}
 use Rattle.aug_core.proofs.PrefixLemmas.{prefix_refl, prefix_trans}
@@ -145,6 +150,46 @@ module _ (face : ℕ → ℕ → List (ℕ × ℕ) → List ℕ) (lead : Known) 
         inserts_are = refl;
         removals_are = refl;
       }
+
+-- ---- a crew that laid the next round out
+
+module _ (face : ℕ → ℕ → List (ℕ × ℕ) → List ℕ) (lead : Known) (now : CrewFacts) (back inserts removals : ℕ) (is : crew_facts lead ≡ now) (holds : HoldsCrew face lead.view back inserts removals) (v : SeatView)
+    (stepped : v ≡ record lead.view { whole = v.whole; steps = v.steps }) where
+  pub prepared_facts : crew_facts (record { table = lead.table; view = v }) ≡ record now { steps = v.steps }
+  prepared_facts = subst (λ (z : SeatView). crew_facts (record { table = lead.table; view = z }) ≡ record now { steps = v.steps }) (sym stepped) (ap (λ (z : CrewFacts). record z { steps = v.steps }) is)
+
+  pub prepared_holds : HoldsCrew face v back inserts removals
+  prepared_holds = let c = holds.is_crew in let k = c.knowledge in subst (λ (z : SeatView). HoldsCrew face z back inserts removals) (sym stepped) record {
+    handed = holds.handed;
+    is_crew = record {
+      knows_table = knows_steps face lead.view v.whole v.steps c.knows_table;
+      hands_out = c.hands_out;
+      took_back = c.took_back;
+      knowledge = record { is_history = k.is_history; stands = k.stands };
+    };
+    few = holds.few;
+    back_is = holds.back_is;
+    inserts_are = holds.inserts_are;
+    removals_are = holds.removals_are;
+  }
+
+-- after it loaded the root
+pub prepares : (old between new : CrewFacts) → CrewLooks old between → new ≡ record between { steps = new.steps } → IsPrefix between.steps new.steps → CrewPrepares old new
+prepares old between new l is steps = record {
+  crew_is = is ∙ ap (λ (z : CrewFacts). record z { steps = new.steps }) l.crew_is ∙ (λ i. record old { knows = (sym is i).knows; steps = new.steps; words = (sym is i).words });
+  weights = subst (λ (z : CrewFacts). KeepWeights old.words z.words) (sym is) l.weights;
+  goes_on = subst (λ (z : CrewFacts). IsPrefix old.knows.history z.knows.history) (sym is) l.goes_on;
+  same_changes = ap (λ (z : CrewFacts). z.knows.accepted) is ∙ l.same_changes;
+  knowledge = subst (λ (z : CrewFacts). IsKnowledge z.round.bits z.round.members z.knows) (sym is) l.knowledge;
+  steps_stay = prefix_trans old.steps between.steps new.steps (load_node (root_of old.round) l.loads.0 ∷ [], l.loads.1) steps;
+}
+
+-- ---- the set of a crew
+
+-- the set of the newest cut that its lead knows
+pub crew_set : (face : ℕ → ℕ → List (ℕ × ℕ) → List ℕ) (lead : Known) (crew : CrewFacts) (index : ℕ) (entry : Entry) → crew_facts lead ≡ crew → IsNewest lead.view.seen (root_place lead.view.shape) index entry
+    → pairs_of_cut (root_cut lead.view.shape lead.view.seen index) ≡ pairs_of_cut (last_cut crew.knows.history)
+crew_set face lead crew index entry is newest = ap pairs_of_cut (sym (last_is_cut lead.view.shape lead.view.seen index newest.last)) ∙ ap (λ (z : CrewFacts). pairs_of_cut (last_cut z.knows.history)) is
 
 -- ---- a crew that closed its account, and closes it again after steps by which it learned nothing
 

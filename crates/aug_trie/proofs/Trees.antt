@@ -45,35 +45,20 @@ use Rattle.aug_trie.proofs.Histories.{some_bits, history_long, numbers_long}
 use Rattle.aug_trie.proofs.Keeping.{node_later, weighs_later}
 use Rattle.aug_trie.proofs.Looking.{goes_looking, leaf_weighs}
 use Rattle.aug_trie.proofs.Snapshots.{named_there, index_is, cut_is, pass_still}
-use Rattle.aug_trie.proofs.Rising.{cut_keys}
+use Rattle.aug_words.proofs.CutSets.{cut_light, cut_members, members_fit}
 use Rattle.aug_trie.proofs.Walking.{top_node}
 use Rattle.aug_core.proofs.PrefixLemmas.{entry_stays}
 
 -- ---- the set of a cut
 
--- no entry of a leaf weighs too much, not even one that is not there
-light : (f : ℕ → ℕ → List (ℕ × ℕ) → List ℕ) (s : Shape) (book : Book) → IsBook f s book → (key i : ℕ) → key < 2 ^ s.bits → (entry_of book key i).weight < 2 ^ 32
-light f s book b key i low = ⊎_elim
-    (λ (there : i < length (history_of book key)). (b.serials key i (entry_of book key i) low (entry_at book key i there)).fits)
-    (λ (past : length (history_of book key) ≤ i). let e : (entry_of book key i).weight ≡ 0 = ap (λ (z : Entry). z.weight) (get_or_past (history_of book key) i (serial_entry 0 0 0) past) in omega arith)
-    (cases_lt i (length (history_of book key)))
-
--- a key's weight in a root's cut is that of an entry
-cut_light : (f : ℕ → ℕ → List (ℕ × ℕ) → List ℕ) (v : SeatView) (i key : ℕ) → KnowsTable f v → key < 2 ^ v.shape.bits → weight_at (root_cut v.shape v.seen i) key < 2 ^ 32
-cut_light f v i key kn low = let s : Shape = v.shape in let r : ℕ = reached s v.seen key s.bits i in
-    let is : weight_at (root_cut s v.seen i) key ≡ (entry_of v.seen key r).weight = ap (λ (z : ℕ × ℕ). z.1) (shown_is s v.seen key s.bits 0 key (root_place s) i (root_word s) (omega arith) low) in
-    let fits = light f s v.seen kn.book key r low in omega arith
-
 -- a cut that is no longer than the keys, and whose weights fit, is of a set of keys of so many bits
 cut_set : (f : ℕ → ℕ → List (ℕ × ℕ) → List ℕ) (v : SeatView) (cut : Cut) → KnowsTable f v → length cut ≤ 2 ^ v.shape.bits → ((key : ℕ) → key < 2 ^ v.shape.bits → weight_at cut key < 2 ^ 32) → IsTreeSet (members_of v.shape.bits cut)
-cut_set f v cut kn long light =
-    let keys = cut_keys v.shape.bits cut long in
-    let few : 2 ^ v.shape.bits ≤ 2 ^ 16 = pow-le-pow_right (omega arith) kn.laid_out.bits.1 in record {
-      some_bits = kn.laid_out.bits.0;
-      few_bits = kn.laid_out.bits.1;
-      is_key_set = subst (IsKeySet v.shape.bits) (sym (keys_of-pairs_of (weight_at cut) (set_of_cut cut))) keys;
-      fit = All-map FitsPair (λ k. (k, weight_at cut k)) (set_of_cut cut) (All-weaker (λ k. k < 2 ^ v.shape.bits) (λ k. FitsPair (k, weight_at cut k)) (λ k low. (omega arith, light k low)) (set_of_cut cut) keys.below);
-    }
+cut_set f v cut kn long light = record {
+  some_bits = kn.laid_out.bits.0;
+  few_bits = kn.laid_out.bits.1;
+  is_key_set = cut_members v.shape.bits cut long;
+  fit = members_fit v.shape.bits cut kn.laid_out.bits.1 long light;
+}
 
 -- so is a root's
 pub tree_set : (f : ℕ → ℕ → List (ℕ × ℕ) → List ℕ) (v : SeatView) (i : ℕ) → KnowsTable f v → IsTreeSet (members_of v.shape.bits (root_cut v.shape v.seen i))

@@ -83,6 +83,15 @@ pub record CrewLooks (old new : CrewFacts) : Type 0 where
   pub knowledge : IsKnowledge new.round.bits new.round.members new.knows
   pub loads : LoadsRoot old new
 
+-- the crew loads the root and lays the next round out further, in the part of the table that is not at work
+pub record CrewPrepares (old new : CrewFacts) : Type 0 where
+  pub crew_is : new ≡ record old { knows = new.knows; steps = new.steps; words = new.words }
+  pub weights : KeepWeights old.words new.words
+  pub goes_on : IsPrefix old.knows.history new.knows.history
+  pub same_changes : new.knows.accepted ≡ old.knows.accepted
+  pub knowledge : IsKnowledge new.round.bits new.round.members new.knows
+  pub steps_stay : IsPrefix old.steps new.steps
+
 -- the crew made at most `most` steps, from which it learned nothing new
 pub record CrewReads (most : ℕ) (old new : CrewFacts) : Type 0 where
   pub same : new ≡ record old { steps = new.steps }
@@ -117,9 +126,9 @@ pub record IsOver (old last : CrewFacts) (inserts removals : ℕ) : Type 0 where
   pub inserts_are : inserts ≡ ended.inserts
   pub removals_are : removals ≡ ended.removals
 
--- a round ends to which all passes came back, with a load of the root, and the next one begins over its set, in the same table: the list has the set, and
--- the counts are those of the round that ended. All of its history is known then
-pub record RollsOver (old crew : CrewFacts) (list : List (ℕ × ℕ)) (inserts removals : ℕ) : Type 0 where
+-- a round ends to which all passes came back, with a load of the root, and the next one begins over its set, in the same table: the
+-- counts are those of the round that ended. All of its history is known then
+pub record RollsOver (old crew : CrewFacts) (inserts removals : ℕ) : Type 0 where
   pub last : CrewFacts
   pub last_is : last ≡ record old { knows = last.knows; steps = last.steps; words = last.words }
   pub weights : KeepWeights old.words last.words
@@ -130,7 +139,6 @@ pub record RollsOver (old crew : CrewFacts) (list : List (ℕ × ℕ)) (inserts 
   pub ends : Ends last ended
   pub none_missing : ended.missing ≡ 0
   pub sizes : length ended.members + ended.removals ≡ length old.round.members + ended.inserts
-  pub list_is : list ≡ ended.members
   pub inserts_are : inserts ≡ ended.inserts
   pub removals_are : removals ≡ ended.removals
   pub round_is : crew.round ≡ record old.round { era = old.round.era + 1; members = ended.members }

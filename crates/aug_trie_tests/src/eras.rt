@@ -1,6 +1,6 @@
 //! A renewed round is another round than the one before, though of the same table: a half of that one has to be back before, and a note of it is
 //! of that one alone. No test module, so that a wrong body of it can be tried.
-ghost use Rattle.std.specs.Prelude.{◌≡◌, ◌≢◌, ◌+◌, ◌≤◌, [], vec_capacity};
+ghost use Rattle.std.specs.Prelude.{◌≡◌, ◌≢◌, ◌+◌, ◌≤◌};
 ghost use Rattle.aug_trie.specs.Round.{table_of};
 
 use aug_monoid::{Extent, Sum};
@@ -13,7 +13,6 @@ pub fn gone_on(
     crew: Crew<Sum, Extent>,
     half: PassHalf<Sum, Extent>,
     note: &Note<Sum, Extent>,
-    list: &mut Vec<(u32, u32)>,
 ) -> Crew<Sum, Extent>
     requires bits { crew.round.bits ≡ 4 }
     requires room { 16 ≤ crew.round.room }
@@ -21,8 +20,6 @@ pub fn gone_on(
     requires half { half.round ≡ crew.round }
     requires one_out { crew.back + 1 ≡ crew.handed }
     requires note { note.now.round ≡ crew.round }
-    requires empty { list.old.items ≡ [] }
-    requires list_room { 16 ≤ vec_capacity list.old }
     ensures bits { result.round.bits ≡ 4 }
     ensures together { table_of result.round ≡ round.now }
     ensures table { note.now.round.table ≡ result.round.table }
@@ -30,7 +27,7 @@ pub fn gone_on(
 {
     let mut crew = crew;
     crew.back(round.pass(half));
-    let (crew, _, _) = round.renew(crew, list);
+    let (crew, _, _) = round.renew(crew);
     crew
 }
 
@@ -40,17 +37,14 @@ pub fn kept_over(
     round: &Round<Sum, Extent>,
     crew: Crew<Sum, Extent>,
     half: PassHalf<Sum, Extent>,
-    list: &mut Vec<(u32, u32)>,
 ) -> Crew<Sum, Extent>
     requires bits { crew.round.bits ≡ 4 }
     requires room { 16 ≤ crew.round.room }
     requires together { table_of crew.round ≡ round.now }
     requires all_back { crew.back ≡ crew.handed }
     requires half { half.round ≡ crew.round }
-    requires empty { list.old.items ≡ [] }
-    requires list_room { 16 ≤ vec_capacity list.old }
 {
-    let (crew, _, _) = round.renew(crew, list);
+    let (crew, _, _) = round.renew(crew);
     drop(half);
     crew
 }

@@ -10,9 +10,11 @@ use crate::eras::{closed_over, gone_on};
 use aug_query::descent::{Size, Weight};
 use aug_trie::Outcome::Accepted;
 use aug_trie::{BeginError, Members, Round};
-use aug_trie_testing::rows::Change::{Insert, Remove};
+use aug_trie_testing::rows::Change;
+use aug_trie_testing::rows::Change::{Insert, Put, Remove};
 use aug_trie_testing::rows::Reply::Came;
 use std::alloc::Global;
+use std::process::Abort;
 
 // A round of two lanes with two updates each, with room for all keys.
 fn begun(alloc: Global, set: Members) -> Result<(RoundOf, CrewOf), Members>
@@ -26,19 +28,84 @@ fn begun(alloc: Global, set: Members) -> Result<(RoundOf, CrewOf), Members>
     Round::begin_for_all(alloc, set, 2, 2)
 }
 
+// Makes two changes in a round, with a piece of the next one laid out after each, and renews it.
+fn renewed(
+    rt: &impl Abort,
+    round: &RoundOf,
+    crew: CrewOf,
+    changes: (Change, Change),
+    nodes: u32,
+) -> CrewOf
+    requires bits { crew.round.bits ≡ 4 }
+    requires room { 16 ≤ crew.round.room }
+    requires together { table_of crew.round ≡ round.now }
+    requires none_out { crew.back ≡ crew.handed }
+    ensures bits { result.round.bits ≡ 4 }
+    ensures room { 16 ≤ result.round.room }
+    ensures together { table_of result.round ≡ round.now }
+    ensures none_out { result.back ≡ result.handed }
+{
+    let mut crew = crew;
+    let mut pass = crew.pass(round).expect(rt, "lane 0");
+    changed(&mut pass, 16, changes.0);
+    crew.prepare(round, nodes);
+    changed(&mut pass, 16, changes.1);
+    crew.prepare(round, nodes);
+    crew.back(pass);
+    let (crew, _, _) = round.renew(crew);
+    crew
+}
+
+// Compares the weights of the first and the last key, and of one between, and how many keys there are.
+fn has(rt: &impl Abort, round: &RoundOf, crew: &mut CrewOf, weights: [Option<u32>; 3], size: u32)
+    requires bits { crew.old.round.bits ≡ 4 }
+    requires together { table_of crew.old.round ≡ round.now }
+    ensures { crew.new ≡ record crew.old { steps = crew.new.steps } }
+{
+    equal(rt, crew.ask(round, Weight(0)), weights[0]);
+    equal(rt, crew.ask(round, Weight(7)), weights[1]);
+    equal(rt, crew.ask(round, Weight(15)), weights[2]);
+    equal(rt, crew.ask(round, Size), size);
+}
+
+#[test]
+fn rounds_begin_over_what_changed_between_their_pieces(rt: HostRuntime) -> Result<(), BeginError> {
+    let nothing = Members::empty(rt.alloc(), 4)?;
+    let Ok((round, crew)) = begun(rt.alloc(), nothing) else {
+        return Err(BeginError::OutOfMemory);
+    };
+    // A key that comes, and one that goes again; pieces of a node or two.
+    let mut crew = renewed(&rt, &round, crew, (Insert(7), Insert(0)), 0);
+    has(&rt, &round, &mut crew, [Some(0), Some(7), None], 2);
+    let mut crew = renewed(&rt, &round, crew, (Remove(0), Insert(15)), 1);
+    has(&rt, &round, &mut crew, [None, Some(7), Some(15)], 2);
+    // The same weight again, and another one, after all was laid out.
+    let mut crew = renewed(&rt, &round, crew, (Put(7, 7), Put(15, 9)), 100);
+    has(&rt, &round, &mut crew, [None, Some(7), Some(9)], 2);
+    // A key that goes and comes in between two pieces.
+    let mut crew = renewed(&rt, &round, crew, (Remove(7), Put(7, 8)), 3);
+    has(&rt, &round, &mut crew, [None, Some(8), Some(9)], 2);
+    // Nothing changes.
+    let mut crew = renewed(&rt, &round, crew, (Remove(0), Remove(1)), 2);
+    has(&rt, &round, &mut crew, [None, Some(8), Some(9)], 2);
+    let mut crew = renewed(&rt, &round, crew, (Remove(7), Remove(15)), 100);
+    has(&rt, &round, &mut crew, [None, None, None], 0);
+    equal(&rt, crew.prepare(&round, 100), true);
+    Ok(())
+}
+
 #[test]
 fn a_note_of_the_round_before_is_of_another_round(rt: HostRuntime) -> Result<(), BeginError> {
     let nothing = Members::empty(rt.alloc(), 4)?;
     let Ok((round, mut crew)) = begun(rt.alloc(), nothing) else {
         return Err(BeginError::OutOfMemory);
     };
-    let mut list = Vec::with_capacity(rt.alloc(), 16).expect(&rt, "memory");
     let mut pass = crew.pass(&round).expect(&rt, "lane 0");
     equal(&rt, changed(&mut pass, 16, Insert(5)), Came(Accepted));
     let note = pass.note();
     let half = pass.into_half();
-    let mut crew = gone_on(&round, crew, half, &note, &mut list);
-    equal(&rt, list.as_slice(), [(5, 5)].as_slice());
+    let mut crew = gone_on(&round, crew, half, &note);
+    equal(&rt, crew.ask(&round, Size), 1);
     let mut pass = crew.pass(&round).expect(&rt, "lane 0 of the next round");
     pass.learn(note);
     equal(&rt, seen_weight(&mut pass, 5), Some(5));

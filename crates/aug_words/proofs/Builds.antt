@@ -1,7 +1,7 @@
 -- The words of a table are filled node by node.
-use Rattle.std.proofs.Common.{true, false, ◌≡◌, ℕ, zero, suc, ◌+◌, ◌-◌, ◌*◌, ◌%◌, ◌^◌, ◌<◌, ◌≤◌, ◌≢◌, ◌⊎◌, inl, inr, max, Bool, ◌||◌, eqb, eq-eqb, ne_eqb, leb, le-leb, le-ltb, lt-ltb, if◌then◌else◌, List, [], ◌∷◌, ◌++◌, length, get_or, set, take, All, refl, sym, ap, ◌∙◌, subst, ⊎_elim, arith, length-set, length-append, get_or-set_other, get_or-set_same}
+use Rattle.std.proofs.Common.{true, false, ◌≡◌, ℕ, zero, suc, ◌+◌, ◌-◌, ◌*◌, ◌%◌, ◌^◌, ◌<◌, ◌≤◌, ◌≢◌, ◌⊎◌, inl, inr, max, Bool, ◌||◌, eqb, eq-eqb, ne_eqb, leb, le-leb, le-ltb, lt-ltb, if◌then◌else◌, List, [], ◌∷◌, ◌++◌, length, get_or, set, take, replicate, All, refl, sym, ap, ◌∙◌, subst, ⊎_elim, arith, length-set, length-append, get_or-set_other, get_or-set_same}
 use Rattle.std.proofs.lemmas.Bool.{cases_eq, cases_lt, lt-leb}
-use Rattle.std.proofs.lemmas.List.{take_all, take_more, get_or_past, get_or_read}
+use Rattle.std.proofs.lemmas.List.{take_all, take_more, take-append-le, get_or-append_right, get_or_read}
 use Rattle.std.proofs.lemmas.List.Elements.{All-filter, All-contains}
 use Rattle.std.proofs.lemmas.List.Folds.{list_any_at, list_any-append}
 use Rattle.std.specs.List.Sorted.{IsStrictlyIncreasing}
@@ -32,7 +32,7 @@ use Rattle.aug_core.specs.Renewals.{IsOpened}
 use Rattle.atomic_table.specs.Table.{opening}
 use Rattle.aug_core.proofs.Renewals.{first_opening}
 use Rattle.aug_words.specs.declared.building.Plan.{Plan}
-use Rattle.aug_words.specs.inside.Builds.{WritesFive, MarksMembers, IsMarked, next_own, IsOwn, HasRecord, IsReady, IsBuilt, IsNextNode}
+use Rattle.aug_words.specs.inside.Builds.{IsPadded, laid_pairs, WritesFive, MarksMembers, IsMarked, next_own, IsOwn, HasRecord, IsReady, IsBuilt, IsNextNode}
 
 -- ---- the members below a place
 
@@ -433,9 +433,22 @@ built_is_opened face o words set fit few built = record {
 }
 
 -- and the rule holds of them, where the records of the lanes are blank
-pub built_opens : (face : ℕ → ℕ → List (ℕ × ℕ) → List ℕ) (o : Opening) (words : List ℕ) → IsKeySet o.shape.bits (keys_of o.members) → All FitsPair o.members → length (keys_of o.members) ≤ o.shape.members
-    → IsBuilt face o o.shape.bits (place_count o.shape) words → Ruled face o.shape (opening words [] (newcomer face record { opening = o; words = length words }))
-built_opens face o words set fit few built =
-    let long = built.long in let all : table_part 0 (word_count o.shape) words ≡ words = take_all (word_count o.shape) words (omega arith) in
-    first_opening face o (length words) words refl (subst (IsOpened face o) (sym all) (built_is_opened face o words set fit few built))
-    (λ lane k low small. ap (λ (z : List ℕ). get_or z (block_start o.shape lane + k) 0) all ∙ built.blocks lane k low small) (λ i past. get_or_past words i 0 (omega arith))
+pub blank_zeros : (i n : ℕ) → get_or {A = ℕ} (replicate n 0) i 0 ≡ 0
+blank_zeros i zero = refl
+blank_zeros zero (suc n) = refl
+blank_zeros (suc i) (suc n) = blank_zeros i n
+
+pub built_opens : (face : ℕ → ℕ → List (ℕ × ℕ) → List ℕ) (o : Opening) (words all : List ℕ) → IsKeySet o.shape.bits (keys_of o.members) → All FitsPair o.members → length (keys_of o.members) ≤ o.shape.members
+    → IsBuilt face o o.shape.bits (place_count o.shape) words → IsPadded words all → Ruled face o.shape (opening all [] (newcomer face record { opening = o; words = length all }))
+built_opens face o words all set fit few built padded =
+    let long = built.long in let zeros : List ℕ = replicate padded.zeros 0 in
+    let here : table_part 0 (word_count o.shape) all ≡ words = ap (take (word_count o.shape)) padded.is ∙ take-append-le (word_count o.shape) words zeros (omega arith) ∙ take_all (word_count o.shape) words (omega arith) in
+    first_opening face o (length all) all refl (subst (IsOpened face o) (sym here) (built_is_opened face o words set fit few built))
+    (λ lane k low small. ap (λ (z : List ℕ). get_or z (block_start o.shape lane + k) 0) here ∙ built.blocks lane k low small)
+    (λ i past. ap (λ (z : List ℕ). get_or z i 0) padded.is ∙ get_or-append_right words zeros (length words) i 0 refl (omega arith) ∙ blank_zeros (i - length words) padded.zeros)
+
+-- its word tells what is there
+pub leaf_tells : (o : Opening) → Rises (keys_of o.members) → All FitsPair o.members → (q x : ℕ) → q < 2 ^ o.shape.bits → x ≡ opening_number o q → laid_pairs q x ≡ opening_pairs o q
+leaf_tells o up fit q x low is = ⊎_elim
+    (λ (none : x < 2 ^ 32). ap (λ (b : Bool). if b then (q, x % 2 ^ 32) ∷ [] else []) (lt-leb (2 ^ 32) x none) ∙ sym (leaf_not o up q x low is none))
+    (λ (some : 2 ^ 32 ≤ x). ap (λ (b : Bool). if b then (q, x % 2 ^ 32) ∷ [] else []) (le-leb (2 ^ 32) x some) ∙ sym (leaf_there o up fit q x low is some)) (cases_lt x (2 ^ 32))

@@ -1,9 +1,9 @@
 -- The seat of a lead, and the table that it sits at.
-use Rattle.std.proofs.Common.{◌≡◌, ℕ, ◌+◌, ◌<◌, ◌≤◌, List, [], ◌∷◌, ◌++◌, length, All, Option, Some, option_map, sym, refl, ap, ◌∙◌, subst, arith}
+use Rattle.std.proofs.Common.{◌≡◌, ℕ, ◌+◌, ◌^◌, ◌<◌, ◌≤◌, List, [], ◌∷◌, ◌++◌, length, All, Option, Some, option_map, sym, refl, ap, ◌∙◌, subst, arith}
 use Rattle.std.specs.Prelude.{unwrap_or}
 use Rattle.aug_core.specs.Lanes.{IsOfLane}
-use Rattle.aug_core.specs.Addresses.{IsInner, root_place}
-use Rattle.aug_core.specs.Places.{word_count}
+use Rattle.aug_core.specs.Addresses.{IsInner, root_place, level_of, place_on}
+use Rattle.aug_core.specs.Places.{record_start, word_count}
 use Rattle.aug_core.specs.Book.{Book, ArePrefixes, IsNewest, GoesOnFromBoth}
 use Rattle.aug_core.specs.Pasts.{IsLearnt, learnt_of}
 use Rattle.aug_core.specs.Learning.{learning}
@@ -33,7 +33,11 @@ use lib.ListN.{get_elem?}
 use Rattle.aug_words.specs.Leads.{HandsLaneOut}
 use Rattle.aug_words.specs.Notes.{LearnsNote}
 use Rattle.aug_words.specs.inside.SeatState.{SitsAt, IsPassSeat, IsLeadSeat, IsLead, IsStore}
+use Rattle.aug_words.specs.inside.Laying.{Brings, IsDraft, IsNamed, MayBring, ShownBelow, StepsBeside, words_in}
+use Rattle.aug_core.proofs.Levels.{level_is, root_word}
+use Rattle.aug_words.proofs.Lays.{drafts_on, knows_steps}
 use Rattle.aug_words.proofs.Passes.{placed_on}
+use Rattle.aug_core.proofs.PrefixLemmas.{book_refl}
 use Rattle.aug_core.specs.declared.opening.TableKey.{TableKey}
 use Rattle.aug_words.specs.Seats.{IsNextLane}
 
@@ -68,17 +72,22 @@ opening_seat face o past era base words whole number laid_out set fit few named 
   };
 }
 
-module _ (face : ℕ → ℕ → List (ℕ × ℕ) → List ℕ) (a a' : TableId) (b next root : ℕ) (me me' : Sat) (lead : IsLead face a b next root me) (one : a' ≡ a) where
+module _ (face : ℕ → ℕ → List (ℕ × ℕ) → List ℕ) (a a' : TableId) (b next root other : ℕ) (shown : List ℕ) (me me' : Sat) (lead : IsLead face a b next root other shown me) (one : a' ≡ a) where
   seat : IsLeadSeat face next root me
   seat = lead.1
 
   -- a lead that works where it did
-  works_there : (next' root' : ℕ) → me'.0.shape ≡ me.0.shape → me'.0.base ≡ me.0.base → me'.0.whole ≡ me.0.whole → IsLeadSeat face next' root' me' → IsLead face a' b next' root' me'
-  works_there next' root' shape base whole is = subst (λ (z : TableId). IsLead face z b next' root' me') (sym one) (placed_on a b me.0 me'.0 lead.0 shape base, is, ap (λ (z : List ℕ). length z) whole ∙ lead.2)
+  works_there : (next' root' : ℕ) → me'.0.shape ≡ me.0.shape → me'.0.base ≡ me.0.base → me'.0.whole ≡ me.0.whole → ArePrefixes me.0.seen me'.0.seen → IsLeadSeat face next' root' me' → IsLead face a' b next' root' other shown me'
+  works_there next' root' shape base whole grows is = subst (λ (z : TableId). IsLead face z b next' root' other shown me') (sym one)
+      (placed_on a b me.0 me'.0 lead.0 shape base, is, ap (λ (z : List ℕ). length z) whole ∙ lead.2, drafts_on face a a other shown me.0 me'.0 refl shape base whole seat.knows.book grows lead.3)
+
+  -- one that has seen no more
+  works_still : (next' root' : ℕ) → me'.0.shape ≡ me.0.shape → me'.0.base ≡ me.0.base → me'.0.whole ≡ me.0.whole → me'.0.seen ≡ me.0.seen → IsLeadSeat face next' root' me' → IsLead face a' b next' root' other shown me'
+  works_still next' root' shape base whole seen is = works_there next' root' shape base whole (subst (ArePrefixes me.0.seen) (sym seen) (book_refl me.0.seen)) is
 
   -- a lead that loaded the root's word
-  pub lead_loaded : (found : ℕ) → me'.1 ≡ [] → LoadsNode face me.0 (root_place me.0.shape) found me'.0 → IsLead face a' b next found me'
-  lead_loaded found empty did = let is = did.stepped in works_there next found (ap (λ (z : SeatView). z.shape) is) (ap (λ (z : SeatView). z.base) is) (ap (λ (z : SeatView). z.whole) is) record {
+  pub lead_loaded : (found : ℕ) → me'.1 ≡ [] → LoadsNode face me.0 (root_place me.0.shape) found me'.0 → IsLead face a' b next found other shown me'
+  lead_loaded found empty did = let is = did.stepped in works_there next found (ap (λ (z : SeatView). z.shape) is) (ap (λ (z : SeatView). z.base) is) (ap (λ (z : SeatView). z.whole) is) did.sees.later record {
     live = ap (λ (z : SeatView). z.live) is ∙ seat.live;
     no_slot = empty;
     hands_out = ap (λ (z : SeatView). z.spare) is ∙ seat.hands_out;
@@ -92,8 +101,8 @@ module _ (face : ℕ → ℕ → List (ℕ × ℕ) → List ℕ) (a a' : TableId
   }
 
   -- one that loaded a word of a record
-  pub lead_looked : (taken : StepTaken) → me'.0 ≡ stepping me.0 taken → me'.1 ≡ [] → IsLead face a' b next root me'
-  lead_looked taken is empty = works_there next root (ap (λ (z : SeatView). z.shape) is) (ap (λ (z : SeatView). z.base) is) (ap (λ (z : SeatView). z.whole) is) (subst (IsLeadSeat face next root) (λ i. (sym is i, sym empty i)) record {
+  pub lead_looked : (taken : StepTaken) → me'.0 ≡ stepping me.0 taken → me'.1 ≡ [] → IsLead face a' b next root other shown me'
+  lead_looked taken is empty = works_still next root (ap (λ (z : SeatView). z.shape) is) (ap (λ (z : SeatView). z.base) is) (ap (λ (z : SeatView). z.whole) is) (ap (λ (z : SeatView). z.seen) is) (subst (IsLeadSeat face next root) (λ i. (sym is i, sym empty i)) record {
     live = seat.live;
     no_slot = refl;
     hands_out = seat.hands_out;
@@ -102,8 +111,8 @@ module _ (face : ℕ → ℕ → List (ℕ × ℕ) → List ℕ) (a a' : TableId
   })
 
   -- one that handed a lane out
-  pub lead_handed : me'.0 ≡ handing_out me.0 → me'.1 ≡ me.1 → IsLead face a' b (next + 1) root me'
-  lead_handed is same = works_there (next + 1) root (ap (λ (z : SeatView). z.shape) is) (ap (λ (z : SeatView). z.base) is) (ap (λ (z : SeatView). z.whole) is) (subst (IsLeadSeat face (next + 1) root) (λ i. (sym is i, sym same i)) record {
+  pub lead_handed : me'.0 ≡ handing_out me.0 → me'.1 ≡ me.1 → IsLead face a' b (next + 1) root other shown me'
+  lead_handed is same = works_still (next + 1) root (ap (λ (z : SeatView). z.shape) is) (ap (λ (z : SeatView). z.base) is) (ap (λ (z : SeatView). z.whole) is) (ap (λ (z : SeatView). z.seen) is) (subst (IsLeadSeat face (next + 1) root) (λ i. (sym is i, sym same i)) record {
     live = seat.live;
     no_slot = seat.no_slot;
     hands_out = ap (option_map (λ n. n + 1)) seat.hands_out;
@@ -112,8 +121,8 @@ module _ (face : ℕ → ℕ → List (ℕ × ℕ) → List ℕ) (a a' : TableId
   })
 
   -- one that took a pass in
-  pub lead_joined : (w : SeatView) → me'.0 ≡ taking_back me.0 w → me'.1 ≡ me.1 → IsLead face a' b next root me'
-  lead_joined w is same = works_there next root (ap (λ (z : SeatView). z.shape) is) (ap (λ (z : SeatView). z.base) is) (ap (λ (z : SeatView). z.whole) is) (subst (IsLeadSeat face next root) (λ i. (sym is i, sym same i)) record {
+  pub lead_joined : (w : SeatView) → me'.0 ≡ taking_back me.0 w → me'.1 ≡ me.1 → IsLead face a' b next root other shown me'
+  lead_joined w is same = works_still next root (ap (λ (z : SeatView). z.shape) is) (ap (λ (z : SeatView). z.base) is) (ap (λ (z : SeatView). z.whole) is) (ap (λ (z : SeatView). z.seen) is) (subst (IsLeadSeat face next root) (λ i. (sym is i, sym same i)) record {
     live = seat.live;
     no_slot = seat.no_slot;
     hands_out = seat.hands_out;
@@ -122,14 +131,79 @@ module _ (face : ℕ → ℕ → List (ℕ × ℕ) → List ℕ) (a a' : TableId
   })
 
   -- one that took in a note
-  pub lead_learnt : (w : SeatView) → me'.0 ≡ learning me.0 w → me'.1 ≡ me.1 → IsLead face a' b next root me'
-  lead_learnt w is same = works_there next root (ap (λ (z : SeatView). z.shape) is) (ap (λ (z : SeatView). z.base) is) (ap (λ (z : SeatView). z.whole) is) (subst (IsLeadSeat face next root) (λ i. (sym is i, sym same i)) record {
+  pub lead_learnt : (w : SeatView) → me'.0 ≡ learning me.0 w → me'.1 ≡ me.1 → IsLead face a' b next root other shown me'
+  lead_learnt w is same = works_still next root (ap (λ (z : SeatView). z.shape) is) (ap (λ (z : SeatView). z.base) is) (ap (λ (z : SeatView). z.whole) is) (ap (λ (z : SeatView). z.seen) is) (subst (IsLeadSeat face next root) (λ i. (sym is i, sym same i)) record {
     live = seat.live;
     no_slot = seat.no_slot;
     hands_out = seat.hands_out;
     knows = knows_told face me.0 (seen_in me.0.era w).seen (Some (learnt_of w)) seat.knows;
     names_root = let at = seat.names_root in record { index = at.index; entry = at.entry; newest = at.newest; named = at.named };
   })
+
+-- ---- a lead that lays the next opening out
+
+module _ (face : ℕ → ℕ → List (ℕ × ℕ) → List ℕ) (a : TableId) (b next root other : ℕ) (shown : List ℕ) (me : Sat) (lead : IsLead face a b next root other shown me) (room : 2 ^ me.0.shape.bits ≤ me.0.shape.members) where
+  seated : IsLeadSeat face next root me
+  seated = lead.1
+
+  draft : IsDraft face a other shown me.0
+  draft = lead.3 room
+
+  -- it may do so
+  pub lead_may : (t : TableId) (records : ℕ) (s : Shape) → a ≡ t → me.0.shape ≡ s → records ≡ b + record_start s 0 → MayBring face a t records other s me
+  lead_may t records s one shape begins = subst (λ (z : Shape). MayBring face a t records other z me) shape record {
+    may = record {
+      seated = one;
+      no_slot = seated.no_slot;
+      long = lead.2 ∙ ap (λ (z : TableId). z.words) one;
+      inside = subst (λ (z : TableId). other + word_count me.0.shape ≤ z.words) one draft.inside;
+      few = subst (λ (z : TableId). z.words < 2 ^ 60) one lead.0.few;
+      leads = record { next = next; leads = seated.hands_out; live = seated.live; apart = draft.apart };
+    };
+    shaped = refl;
+    wide = subst (λ (z : TableId). me.0.base + word_count me.0.shape ≤ z.words) one lead.0.wide;
+    records_are = begins ∙ (λ i. lead.0.base_is i + record_start (sym shape i) 0);
+    knows = seated.knows;
+    room = room;
+  }
+
+  -- from the root's newest record on
+  pub root_named : (top : ℕ) → top ≡ root_place me.0.shape → IsNamed me.0.seen top root
+  root_named top is = let n = seated.names_root in let bits = seated.knows.laid_out.bits in let inner = root_inner me.0.shape bits.0 bits.1 in
+      subst (λ (z : ℕ). IsNamed me.0.seen z root) (sym is) record { index = n.index; entry = n.entry; at = n.newest.at; named = seated.knows.book.named (root_place me.0.shape) n.index n.entry inner n.newest.at ∙ sym n.named }
+
+  pub root_below : (s : Shape) (top : ℕ) → me.0.shape ≡ s → top ≡ root_place s → ShownBelow face s me.0.seen (words_in other s me.0) shown (level_of s top) (place_on s top)
+  root_below s top shape is = let on = level_is s (root_place s) s.bits 0 (root_word s) in let level = ap (level_of s) is ∙ on.0 in let place = ap (place_on s) is ∙ on.1 in
+      subst (λ (z : ℕ × ℕ). ShownBelow face s me.0.seen (words_in other s me.0) shown z.0 z.1) (λ i. (sym level i, sym place i)) (subst (λ (z : Shape). ShownBelow face z me.0.seen (words_in other z me.0) shown z.bits 0) shape draft.below)
+
+  pub root_noted : (s : Shape) → me.0.shape ≡ s → length shown ≡ 2 ^ s.bits
+  root_noted s shape = draft.noted ∙ ap (λ (z : Shape). 2 ^ z.bits) shape
+
+  -- and is a lead that has done so
+  pub lead_brought : (a' : TableId) (noted : List ℕ) (me' : Sat) (s : Shape) (top : ℕ) → me.0.shape ≡ s → top ≡ root_place s → a' ≡ a → me'.1 ≡ [] → StepsBeside other s me.0 me'.0
+      → Brings face s me.0.seen (level_of s top) (place_on s top) (words_in other s me.0) (words_in other s me'.0) shown noted → IsLead face a' b next root other noted me'
+  lead_brought a' noted me' s top shape is one empty steps brings =
+      let on = level_is s (root_place s) s.bits 0 (root_word s) in let level = ap (level_of s) is ∙ on.0 in let place = ap (place_on s) is ∙ on.1 in
+      let whole = subst (λ (z : ℕ × ℕ). ShownBelow face s me.0.seen (words_in other s me'.0) noted z.0 z.1) (λ i. (level i, place i)) brings.below in
+      let w : SeatView = record me.0 { whole = me'.0.whole; steps = me'.0.steps } in
+      let seat : IsLeadSeat face next root (w, []) = record {
+        live = seated.live;
+        no_slot = refl;
+        hands_out = seated.hands_out;
+        knows = knows_steps face me.0 me'.0.whole me'.0.steps seated.knows;
+        names_root = let n = seated.names_root in record { index = n.index; entry = n.entry; newest = n.newest; named = n.named };
+      } in
+      let still : IsLead face a b next root other noted (w, []) = (
+        record { base_is = lead.0.base_is; wide = lead.0.wide; few = lead.0.few },
+        seat,
+        sym steps.beside.long ∙ lead.2,
+        (λ _. record {
+          inside = draft.inside;
+          apart = draft.apart;
+          noted = brings.noted ∙ draft.noted;
+          below = subst (λ (z : Shape). ShownBelow face z me.0.seen (words_in other z me'.0) noted z.bits 0) (sym shape) whole;
+        }),
+      ) in subst (λ (z : TableId × SeatView × List (ℕ × Unit {0})). IsLead face z.0 b next root other noted (z.1, z.2)) (λ i. (sym one i, sym steps.view_is i, sym empty i)) still
 
 -- a lead that may hand a lane out may do so after it loaded a node
 pub may_hand_out : (face : ℕ → ℕ → List (ℕ × ℕ) → List ℕ) (old new : SeatView) (q found lane next : ℕ) → LoadsNode face old q found new → IsNextLane old lane → new.spare ≡ Some next → next < new.shape.workers

@@ -2,6 +2,7 @@
 use Rattle.std.specs.Prelude.{◌≡◌, ℕ, List}
 use Rattle.aug_core.specs.Addresses.{root_place}
 use Rattle.aug_core.specs.Book.{GoesOnFromBoth}
+use Rattle.aug_core.specs.Prefixes.{IsPrefix}
 use Rattle.aug_core.specs.Effects.{LoadsNode, handing_out, handed_out, taking, finishing, taking_back, own_lane_place}
 use Rattle.aug_core.specs.declared.view.SeatView.{SeatView}
 
@@ -13,6 +14,14 @@ module _ (face : ℕ → ℕ → List (ℕ × ℕ) → List ℕ) where
     pub loaded : LoadsNode face lead (root_place lead.shape) found between
     pub lead_is : after ≡ handing_out between
     pub pass_is : pass ≡ taking (handed_out between) (own_lane_place (handed_out between))
+
+  -- the lead loads the root, and then words of records that it has seen. It stores words of the part in which the next era begins
+  pub record Prepares (lead after : SeatView) : Type 0 where
+    pub found : ℕ
+    pub between : SeatView
+    pub loaded : LoadsNode face lead (root_place lead.shape) found between
+    pub lead_is : after ≡ record between { whole = after.whole; steps = after.steps }
+    pub steps : IsPrefix between.steps after.steps
 
   -- the pass ends its lane; the lead takes it in, with all that it knew; and loads the root, by which it knows more than both knew
   pub record TakesLaneBack (lead pass after : SeatView) : Type 0 where

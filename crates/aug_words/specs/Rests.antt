@@ -6,15 +6,17 @@ use lib.ListN.{get_elem?}
 use Rattle.aug_core.specs.Places.{Shape, lane_place, record_start, record_words, word_count}
 use Rattle.aug_core.specs.Addresses.{IsInner, root_place}
 use Rattle.aug_core.specs.Lanes.{IsOfLane, word_of_state}
-use Rattle.aug_core.specs.Book.{At}
+use Rattle.aug_core.specs.Book.{At, IsNewest}
+use Rattle.aug_core.specs.Cuts.{pairs_of_cut}
+use Rattle.aug_core.specs.Prefixes.{IsPrefix}
+use Rattle.aug_core.specs.inside.RootCuts.{root_cut}
 use Rattle.aug_core.specs.Opening.{Opening, IsIdle, opening_number, opening_words, shared_words}
-use Rattle.aug_core.specs.Effects.{KnowsTable, LoadsNode, held_word, opening_of}
+use Rattle.aug_core.specs.Effects.{LoadsNode, held_word, opening_of}
 use Rattle.aug_core.specs.Eras.{table_part}
-use Rattle.aug_core.specs.Renewals.{EndWith, renewing}
+use Rattle.aug_core.specs.Renewals.{EndWith, renewing, reopening}
 use Rattle.aug_core.specs.declared.view.Entry.{Entry}
 use Rattle.aug_core.specs.declared.view.Held.{Held}
 use Rattle.aug_core.specs.declared.view.SeatView.{SeatView}
-use Rattle.aug_words.specs.Seats.{NamesRoot}
 
 -- opaque: the words of a table that no seat steps on any more
 pub record AtRest : Type 0 where
@@ -39,10 +41,24 @@ module _ (face : ℕ → ℕ → List (ℕ × ℕ) → List ℕ) (o : Opening) (
 
 module _ (face : ℕ → ℕ → List (ℕ × ℕ) → List ℕ) where
   -- a lead that brings its table to rest loads the root, by which it knows the last book of the era; and from then on it knows all words
-  pub record ComesToRest (v : SeatView) (root : ℕ) (idle : SeatView) : Type 0 where
+  pub record ComesToRest (v idle : SeatView) : Type 0 where
+    pub root : ℕ
     pub last : SeatView
     pub loaded : LoadsNode face v (root_place v.shape) root last
-    pub knows : KnowsTable face last
-    pub named : NamesRoot last root
     pub idle_is : idle ≡ renewing last idle.whole
     pub rule : EndWith face (opening_of last) last (table_part v.base (word_count v.shape) idle.whole)
+
+  -- a lead opens its table again in another part, over the set of the last cut that it knew; before that it loads records, and then the root
+  pub record OpensAgain (v w : SeatView) : Type 0 where
+    pub prepared : SeatView
+    pub prepared_is : prepared ≡ record v { whole = prepared.whole; steps = prepared.steps }
+    pub steps : IsPrefix v.steps prepared.steps
+    pub idle : SeatView
+    pub rests : ComesToRest prepared idle
+    pub index : ℕ
+    pub entry : Entry
+    pub newest : IsNewest v.seen (root_place v.shape) index entry
+    pub base : ℕ
+    pub before : SeatView
+    pub opened : w ≡ reopening face (pairs_of_cut (root_cut v.shape v.seen index)) base before
+    pub next : (before.era ≡ idle.era) × (before.past ≡ idle.past) × (before.shape ≡ v.shape)

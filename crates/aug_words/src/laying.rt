@@ -1,35 +1,28 @@
-//! A part of a table with room for all keys is laid out for its next opening: the words of leaves and nodes, and the opening records of
-//! the nodes, each of which has its own.
-ghost use Rattle.std.specs.Prelude.{All, ◌≡◌, ◌+◌, ◌-◌, ◌*◌, ◌^◌, ◌<◌, ◌≤◌, ◌∷◌, [], true, length, slice_index};
-ghost use Rattle.std.specs.List.Sorted.{IsStrictlyIncreasing};
-ghost use Rattle.aug_model.specs.Keys.{IsKeySet, keys_of};
-ghost use Rattle.aug_model.specs.NodeKeys.{first_key, pairs_below};
-ghost use Rattle.aug_model.specs.Queries.{rank_of};
-ghost use Rattle.aug_monoid.specs.Fold.{fold_of};
-ghost use Rattle.aug_monoid.specs.Weighted.{FitsPair};
+//! The part of a table beside the one at work is laid out for the next opening by what its lead has seen: the words of leaves and nodes, and the
+//! opening records of the nodes, each of which has its own.
+ghost use Rattle.std.specs.Prelude.{◌≡◌, ℕ, ◌+◌, ◌-◌, ◌*◌, ◌^◌, ◌<◌, ◌≤◌, ◌∷◌, [], true, None, length, slice_index};
 ghost use Rattle.aug_core.specs.Addresses.{IsInner, level_of, place_count, place_on};
-ghost use Rattle.aug_core.specs.Eras.{opening_with};
+ghost use Rattle.aug_core.specs.Effects.{HasSeen, Says};
 ghost use Rattle.aug_core.specs.Faces.{face};
-ghost use Rattle.aug_core.specs.Opening.{opening_leaf_word, opening_number, opening_pairs};
-ghost use Rattle.aug_core.specs.Places.{word_count, record_words};
+ghost use Rattle.aug_core.specs.Opening.{shared_words};
+ghost use Rattle.aug_core.specs.Places.{record_start, record_words, word_count};
 ghost use Rattle.aug_words.specs.inside.Builds.{WritesFive};
-ghost use Rattle.aug_words.specs.inside.Laying.{ChangesPart, FreesLanes, LaysNode, LaysOut, MayLay, PutsWord, own_number, words_in};
+ghost use Rattle.aug_words.specs.inside.Laying.{Brings, ChangesPart, FreesLanes, IsLaidAs, IsNamed, LaysNode, MayBring, MayLay, PutsWord, SharesRecords, ShownBelow, StepsBeside, next_record, next_word, own_number, renewed_word, words_in};
 
-use crate::building::{Child, SERIAL};
+use crate::building::SERIAL;
+use crate::draft::Draft;
+use crate::pass::record_word;
 use crate::words::Words;
 use atomic_table::Seat;
-use aug_core::{LANE_FREE, LoadAnyWord, RECORD_WORDS, SeatView, StoreAnyWord};
+use aug_core::{LANE_FREE, LoadAnyRecord, LoadAnyWord, RECORD_WORDS, SeatView, StoreAnyWord};
 use aug_monoid::Monoid;
 
-// The word with which a key's leaf opens over these members, `at` of which are below the key.
-fn leaf_word(members: &[(u32, u32)], at: usize, key: usize) -> u64
-    requires rising { IsStrictlyIncreasing (keys_of members.now) }
-    requires members_fit { All FitsPair members.now }
-    requires at { at ≡ rank_of (keys_of members.now) key }
-    ensures { result ≡ opening_leaf_word members.now key }
+// The word with which a leaf opens, by one that names an entry of it.
+fn renewed_word(word: u64) -> u64
+    ensures { result ≡ renewed_word word }
 {
-    if at < members.len() && members[at].0 as usize == key {
-        SERIAL + u64::from(members[at].1)
+    if word / SERIAL % 2 == 1 {
+        SERIAL + word % SERIAL
     } else {
         0
     }
@@ -70,81 +63,163 @@ impl<A: Monoid, B: Monoid> Words<A, B> {
         self.put_word(seat, base, start + 4, five[4]);
     }
 
-    // Fills a node's own record from its children, and sets its word.
+    // The number of a node's own record.
+    pub(crate) fn own_number(&self, node: usize) -> u64
+        requires node { IsInner self.now.shape node }
+        ensures { result ≡ own_number self.now.shape node }
+    {
+        let leaves = self.lanes / 2 + 1;
+        u64::from(self.layout.bits()) + (node - leaves) as u64
+    }
+
+    // The word with which a leaf or a node opens there, by one that names an entry of it.
+    fn next_word(&self, node: usize, word: u64) -> u64
+        requires node { node < place_count self.now.shape }
+        ensures { result ≡ next_word self.now.shape node word }
+    {
+        if node < self.lanes / 2 + 1 {
+            renewed_word(word)
+        } else {
+            self.own_number(node)
+        }
+    }
+
+    // Loads a word of a record that the lead has seen.
+    fn load_field(
+        &self,
+        seat: &mut Seat<(), SeatView>,
+        base: usize,
+        records: usize,
+        number: u64,
+        field: usize,
+    ) -> u64
+        requires may { MayBring (face A.parts B.parts) seat.old.table_id self.now.table records base self.now.shape seat.old.me }
+        requires seen { HasSeen seat.old.me.0 number }
+        requires field { field < record_words }
+        ensures may { MayBring (face A.parts B.parts) seat.new.table_id self.now.table records base self.now.shape seat.new.me }
+        ensures view { StepsBeside base self.now.shape seat.old.me.0 seat.new.me.0 }
+        ensures same { seat.new.me.0.whole ≡ seat.old.me.0.whole }
+        ensures says { Says seat.old.me.0 number field result }
+    {
+        let place = record_word(records, number, field);
+        self.table.shared.load::<LoadAnyRecord>(seat, place)
+    }
+
+    // Loads the five words of such a record.
+    fn load_record(
+        &self,
+        seat: &mut Seat<(), SeatView>,
+        base: usize,
+        records: usize,
+        number: u64,
+    ) -> [u64; RECORD_WORDS]
+        requires may { MayBring (face A.parts B.parts) seat.old.table_id self.now.table records base self.now.shape seat.old.me }
+        requires seen { HasSeen seat.old.me.0 number }
+        ensures may { MayBring (face A.parts B.parts) seat.new.table_id self.now.table records base self.now.shape seat.new.me }
+        ensures view { StepsBeside base self.now.shape seat.old.me.0 seat.new.me.0 }
+        ensures same { seat.new.me.0.whole ≡ seat.old.me.0.whole }
+        ensures says { (field : ℕ) → field < record_words → Says seat.old.me.0 number field (slice_index result field) }
+    {
+        let left = self.load_field(seat, base, records, number, 0);
+        let right = self.load_field(seat, base, records, number, 1);
+        let count = self.load_field(seat, base, records, number, 2);
+        let a = self.load_field(seat, base, records, number, 3);
+        let b = self.load_field(seat, base, records, number, 4);
+        [left, right, count, a, b]
+    }
+
+    // Fills a node's own record by the one as which it is laid out, and sets its word.
     fn lay_node(
         &self,
         seat: &mut Seat<(), SeatView>,
         base: usize,
         node: usize,
-        left: Child<A, B>,
-        right: Child<A, B>,
-    ) -> Child<A, B>
+        five: [u64; RECORD_WORDS],
+    )
         requires may { MayLay seat.old.table_id self.now.table base self.now.shape seat.old.me }
         requires room { 2 ^ self.now.shape.bits ≤ self.now.shape.members }
         requires node { IsInner self.now.shape node }
-        requires few { left.count + right.count ≤ 2 ^ 16 }
         ensures may { MayLay seat.new.table_id self.now.table base self.now.shape seat.new.me }
         ensures changes { ChangesPart base self.now.shape seat.old.me.0 seat.new.me.0 }
-        ensures lays { LaysNode self.now.shape node (left.number ∷ right.number ∷ result.count ∷ A.parts.to_word result.a ∷ B.parts.to_word result.b ∷ []) (words_in base self.now.shape seat.old.me.0) (words_in base self.now.shape seat.new.me.0) }
-        ensures number { result.number ≡ own_number self.now.shape node }
-        ensures count { result.count ≡ left.count + right.count }
-        ensures a { result.a ≡ A.parts.join left.a right.a }
-        ensures b { result.b ≡ B.parts.join left.b right.b }
+        ensures lays { LaysNode self.now.shape node (next_record self.now.shape node five) (words_in base self.now.shape seat.old.me.0) (words_in base self.now.shape seat.new.me.0) }
     {
-        let leaves = self.lanes / 2 + 1;
-        let number = self.layout.bits() as usize + (node - leaves);
-        let child = Child {
-            number: number as u64,
-            count: left.count + right.count,
-            a: left.a.join(right.a),
-            b: left.b.join(right.b),
-        };
-        let five = [
-            left.number,
-            right.number,
-            child.count,
-            child.a.to_word(),
-            child.b.to_word(),
+        let child = 2 * (node - (self.lanes / 2 + 1));
+        let next = [
+            self.next_word(child, five[0]),
+            self.next_word(child + 1, five[1]),
+            five[2],
+            five[3],
+            five[4],
         ];
-        self.put_five(seat, base, self.records + RECORD_WORDS * number, five);
-        self.put_word(seat, base, node, child.number);
-        child
+        let number = self.own_number(node);
+        let start = self.records + RECORD_WORDS * number as usize;
+        self.put_five(seat, base, start, next);
+        self.put_word(seat, base, node, number);
     }
 
-    /// Lays out a leaf or a node with all that is below it, for an opening over these members, in the part that begins at this word. So many of
-    /// them are below its first key.
-    pub(crate) fn lay_below(
+    /// Lays out a leaf or a node with all that is below it as the entry that this word names, as far as it is not laid out so, and as far as this piece
+    /// goes. So many keys are below it, from `first` on. True if all of it is laid out so.
+    pub(crate) fn bring(
         &self,
         seat: &mut Seat<(), SeatView>,
-        base: usize,
+        draft: &mut Draft,
+        records: usize,
         node: usize,
-        members: &[(u32, u32)],
-        at: usize,
-    ) -> Child<A, B>
-        requires may { MayLay seat.old.table_id self.now.table base self.now.shape seat.old.me }
-        requires room { 2 ^ self.now.shape.bits ≤ self.now.shape.members }
-        requires keys { IsKeySet self.now.shape.bits (keys_of members.now) }
-        requires members_fit { All FitsPair members.now }
+        word: u64,
+        first: usize,
+        width: usize,
+    ) -> bool
+        requires may { MayBring (face A.parts B.parts) seat.old.table_id self.now.table records draft.old.base self.now.shape seat.old.me }
         requires node { node < place_count self.now.shape }
-        requires at { at ≡ rank_of (keys_of members.now) (first_key (level_of self.now.shape node) (place_on self.now.shape node)) }
-        ensures may { MayLay seat.new.table_id self.now.table base self.now.shape seat.new.me }
-        ensures changes { ChangesPart base self.now.shape seat.old.me.0 seat.new.me.0 }
-        ensures lays { LaysOut (face A.parts B.parts) (opening_with self.now.shape members.now) (level_of self.now.shape node) (place_on self.now.shape node) (words_in base self.now.shape seat.old.me.0) (words_in base self.now.shape seat.new.me.0) }
-        ensures number { result.number ≡ opening_number (opening_with self.now.shape members.now) node }
-        ensures count { result.count ≡ length (opening_pairs (opening_with self.now.shape members.now) node) }
-        ensures a { result.a ≡ fold_of A.parts (opening_pairs (opening_with self.now.shape members.now) node) }
-        ensures b { result.b ≡ fold_of B.parts (opening_pairs (opening_with self.now.shape members.now) node) }
+        requires named { IsNamed seat.old.me.0.seen node word }
+        requires noted { length draft.old.shown.items ≡ 2 ^ self.now.shape.bits }
+        requires below { ShownBelow (face A.parts B.parts) self.now.shape seat.old.me.0.seen (words_in draft.old.base self.now.shape seat.old.me.0) draft.old.shown.items (level_of self.now.shape node) (place_on self.now.shape node) }
+        ensures may { MayBring (face A.parts B.parts) seat.new.table_id self.now.table records draft.old.base self.now.shape seat.new.me }
+        ensures base { draft.new.base ≡ draft.old.base }
+        ensures view { StepsBeside draft.old.base self.now.shape seat.old.me.0 seat.new.me.0 }
+        ensures brings { Brings (face A.parts B.parts) self.now.shape seat.old.me.0.seen (level_of self.now.shape node) (place_on self.now.shape node) (words_in draft.old.base self.now.shape seat.old.me.0) (words_in draft.old.base self.now.shape seat.new.me.0) draft.old.shown.items draft.new.shown.items }
+        ensures done { result ≡ true → IsLaidAs (face A.parts B.parts) self.now.shape seat.old.me.0.seen node word (words_in draft.old.base self.now.shape seat.new.me.0) }
+        ensures all { draft.old.left ≡ None → (result ≡ true) × (draft.new.left ≡ None) }
     {
         let leaves = self.lanes / 2 + 1;
         if node < leaves {
-            let word = leaf_word(members, at, node);
-            self.put_word(seat, base, node, word);
-            return Child::of_leaf(node, word);
+            self.put_word(seat, draft.base, node, renewed_word(word));
+            return true;
         }
-        let first = 2 * (node - leaves);
-        let left = self.lay_below(seat, base, first, members, at);
-        let right = self.lay_below(seat, base, first + 1, members, at + left.count as usize);
-        self.lay_node(seat, base, node, left, right)
+        let slot = node - leaves;
+        if draft.shown[slot] == word + 1 {
+            return true;
+        }
+        if draft.passes(first, width) {
+            return false;
+        }
+        draft.shown[slot] = 0;
+        let five = self.load_record(seat, draft.base, records, word);
+        let (child, half) = (2 * slot, width / 2);
+        let left = self.bring(seat, draft, records, child, five[0], first, half);
+        let middle = first.wrapping_add(half);
+        let right = self.bring(seat, draft, records, child + 1, five[1], middle, half);
+        if left && right {
+            self.lay_node(seat, draft.base, node, five);
+            draft.shown[slot] = word + 1;
+            true
+        } else {
+            false
+        }
+    }
+
+    /// Fills the records that the nodes of a level share in other tables.
+    pub(crate) fn lay_shared(&self, seat: &mut Seat<(), SeatView>, base: usize)
+        requires may { MayLay seat.old.table_id self.now.table base self.now.shape seat.old.me }
+        ensures may { MayLay seat.new.table_id self.now.table base self.now.shape seat.new.me }
+        ensures changes { ChangesPart base self.now.shape seat.old.me.0 seat.new.me.0 }
+        ensures shares { SharesRecords (face A.parts B.parts) self.now.shape self.now.shape.bits (words_in base self.now.shape seat.old.me.0) (words_in base self.now.shape seat.new.me.0) }
+    {
+        for level in 0..self.layout.bits() as usize {
+            let below = level.saturating_sub(1) as u64;
+            let five = [below, below, 0, A::unit().to_word(), B::unit().to_word()];
+            self.put_five(seat, base, self.records + RECORD_WORDS * level, five);
+        }
     }
 
     /// Frees all lanes of that part.

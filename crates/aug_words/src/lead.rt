@@ -1,5 +1,5 @@
 //! The seat that hands lanes out and takes passes back.
-ghost use Rattle.std.specs.Prelude.{◌≡◌, ◌+◌, ◌<◌, ℕ, [], true};
+ghost use Rattle.std.specs.Prelude.{◌≡◌, ◌+◌, ◌^◌, ◌<◌, ◌≤◌, ℕ, [], true};
 ghost use Rattle.aug_core.specs.Faces.{face};
 ghost use Rattle.aug_core.specs.Addresses.{root_place};
 ghost use Rattle.aug_core.specs.Places.{lane_place, word_count};
@@ -7,9 +7,10 @@ ghost use Rattle.aug_core.specs.Fields.{field_offset};
 ghost use Rattle.aug_core.specs.Effects.{HasSeen, KnowsTable, taking, finishing, own_lane_place};
 ghost use Rattle.aug_core.specs.Renewals.{Surveys};
 ghost use Rattle.aug_core.specs.inside.LaneStates.{MayTake, HasTakenLane};
-ghost use Rattle.aug_words.specs.Leads.{HandsLaneOut, TakesLaneBack};
+ghost use Rattle.aug_words.specs.Leads.{HandsLaneOut, Prepares, TakesLaneBack};
 ghost use Rattle.aug_words.specs.Seats.{AreTogether, IsOfLead, IsNextLane, LoadsRecordWord, NamesRoot};
 
+use crate::draft::Draft;
 use crate::half::WordHalf;
 use crate::pass::{WordPass, record_word};
 use crate::words::Words;
@@ -31,6 +32,8 @@ pub struct Lead<A: Monoid, B: Monoid> {
     pub(crate) next: u32,
     // The number of the newest record of the root that the lead has seen.
     pub(crate) root: u64,
+    // What is laid out of the part in which the next era begins, if the table has room for all keys.
+    pub(crate) draft: Draft,
     pub(crate) sums: PhantomData<(A, B)>,
 }
 
@@ -43,7 +46,7 @@ impl<A: Monoid, B: Monoid> Model for Lead<A, B> {
 
     ghost view = { λ p. record { table = p.seat.table_id; view = p.seat.me.0 } };
 
-    ghost invariant = { λ p. IsLead (face A.parts B.parts) p.seat.table_id p.base p.next p.root p.seat.me };
+    ghost invariant = { λ p. IsLead (face A.parts B.parts) p.seat.table_id p.base p.next p.root p.draft.base p.draft.shown.items p.seat.me };
 }
 
 // Takes the lane of a seat that was just split off: a compare-exchange of its word from free to taken.
@@ -135,6 +138,29 @@ impl<A: Monoid, B: Monoid> Lead<A, B> {
     {
         let root = self.root_word(words.lanes);
         self.load_root(&words.table.shared, root)
+    }
+
+    /// Loads the root, and then brings the part of the table in which the next era begins up to what the lead has seen, from where the call before
+    /// stopped: it loads the records of about so many nodes that have changed since, and stores what differs. True if nothing is left to do.
+    pub fn prepare(&mut self, words: &Words<A, B>, nodes: u32) -> bool
+        requires together { AreTogether words.now self.old }
+        requires room { 2 ^ self.old.view.shape.bits ≤ self.old.view.shape.members }
+        ensures table { self.new.table ≡ self.old.table }
+        ensures prepares { Prepares (face A.parts B.parts) self.old.view self.new.view }
+    {
+        self.survey(words);
+        self.draft.begin(nodes.saturating_add(words.layout.bits()));
+        let done = words.bring(
+            &mut self.seat,
+            &mut self.draft,
+            self.base + words.records,
+            words.lanes - 1,
+            self.root,
+            0,
+            words.lanes / 2 + 1,
+        );
+        self.draft.end();
+        done
     }
 
     /// Loads one of the five words of a record that the lead has seen, as a pass does.

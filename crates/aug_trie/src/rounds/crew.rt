@@ -1,7 +1,7 @@
 //! The crew of a round, which hands its passes out and takes them back.
 ghost use Rattle.std.specs.Prelude.{◌≡◌, ◌↔◌, ◌^◌, ◌≤◌, [], IsErr, OnErr, IfOk, vec_capacity};
 ghost use Rattle.aug_query.specs.Tree.{IsTreeSet};
-ghost use Rattle.aug_trie.specs.Crew.{HandsOut, TakesBack, CrewLooks, CrewReads, IsOver, set_of_crew};
+ghost use Rattle.aug_trie.specs.Crew.{HandsOut, TakesBack, CrewLooks, CrewPrepares, CrewReads, IsOver, set_of_crew};
 ghost use Rattle.aug_trie.specs.Node.{steps_for};
 ghost use Rattle.aug_trie.specs.Round.{table_of};
 
@@ -95,6 +95,19 @@ impl<A: Monoid, B: Monoid> Crew<A, B> {
             unreachable!()
         };
         lead.survey(&round.words);
+    }
+
+    /// Loads the root, and then lays the next round out, from where the call before stopped: in the part of the table that is not at work it brings about
+    /// so many nodes up to the last cut. The round has room for all keys. True if nothing is left to do until the set changes.
+    pub fn prepare(&mut self, round: &Round<A, B>, nodes: u32) -> bool
+        requires together { table_of self.old.round ≡ round.now }
+        requires room { 2 ^ self.old.round.bits ≤ self.old.round.room }
+        ensures { CrewPrepares self.old self.new }
+    {
+        let Some(lead) = &mut self.lead else {
+            unreachable!()
+        };
+        lead.prepare(&round.words, nodes)
     }
 
     /// Asks the set of the last cut that the crew knows. It makes as many steps as [`Pass::ask`] with the same query.

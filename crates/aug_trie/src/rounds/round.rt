@@ -214,26 +214,19 @@ impl<A: Monoid, B: Monoid> Round<A, B> {
     }
 
     /// Ends the round, to which all passes have come back, and begins the next over its set, in the same memory and with the same
-    /// numbers. `list` is empty and has room for all keys; it has the set afterwards. Returns the crew of the next round, and how many keys
-    /// the round that ended put in and took out. The call takes no memory and has no refusal.
-    pub fn renew(&self, crew: Crew<A, B>, list: &mut Vec<(u32, u32)>) -> (Crew<A, B>, u32, u32)
+    /// numbers. What `Crew::prepare` has left to do is done first. Returns the crew of the next round, and how many keys the round that ended put in and
+    /// took out. The call takes no memory and has no refusal.
+    pub fn renew(&self, crew: Crew<A, B>) -> (Crew<A, B>, u32, u32)
         requires together { table_of crew.round ≡ self.now }
         requires all_back { crew.back ≡ crew.handed }
         requires room { 2 ^ crew.round.bits ≤ crew.round.room }
-        requires empty { list.old.items ≡ [] }
-        requires list_room { 2 ^ crew.round.bits ≤ vec_capacity list.old }
-        ensures rolls { RollsOver crew result.0 list.new.items result.1 result.2 }
-        ensures keys { IsKeySet crew.round.bits (keys_of list.new.items) }
-        ensures fit { All FitsPair list.new.items }
-        ensures list_room { vec_capacity list.new ≡ vec_capacity list.old }
+        ensures { RollsOver crew result.0 result.1 result.2 }
     {
         let mut crew = crew;
         let (inserts, removals) = crew.over(self);
-        crew.list(self, list);
         let Crew { lead, .. } = crew;
         let Some(lead) = lead else { unreachable!() };
-        let (idle, _) = self.words.rest(lead);
-        let lead = self.words.open_again(idle, list.as_slice());
+        let lead = self.words.open_again(lead);
         let crew = Crew {
             lead: Some(lead),
             back: 0,
@@ -243,22 +236,22 @@ impl<A: Monoid, B: Monoid> Round<A, B> {
         (crew, inserts, removals)
     }
 
-    /// Ends the round for good, to which all passes have come back: its set, and how many keys it put in and took out. `list` is as `renew` takes it,
-    /// and the call takes no memory and has no refusal. The table goes with its last owner.
+    /// Ends the round for good, to which all passes have come back: its set, and how many keys it put in and took out. `list` is empty and has room for
+    /// all keys; the call takes no memory and has no refusal. The table goes with its last owner.
     pub fn finish(&self, crew: Crew<A, B>, list: Vec<(u32, u32)>) -> (Members, u32, u32)
         requires together { table_of crew.round ≡ self.now }
         requires all_back { crew.back ≡ crew.handed }
         requires room { 2 ^ crew.round.bits ≤ crew.round.room }
         requires empty { list.items ≡ [] }
         requires list_room { 2 ^ crew.round.bits ≤ vec_capacity list }
-        ensures rolls { (next : CrewFacts) × RollsOver crew next result.0.pairs result.1 result.2 }
+        ensures rolls { (next : CrewFacts) × RollsOver crew next result.1 result.2 × (result.0.pairs ≡ next.round.members) }
         ensures bits { result.0.bits ≡ crew.round.bits }
     {
+        let (mut crew, mut list) = (crew, list);
+        let (inserts, removals) = crew.over(self);
+        crew.list(self, &mut list);
         let bits = self.layout.bits();
-        let mut list = list;
-        let (_, inserts, removals) = self.renew(crew, &mut list);
-        let members = Members { bits, pairs: list };
-        (members, inserts, removals)
+        (Members { bits, pairs: list }, inserts, removals)
     }
 
     /// The pass of a half that was taken from a pass of this round.

@@ -5,16 +5,14 @@ use Rattle.aug_core.specs.Places.{Shape, lane_place, record_start, word_count}
 use Rattle.aug_core.specs.Layout.{IsLayout}
 use Rattle.aug_core.specs.Lanes.{block_size}
 use Rattle.aug_core.specs.Book.{At}
-use Rattle.aug_core.specs.Opening.{shared_words}
 use Rattle.aug_core.specs.Effects.{Sat, HoldsOnly, KnowsTable}
-use Rattle.aug_core.specs.Eras.{table_part}
 use Rattle.aug_core.specs.declared.opening.TableKey.{TableKey}
 use Rattle.aug_core.specs.declared.view.Entry.{Entry}
 use Rattle.aug_core.specs.declared.view.Held.{Held}
 use Rattle.aug_core.specs.declared.view.SeatView.{SeatView}
 use Rattle.aug_core.specs.declared.view.LaneState.TheVariants.{Taken}
 use Rattle.aug_words.specs.Seats.{NamesRoot}
-use Rattle.aug_words.specs.inside.Builds.{AreWords}
+use Rattle.aug_words.specs.inside.Laying.{Drafts}
 
 -- what a table's fields keep: it was made with this layout, of which one part or more has room there, and in each part lanes and records begin at these words
 pub record IsStore (table : TableId) (made : TableKey) (layout : Shape) (lanes records : ℕ) : Type 0 where
@@ -72,13 +70,6 @@ module _ (face : ℕ → ℕ → List (ℕ × ℕ) → List ℕ) where
     pub knows : KnowsTable face me.0
     pub names_root : NamesRoot me.0 root
 
-  -- what holds for a lead: it works in a part of its table, and has all words beside that
-  abbrev pub IsLead : TableId → ℕ → ℕ → ℕ → Sat → Type 0
-  IsLead table base next root me = IsPlaced table base me.0 × IsLeadSeat next root me × (length me.0.whole ≡ table.words)
-
-  -- what holds for the seat of a lead at rest: it renews the table, and knows all words; in the part that was at work last each level has its shared record
-  pub record IsIdleSeat (table : TableId) (me : Sat) : Type 0 where
-    pub renews : me.0.renews ≡ true
-    pub no_slot : me.1 ≡ []
-    pub long : length me.0.whole ≡ table.words
-    pub shared : (level : ℕ) → level < me.0.shape.bits → AreWords (table_part me.0.base (word_count me.0.shape) me.0.whole) (record_start me.0.shape level) (shared_words face level)
+  -- what holds for a lead: it works in a part of its table, has all words beside that, and has noted what is laid out of the part that begins at `other`
+  abbrev pub IsLead : TableId → ℕ → ℕ → ℕ → ℕ → List ℕ → Sat → Type 0
+  IsLead table base next root other shown me = IsPlaced table base me.0 × IsLeadSeat next root me × (length me.0.whole ≡ table.words) × Drafts face table other shown me.0

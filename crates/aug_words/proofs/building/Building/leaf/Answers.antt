@@ -1,7 +1,6 @@
 use Rattle.std.proofs.Common.{arith, ap, ◌∙◌, length}
 use Rattle.aug_monoid.specs.Fold.{fold_of}
-use Rattle.aug_words.proofs.Builds.{rises, ready_number}
-use Rattle.aug_words.proofs.Lays.{leaf_tells}
+use Rattle.aug_words.proofs.Builds.{leaf_tells, rises, ready_number}
 use Rattle.aug_words.proofs.building.Building.leaf.Goals as goal
 
 pub of_leaf-requires : goal.of_leaf-requires

@@ -1,60 +1,159 @@
-use Rattle.std.proofs.Common.{arith, sym, ap, subst, ◌∙◌, ◌≡◌, ◌+◌, ◌^◌, ◌<◌, ◌≤◌, ℕ, List, [], length, refl}
-use Rattle.aug_model.specs.Keys.{keys_of}
-use Rattle.aug_model.specs.NodeKeys.{first_key}
-use Rattle.aug_model.specs.Queries.{rank_of}
-use Rattle.aug_model.proofs.Boundaries.{IsKeySet-few}
+use Rattle.std.proofs.Common.{refl, ap, sym, subst, ⊎_elim, inl, inr, ◌⊎◌, ◌∙◌, ◌≡◌, ◌+◌, ◌-◌, ◌^◌, ◌≤◌, ℕ, List, [], length}
+use Rattle.aug_core.specs.Addresses.{IsInner, root_place}
+use Rattle.aug_core.specs.Cuts.{pairs_of_cut}
+use Rattle.aug_core.specs.Effects.{Sat}
 use Rattle.aug_core.specs.Faces.{face}
-use Rattle.aug_core.specs.Addresses.{level_of, place_on, root_place}
 use Rattle.aug_core.specs.Layout.{IsLayout}
-use Rattle.aug_core.specs.Places.{Shape, record_start, word_count}
-use Rattle.aug_core.specs.Opening.{Opening, opening_number, shared_words}
-use Rattle.aug_core.specs.Eras.{opening_with, table_part}
-use Rattle.aug_core.specs.Renewals.{IsOpened}
+use Rattle.aug_core.specs.Opening.{Opening, opening_number}
+use Rattle.aug_core.specs.Eras.{opening_with}
+use Rattle.aug_core.specs.Places.{Shape, word_count}
+use Rattle.aug_core.specs.Renewals.{IsOpened, reopening}
+use Rattle.aug_core.specs.inside.RootCuts.{root_cut}
 use Rattle.aug_core.specs.declared.view.SeatView.{SeatView}
 use Rattle.aug_core.proofs.Openings.{opener}
-use Rattle.aug_words.specs.Seats.{Store, Known}
-use Rattle.aug_words.specs.inside.Builds.{AreWords}
-use Rattle.aug_words.specs.inside.Laying.{LaysOut, words_in}
-use Rattle.aug_words.specs.inside.SeatState.{IsLeadSeat, IsPlaced}
 use Rattle.atomic_table.specs.Seated.{TableId}
-use Rattle.aug_words.proofs.Leads.{opening_seat}
-use Rattle.aug_words.proofs.Lays.{part_words, idle_may, laid_opens, root_at, root_first}
+use Rattle.aug_words.specs.Rests.{OpensAgain}
+use Rattle.aug_words.specs.Seats.{Known, Store}
+use Rattle.aug_words.specs.inside.Laying.{ChangesPart, FreesLanes, IsDraft, OpensOver, own_number, IsLaidAs, SharesRecords, words_in}
+use Rattle.aug_words.specs.inside.SeatState.{IsLead, IsLeadSeat, IsPlaced}
+use Rattle.aug_words.proofs.Chunks.{room_number}
+use Rattle.aug_words.proofs.Lays.{root_at}
+use Rattle.aug_words.proofs.Leads.{opening_seat, root_below, root_inner, root_named}
+use Rattle.aug_words.proofs.Reopens.{none_below, opened_there, opens_again, Renews, renews_here, shape_there, whole_there}
 use Rattle.aug_words.proofs.words.Words.open_again.Goals as goal
 
-pub overflow_sub-self-inside : goal.overflow_sub-self-inside
-overflow_sub-self-inside g c = (root_at _ _ _ _ _ _ c.self.invariant (ap (λ (z : Store). z.shape) c.self.view_is)).0
+pub bring-requires-clause-named : goal.bring-requires-clause-named
+bring-requires-clause-named g c =
+    let f = face g.A.Monoid.parts g.B.Monoid.parts in let s : Shape = c.args.self.now.shape in let me : Sat = c.lead.inside.seat.me in let lead = c.lead.invariant in
+    let shape : me.0.shape ≡ s = ap (λ (k : Known). k.view.shape) c.lead.view_is ∙ c.requires.together.one_shape in
+    let room = subst (λ (z : Shape). 2 ^ z.bits ≤ z.members) (sym shape) c.requires.room in let stored = ap (λ (z : Store). z.shape) c.self.view_is in let top = root_at _ _ _ s _ _ c.self.invariant stored in
+    let other : ℕ = c.lead.inside.draft.base in let shown : List ℕ = c.lead.inside.draft.shown.items in let root : ℕ = c.lead.inside.root in let base : ℕ = c.lead.inside.base in let next : ℕ = c.lead.inside.next in
+    root_named f _ base next root other shown me lead room (c.self.inside.lanes - 1) (top.1 ∙ ap root_place (sym shape))
 
-pub lay_below-root-requires-clause-node : goal.lay_below-root-requires-clause-node
-lay_below-root-requires-clause-node g c = (root_at _ _ _ _ _ _ c.self.invariant (ap (λ (z : Store). z.shape) c.self.view_is)).2
-
-pub lay_below-root-requires-clause-at : goal.lay_below-root-requires-clause-at
-lay_below-root-requires-clause-at g c = let s : Shape = c.args.self.now.shape in let keys : List ℕ = keys_of c.args.members.now in
-    root_first s keys ∙ ap (λ (z : ℕ). rank_of keys (first_key (level_of s z) (place_on s z))) (sym (root_at _ _ _ s _ _ c.self.invariant (ap (λ (z : Store). z.shape) c.self.view_is)).1)
-
-pub free_lanes-requires : goal.free_lanes-requires
-free_lanes-requires g c = record { may = idle_may (face g.A.Monoid.parts g.B.Monoid.parts) _ c.args.self.now.table c.idle.inside.base c.idle.inside.seat.me c.args.self.now.shape c.idle.invariant (ap (λ (k : Known). k.table) c.idle.view_is ∙ c.requires.table) (ap (λ (k : Known). k.view.shape) c.idle.view_is ∙ c.requires.shape) }
+pub bring-requires-clause-below : goal.bring-requires-clause-below
+bring-requires-clause-below g c =
+    let f = face g.A.Monoid.parts g.B.Monoid.parts in let s : Shape = c.args.self.now.shape in let me : Sat = c.lead.inside.seat.me in let lead = c.lead.invariant in
+    let shape : me.0.shape ≡ s = ap (λ (k : Known). k.view.shape) c.lead.view_is ∙ c.requires.together.one_shape in
+    let room = subst (λ (z : Shape). 2 ^ z.bits ≤ z.members) (sym shape) c.requires.room in let stored = ap (λ (z : Store). z.shape) c.self.view_is in let top = root_at _ _ _ s _ _ c.self.invariant stored in
+    let other : ℕ = c.lead.inside.draft.base in let shown : List ℕ = c.lead.inside.draft.shown.items in let root : ℕ = c.lead.inside.root in let base : ℕ = c.lead.inside.base in let next : ℕ = c.lead.inside.next in
+    root_below f _ base next root other shown me lead room s (c.self.inside.lanes - 1) shape top.1
 
 pub reopen-requires-clause-opened : goal.reopen-requires-clause-opened
 reopen-requires-clause-opened g c =
-    let f = face g.A.Monoid.parts g.B.Monoid.parts in let s : Shape = c.args.self.now.shape in let o : Opening = opening_with s c.args.members.now in let b : ℕ = c.idle.inside.base in
-    let v : SeatView = c.idle.inside.seat.me.0 in let u : SeatView = c.free_lanes.new.seat.me.0 in let w : SeatView = c.lay_below-root.new.seat.me.0 in
-    let idle : v.shape ≡ s = ap (λ (k : Known). k.view.shape) c.idle.view_is ∙ c.requires.shape in
-    let shaped : w.shape ≡ s = ap (λ (z : SeatView). z.shape) c.lay_below-root.ensures.changes.view_is ∙ ap (λ (z : SeatView). z.shape) c.free_lanes.ensures.changes.view_is ∙ idle in
-    let root = (root_at _ _ _ s _ _ c.self.invariant (ap (λ (z : Store). z.shape) c.self.view_is)).1 in
-    subst (λ (z : Shape). IsOpened f (opening_with z c.args.members.now) (words_in b z w)) (sym shaped)
-    (laid_opens f o (words_in b s v) (words_in b s u) (words_in b s w) c.requires.room c.requires.keys c.requires.members_fit (part_words b s _ _ c.idle.inside.seat.me (idle_may (face g.A.Monoid.parts g.B.Monoid.parts) _ c.args.self.now.table c.idle.inside.base c.idle.inside.seat.me c.args.self.now.shape c.idle.invariant (ap (λ (k : Known). k.table) c.idle.view_is ∙ c.requires.table) (ap (λ (k : Known). k.view.shape) c.idle.view_is ∙ c.requires.shape)))
-    (subst (λ (z : ℕ × Shape). (level : ℕ) → level < z.1.bits → AreWords (table_part z.0 (word_count z.1) v.whole) (record_start z.1 level) (shared_words f level)) (λ i. (sym c.idle.invariant.0.base_is i, idle i)) c.idle.invariant.1.shared) c.free_lanes.ensures.frees
-    (subst (λ (z : ℕ). LaysOut f o (level_of s z) (place_on s z) (words_in b s u) (words_in b s w)) root c.lay_below-root.ensures.lays))
+    let f = face g.A.Monoid.parts g.B.Monoid.parts in let s : Shape = c.args.self.now.shape in let me : Sat = c.lead.inside.seat.me in let lead = c.lead.invariant in
+    let shape : me.0.shape ≡ s = ap (λ (k : Known). k.view.shape) c.lead.view_is ∙ c.requires.together.one_shape in
+    let room = subst (λ (z : Shape). 2 ^ z.bits ≤ z.members) (sym shape) c.requires.room in let stored = ap (λ (z : Store). z.shape) c.self.view_is in let top = root_at _ _ _ s _ _ c.self.invariant stored in
+    let other : ℕ = c.lead.inside.draft.base in let shown : List ℕ = c.lead.inside.draft.shown.items in let root : ℕ = c.lead.inside.root in let base : ℕ = c.lead.inside.base in let next : ℕ = c.lead.inside.next in
+    let draft : IsDraft f c.lead.inside.seat.table_id other shown me.0 = lead.3 room in let same : c.bring.new.draft.base ≡ other = c.bring.ensures.base in let v1 : SeatView = c.bring.new.seat.me.0 in let v2 : SeatView = c.lay_shared.new.seat.me.0 in let v3 : SeatView = c.free_lanes.new.seat.me.0 in let w : SeatView = c.begin_renewal.new.seat.me.0 in
+    let r : Renews f other root me.0 v1 v2 v3 w s = record {
+      room = c.requires.room;
+      brought = c.bring.ensures.view;
+      laid = subst (λ (z : ℕ). IsLaidAs f s me.0.seen z root (words_in other s v1)) top.1 (c.bring.ensures.done (c.bring.ensures.all refl).0);
+      shared = subst (λ (z : ℕ). ChangesPart z s v1 v2) same c.lay_shared.ensures.changes;
+      shares = subst (λ (z : ℕ). SharesRecords f s s.bits (words_in z s v1) (words_in z s v2)) same c.lay_shared.ensures.shares;
+      freed = subst (λ (z : ℕ). ChangesPart z s v2 v3) same c.free_lanes.ensures.changes;
+      frees = subst (λ (z : ℕ). FreesLanes s s.workers (words_in z s v2) (words_in z s v3)) same c.free_lanes.ensures.frees;
+      apart = subst (λ (z : Shape). (other + word_count z ≤ me.0.base) ⊎ (me.0.base + word_count z ≤ other)) shape draft.apart;
+      inside = subst (λ (z : ℕ × Shape). other + word_count z.1 ≤ z.0) (λ i. (sym lead.2 i, shape i)) draft.inside;
+      root_word = c.begin_renewal.result;
+      begins = c.begin_renewal.ensures.view;
+    } in let here = renews_here f other root me.0 v1 v2 v3 w s shape r in
+    let opened = opened_there f other root me.0 v1 v2 v3 w lead.1.knows lead.1.names_root here in let members : List (ℕ × ℕ) = pairs_of_cut (root_cut me.0.shape me.0.seen lead.1.names_root.index) in
+    subst (λ (z : ℕ). OpensOver f z w) (sym same) record { members = members; opened = opened }
+
+pub own_number-requires : goal.own_number-requires
+own_number-requires g c =
+    let f = face g.A.Monoid.parts g.B.Monoid.parts in let s : Shape = c.args.self.now.shape in let me : Sat = c.lead.inside.seat.me in let lead = c.lead.invariant in
+    let shape : me.0.shape ≡ s = ap (λ (k : Known). k.view.shape) c.lead.view_is ∙ c.requires.together.one_shape in
+    let room = subst (λ (z : Shape). 2 ^ z.bits ≤ z.members) (sym shape) c.requires.room in let stored = ap (λ (z : Store). z.shape) c.self.view_is in let top = root_at _ _ _ s _ _ c.self.invariant stored in
+    let other : ℕ = c.lead.inside.draft.base in let shown : List ℕ = c.lead.inside.draft.shown.items in let root : ℕ = c.lead.inside.root in let base : ℕ = c.lead.inside.base in let next : ℕ = c.lead.inside.next in
+    let bits = c.lead.invariant.1.knows.laid_out.bits in record { node = subst (IsInner s) (sym top.1) (subst (λ (z : Shape). IsInner z (root_place z)) shape (root_inner me.0.shape bits.0 bits.1)) }
+
+pub returns-clause-together : goal.returns-clause-together
+returns-clause-together g c =
+    let f = face g.A.Monoid.parts g.B.Monoid.parts in let s : Shape = c.args.self.now.shape in let me : Sat = c.lead.inside.seat.me in let lead = c.lead.invariant in
+    let shape : me.0.shape ≡ s = ap (λ (k : Known). k.view.shape) c.lead.view_is ∙ c.requires.together.one_shape in
+    let room = subst (λ (z : Shape). 2 ^ z.bits ≤ z.members) (sym shape) c.requires.room in let stored = ap (λ (z : Store). z.shape) c.self.view_is in let top = root_at _ _ _ s _ _ c.self.invariant stored in
+    let other : ℕ = c.lead.inside.draft.base in let shown : List ℕ = c.lead.inside.draft.shown.items in let root : ℕ = c.lead.inside.root in let base : ℕ = c.lead.inside.base in let next : ℕ = c.lead.inside.next in
+    let draft : IsDraft f c.lead.inside.seat.table_id other shown me.0 = lead.3 room in let same : c.bring.new.draft.base ≡ other = c.bring.ensures.base in let v1 : SeatView = c.bring.new.seat.me.0 in let v2 : SeatView = c.lay_shared.new.seat.me.0 in let v3 : SeatView = c.free_lanes.new.seat.me.0 in let w : SeatView = c.begin_renewal.new.seat.me.0 in
+    let r : Renews f other root me.0 v1 v2 v3 w s = record {
+      room = c.requires.room;
+      brought = c.bring.ensures.view;
+      laid = subst (λ (z : ℕ). IsLaidAs f s me.0.seen z root (words_in other s v1)) top.1 (c.bring.ensures.done (c.bring.ensures.all refl).0);
+      shared = subst (λ (z : ℕ). ChangesPart z s v1 v2) same c.lay_shared.ensures.changes;
+      shares = subst (λ (z : ℕ). SharesRecords f s s.bits (words_in z s v1) (words_in z s v2)) same c.lay_shared.ensures.shares;
+      freed = subst (λ (z : ℕ). ChangesPart z s v2 v3) same c.free_lanes.ensures.changes;
+      frees = subst (λ (z : ℕ). FreesLanes s s.workers (words_in z s v2) (words_in z s v3)) same c.free_lanes.ensures.frees;
+      apart = subst (λ (z : Shape). (other + word_count z ≤ me.0.base) ⊎ (me.0.base + word_count z ≤ other)) shape draft.apart;
+      inside = subst (λ (z : ℕ × Shape). other + word_count z.1 ≤ z.0) (λ i. (sym lead.2 i, shape i)) draft.inside;
+      root_word = c.begin_renewal.result;
+      begins = c.begin_renewal.ensures.view;
+    } in let here = renews_here f other root me.0 v1 v2 v3 w s shape r in
+    let opened = opened_there f other root me.0 v1 v2 v3 w lead.1.knows lead.1.names_root here in let members : List (ℕ × ℕ) = pairs_of_cut (root_cut me.0.shape me.0.seen lead.1.names_root.index) in
+    let is = c.reopen.ensures.view members (subst (λ (z : ℕ). IsOpened f (opening_with w.shape members) (words_in z w.shape w)) (sym same) opened) in let again = opens_again f other root me.0 v1 v2 v3 w lead.1.knows lead.1.names_root here in
+    record { one_table = c.reopen.ensures.table ∙ c.begin_renewal.ensures.table ∙ c.free_lanes.ensures.may.seated; one_shape = ap (λ (z : SeatView). z.shape) is ∙ shape_there f other root me.0 v1 v2 v3 w lead.1.knows lead.1.names_root here ∙ shape }
+
+pub returns-clause-opens : goal.returns-clause-opens
+returns-clause-opens g c =
+    let f = face g.A.Monoid.parts g.B.Monoid.parts in let s : Shape = c.args.self.now.shape in let me : Sat = c.lead.inside.seat.me in let lead = c.lead.invariant in
+    let shape : me.0.shape ≡ s = ap (λ (k : Known). k.view.shape) c.lead.view_is ∙ c.requires.together.one_shape in
+    let room = subst (λ (z : Shape). 2 ^ z.bits ≤ z.members) (sym shape) c.requires.room in let stored = ap (λ (z : Store). z.shape) c.self.view_is in let top = root_at _ _ _ s _ _ c.self.invariant stored in
+    let other : ℕ = c.lead.inside.draft.base in let shown : List ℕ = c.lead.inside.draft.shown.items in let root : ℕ = c.lead.inside.root in let base : ℕ = c.lead.inside.base in let next : ℕ = c.lead.inside.next in
+    let draft : IsDraft f c.lead.inside.seat.table_id other shown me.0 = lead.3 room in let same : c.bring.new.draft.base ≡ other = c.bring.ensures.base in let v1 : SeatView = c.bring.new.seat.me.0 in let v2 : SeatView = c.lay_shared.new.seat.me.0 in let v3 : SeatView = c.free_lanes.new.seat.me.0 in let w : SeatView = c.begin_renewal.new.seat.me.0 in
+    let r : Renews f other root me.0 v1 v2 v3 w s = record {
+      room = c.requires.room;
+      brought = c.bring.ensures.view;
+      laid = subst (λ (z : ℕ). IsLaidAs f s me.0.seen z root (words_in other s v1)) top.1 (c.bring.ensures.done (c.bring.ensures.all refl).0);
+      shared = subst (λ (z : ℕ). ChangesPart z s v1 v2) same c.lay_shared.ensures.changes;
+      shares = subst (λ (z : ℕ). SharesRecords f s s.bits (words_in z s v1) (words_in z s v2)) same c.lay_shared.ensures.shares;
+      freed = subst (λ (z : ℕ). ChangesPart z s v2 v3) same c.free_lanes.ensures.changes;
+      frees = subst (λ (z : ℕ). FreesLanes s s.workers (words_in z s v2) (words_in z s v3)) same c.free_lanes.ensures.frees;
+      apart = subst (λ (z : Shape). (other + word_count z ≤ me.0.base) ⊎ (me.0.base + word_count z ≤ other)) shape draft.apart;
+      inside = subst (λ (z : ℕ × Shape). other + word_count z.1 ≤ z.0) (λ i. (sym lead.2 i, shape i)) draft.inside;
+      root_word = c.begin_renewal.result;
+      begins = c.begin_renewal.ensures.view;
+    } in let here = renews_here f other root me.0 v1 v2 v3 w s shape r in
+    let opened = opened_there f other root me.0 v1 v2 v3 w lead.1.knows lead.1.names_root here in let members : List (ℕ × ℕ) = pairs_of_cut (root_cut me.0.shape me.0.seen lead.1.names_root.index) in
+    let is = c.reopen.ensures.view members (subst (λ (z : ℕ). IsOpened f (opening_with w.shape members) (words_in z w.shape w)) (sym same) opened) in
+    subst (λ (k : Known). OpensAgain f k.view c.reopen.new.seat.me.0) c.lead.view_is (opens_again f other root me.0 v1 v2 v3 w lead.1.knows lead.1.names_root here c.reopen.new.seat.me.0 (is ∙ ap (λ (z : ℕ). reopening f members z w) same))
 
 pub invariant_of-result : goal.invariant_of-result
 invariant_of-result g c =
-    let f = face g.A.Monoid.parts g.B.Monoid.parts in let s : Shape = c.args.self.now.shape in let o : Opening = opening_with s c.args.members.now in let w : SeatView = c.lay_below-root.new.seat.me.0 in let root : ℕ = c.lay_below-root.result.number in let b : ℕ = c.idle.inside.base in
-    let stored = ap (λ (z : Store). z.shape) c.self.view_is in let m = c.lay_below-root.ensures.may in let at = c.reopen.ensures.table ∙ m.seated in let words = ap (λ (z : TableId). z.words) (sym at) in
-    let shaped : w.shape ≡ s = ap (λ (z : SeatView). z.shape) c.lay_below-root.ensures.changes.view_is ∙ ap (λ (z : SeatView). z.shape) c.free_lanes.ensures.changes.view_is ∙ ap (λ (k : Known). k.view.shape) c.idle.view_is ∙ c.requires.shape in
-    let few = IsKeySet-few s.bits (keys_of c.args.members.now) c.requires.keys in let room = c.requires.room in
-    let named : root ≡ opening_number o (root_place s) = c.lay_below-root.ensures.number ∙ ap (opening_number o) (root_at _ _ _ s _ _ c.self.invariant stored).1 in
-    let first : SeatView = opener f o w.past w.era b (words_in b s w) w.whole in
-    let seat : IsLeadSeat f 0 root (first, []) = opening_seat f o w.past w.era b (words_in b s w) w.whole root (subst IsLayout stored c.self.invariant.laid_out) c.requires.keys c.requires.members_fit (omega arith) named in
-    let placed : IsPlaced c.reopen.new.seat.table_id b first = record { base_is = refl; wide = subst (λ (z : ℕ). b + word_count s ≤ z) words m.inside; few = subst (λ (z : ℕ). z < 2 ^ 60) words m.few } in
-    let is : first ≡ c.reopen.new.seat.me.0 = ap (λ (z : Shape). opener f (opening_with z c.args.members.now) w.past w.era b (words_in b z w) w.whole) (sym shaped) ∙ sym c.reopen.ensures.view in
-    (subst (IsPlaced c.reopen.new.seat.table_id b) is placed, subst (IsLeadSeat f 0 root) (λ i. (is i, sym c.reopen.ensures.no_slot i)) seat, ap (λ (z : SeatView). length z.whole) (sym is) ∙ m.long ∙ words)
+    let f = face g.A.Monoid.parts g.B.Monoid.parts in let s : Shape = c.args.self.now.shape in let me : Sat = c.lead.inside.seat.me in let lead = c.lead.invariant in
+    let shape : me.0.shape ≡ s = ap (λ (k : Known). k.view.shape) c.lead.view_is ∙ c.requires.together.one_shape in
+    let room = subst (λ (z : Shape). 2 ^ z.bits ≤ z.members) (sym shape) c.requires.room in let stored = ap (λ (z : Store). z.shape) c.self.view_is in let top = root_at _ _ _ s _ _ c.self.invariant stored in
+    let other : ℕ = c.lead.inside.draft.base in let shown : List ℕ = c.lead.inside.draft.shown.items in let root : ℕ = c.lead.inside.root in let base : ℕ = c.lead.inside.base in let next : ℕ = c.lead.inside.next in
+    let draft : IsDraft f c.lead.inside.seat.table_id other shown me.0 = lead.3 room in let same : c.bring.new.draft.base ≡ other = c.bring.ensures.base in let v1 : SeatView = c.bring.new.seat.me.0 in let v2 : SeatView = c.lay_shared.new.seat.me.0 in let v3 : SeatView = c.free_lanes.new.seat.me.0 in let w : SeatView = c.begin_renewal.new.seat.me.0 in
+    let r : Renews f other root me.0 v1 v2 v3 w s = record {
+      room = c.requires.room;
+      brought = c.bring.ensures.view;
+      laid = subst (λ (z : ℕ). IsLaidAs f s me.0.seen z root (words_in other s v1)) top.1 (c.bring.ensures.done (c.bring.ensures.all refl).0);
+      shared = subst (λ (z : ℕ). ChangesPart z s v1 v2) same c.lay_shared.ensures.changes;
+      shares = subst (λ (z : ℕ). SharesRecords f s s.bits (words_in z s v1) (words_in z s v2)) same c.lay_shared.ensures.shares;
+      freed = subst (λ (z : ℕ). ChangesPart z s v2 v3) same c.free_lanes.ensures.changes;
+      frees = subst (λ (z : ℕ). FreesLanes s s.workers (words_in z s v2) (words_in z s v3)) same c.free_lanes.ensures.frees;
+      apart = subst (λ (z : Shape). (other + word_count z ≤ me.0.base) ⊎ (me.0.base + word_count z ≤ other)) shape draft.apart;
+      inside = subst (λ (z : ℕ × Shape). other + word_count z.1 ≤ z.0) (λ i. (sym lead.2 i, shape i)) draft.inside;
+      root_word = c.begin_renewal.result;
+      begins = c.begin_renewal.ensures.view;
+    } in let here = renews_here f other root me.0 v1 v2 v3 w s shape r in
+    let opened = opened_there f other root me.0 v1 v2 v3 w lead.1.knows lead.1.names_root here in let members : List (ℕ × ℕ) = pairs_of_cut (root_cut me.0.shape me.0.seen lead.1.names_root.index) in
+    let is = c.reopen.ensures.view members (subst (λ (z : ℕ). IsOpened f (opening_with w.shape members) (words_in z w.shape w)) (sym same) opened) ∙ ap (λ (z : ℕ). reopening f members z w) same in
+    let shaped = shape_there f other root me.0 v1 v2 v3 w lead.1.knows lead.1.names_root here in let o : Opening = opening_with w.shape members in
+    let table = c.reopen.ensures.table ∙ c.begin_renewal.ensures.table ∙ c.free_lanes.ensures.may.seated in let was = ap (λ (k : Known). k.table) c.lead.view_is ∙ c.requires.together.one_table in
+    let one : c.reopen.new.seat.table_id ≡ c.lead.inside.seat.table_id = table ∙ sym was in
+    let long : length w.whole ≡ c.lead.inside.seat.table_id.words = whole_there f other root me.0 v1 v2 v3 w lead.1.knows lead.1.names_root here ∙ lead.2 in
+    let wide = lead.0.wide in let few = lead.0.few in let at = lead.0.base_is in let laid_out = subst IsLayout (sym shaped) lead.1.knows.laid_out in
+    let inner = root_inner w.shape laid_out.bits.0 laid_out.bits.1 in let room' : 2 ^ w.shape.bits ≤ w.shape.members = subst (λ (z : Shape). 2 ^ z.bits ≤ z.members) (sym shaped) room in
+    let named : c.own_number.result ≡ opening_number o (root_place w.shape) = c.own_number.ensures ∙ (λ i. own_number (sym (shaped ∙ shape) i) (top.1 i)) ∙ ap (λ (z : Shape). own_number w.shape (root_place z)) (sym (shaped ∙ shape)) ∙ sym (room_number o room' (root_place w.shape) inner) in
+    let first : SeatView = opener f o w.past w.era other (words_in other w.shape w) w.whole in let small = laid_out.words in
+    let seat : IsLeadSeat f 0 c.own_number.result (first, []) = opening_seat f o w.past w.era other (words_in other w.shape w) w.whole c.own_number.result laid_out opened.key_set opened.members_fit opened.few named in
+    let placed : IsPlaced c.lead.inside.seat.table_id other first = record { base_is = refl; wide = subst (λ (z : Shape). other + word_count z ≤ c.lead.inside.seat.table_id.words) (sym shaped) draft.inside; few = few } in
+    let drafts : IsDraft f c.lead.inside.seat.table_id c.blank.result.base c.blank.result.shown.items first = record {
+      inside = subst (λ (z : ℕ × Shape). z.0 + word_count z.1 ≤ c.lead.inside.seat.table_id.words) (λ i. (sym (c.blank.ensures.base ∙ at) i, sym shaped i)) wide;
+      apart = subst (λ (z : ℕ × Shape). (z.0 + word_count z.1 ≤ other) ⊎ (other + word_count z.1 ≤ z.0)) (λ i. (sym (c.blank.ensures.base ∙ at) i, sym shaped i)) (⊎_elim (λ below. inr below) (λ above. inl above) draft.apart);
+      noted = c.blank.ensures.noted ∙ c.bring.ensures.brings.noted ∙ draft.noted ∙ ap (λ (z : Shape). 2 ^ z.bits) (sym shaped);
+      below = none_below f first (words_in c.blank.result.base first.shape first) c.blank.result.shown.items c.blank.ensures.none;
+    } in
+    let all : IsLead f c.lead.inside.seat.table_id other 0 c.own_number.result c.blank.result.base c.blank.result.shown.items (first, []) = (placed, seat, long, (λ _. drafts)) in
+    subst (λ (z : TableId × ℕ × SeatView × List (ℕ × Unit {0})). IsLead f z.0 z.1 0 c.own_number.result c.blank.result.base c.blank.result.shown.items (z.2, z.3)) (λ i. (sym one i, sym same i, sym is i, sym c.reopen.ensures.no_slot i)) all

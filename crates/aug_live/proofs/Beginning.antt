@@ -13,7 +13,7 @@ use Rattle.aug_trie.proofs.Risen.{opening-at_most, unchanged}
 use Rattle.aug_trie.proofs.Tallying.{none_lost_tallies}
 
 module _ (set : SetFacts) (table : TableFacts) (crew next : CrewFacts) (workers updates inserts removals : ℕ) (list : List (ℕ × ℕ)) (keys : IsKeySet set.bits (keys_of set.pairs))
-    (begun : BeginsIn (2 ^ set.bits) set.pairs set.bits workers updates table crew) (rolls : RollsOver crew next list inserts removals) where
+    (begun : BeginsIn (2 ^ set.bits) set.pairs set.bits workers updates table crew) (rolls : RollsOver crew next inserts removals) (list_is : list ≡ next.round.members) where
   abbrev history : List Cut
   history = rolls.last.knows.history
 
@@ -45,5 +45,5 @@ module _ (set : SetFacts) (table : TableFacts) (crew next : CrewFacts) (workers 
 
   -- a round in which nobody worked gives the set back
   pub gives_back : list ≡ set.pairs
-  gives_back = rolls.list_is ∙ rolls.ends.members ∙ ap pairs_of_cut (unchanged opening (last_cut history) (opening-at_most set.bits set.pairs history is_history history is_history.opens (prefix_refl history)) tallies)
+  gives_back = list_is ∙ ap (λ (z : RoundFacts). z.members) rolls.round_is ∙ rolls.ends.members ∙ ap pairs_of_cut (unchanged opening (last_cut history) (opening-at_most set.bits set.pairs history is_history history is_history.opens (prefix_refl history)) tallies)
       ∙ pairs_of_cut-opening set.bits set.pairs keys

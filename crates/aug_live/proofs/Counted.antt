@@ -111,10 +111,10 @@ pub desk_keeps : (t : TrieFacts) {h h' n : ℕ} (table : TableFacts) (crew crew'
 desk_keeps t table crew crew' xs ys is lanes part = record { more = desk_on t table crew crew' xs ys is lanes part; given = ap (λ (z : TrieFacts). z.given) is }
 
 -- all that a crew knew of its rounds is known to that of the next round
-pub rolled_part : (crew first : CrewFacts) (list : List (ℕ × ℕ)) (inserts removals : ℕ) → RollsOver crew first list inserts removals → IsPart (crew_chain crew) (crew_chain first)
-rolled_part crew first list inserts removals r = let over : Chapter = (crew_chain r.last).now in
+pub rolled_part : (crew first : CrewFacts) (inserts removals : ℕ) → RollsOver crew first inserts removals → IsPart (crew_chain crew) (crew_chain first)
+rolled_part crew first inserts removals r = let over : Chapter = (crew_chain r.last).now in
     begins_longer crew.past (crew_chain crew).now first.past ((crew_chain first).now ∷ [])
-    (subst (BeginsWith crew.past (crew_chain crew).now) (sym (next_past 0 (table_of crew.round) crew first list inserts removals r refl))
+    (subst (BeginsWith crew.past (crew_chain crew).now) (sym (next_past 0 (table_of crew.round) crew first inserts removals r refl))
     (begins_alike crew.past (crew_chain crew).now over [] record { members = ap (λ (z : CrewFacts). z.round.members) r.last_is; goes_on = r.goes_on }))
 
 -- how the desk is closed, whose round ended with all passes back

@@ -54,25 +54,25 @@ opened_at lanes updates counts set table first crew ports count laid b of_round 
     }
 
 -- the desk goes on with it
-pub rolled_on : (lanes updates : ℕ) (counts new : LiveCounts) (table : TableFacts) (crew end first crew' : CrewFacts) (ports back ports' : List EndFacts) (count count' : ℕ) (list : List (ℕ × ℕ)) (inserts removals : ℕ)
-    → IsWorking lanes updates counts table crew ports count → RollsOver end first list inserts removals → rounds_in end ≡ rounds_in crew → All (IsOf (rounds_in first) (counts.rounds + 1)) ports' → count' ≡ count
+pub rolled_on : (lanes updates : ℕ) (counts new : LiveCounts) (table : TableFacts) (crew end first crew' : CrewFacts) (ports back ports' : List EndFacts) (count count' : ℕ) (inserts removals : ℕ)
+    → IsWorking lanes updates counts table crew ports count → RollsOver end first inserts removals → rounds_in end ≡ rounds_in crew → All (IsOf (rounds_in first) (counts.rounds + 1)) ports' → count' ≡ count
     → map kept_of (reverse back) ≡ map kept_of ports → All (IsBackIn (rounds_in crew) counts.rounds end.knows.history) back → end.knows.accepted ≡ crew.knows.accepted ++ flat_map accepted_by back → map kept_of ports' ≡ map given_all (reverse back) → crew'.knows.accepted ≡ first.knows.accepted
     → rounds_in crew' ≡ rounds_in first → crew'.handed ≡ count → crew'.back ≡ first.back
     → new.rounds ≡ counts.rounds + 1 → new.opened ≡ counts.opened → new.inserts ≡ counts.inserts + inserts → new.removals ≡ counts.removals + removals → new.handles ≡ counts.handles → new.missing ≡ counts.missing
     → new.inserts + 2 ^ 32 ≤ 2 ^ 64 → new.removals + 2 ^ 32 ≤ 2 ^ 64 → IsWorking lanes updates new table crew' ports' count'
-rolled_on lanes updates counts new table crew end first crew' ports back ports' count count' list inserts removals w r same of_round len kept all_back gave dealt same_changes together handed come rounds opened ins rem handles missing few_inserts few_removals =
+rolled_on lanes updates counts new table crew end first crew' ports back ports' count count' inserts removals w r same of_round len kept all_back gave dealt same_changes together handed come rounds opened ins rem handles missing few_inserts few_removals =
     let was : end.round ≡ crew.round = ap (λ (z : RoundFacts × List Chapter). z.0) same in let here : table_of end.round ≡ table = ap table_of was ∙ w.together in let next : crew'.round ≡ first.round = ap (λ (z : RoundFacts × List Chapter). z.0) together in
     let long : length crew'.round.members ≡ length r.ended.members = ap (λ (z : RoundFacts). length z.members) (next ∙ r.round_is) in let long_before : length end.round.members ≡ length crew.round.members = ap (λ (z : RoundFacts). length z.members) was in
     let out = w.all_out in let within = w.within in let sum = w.counted.sizes in let more = r.sizes in let put = r.inserts_are in let took = r.removals_are in let none : first.back ≡ 0 = ap (λ (z : CrewFacts). z.back) r.crew_is in
     let over : Chapter = (crew_chain r.last).now in
-    let past : crew'.past ≡ crew.past ++ over ∷ [] = ap (λ (z : RoundFacts × List Chapter). z.1) together ∙ next_past counts.rounds table end first list inserts removals r here ∙ ap (λ (z : RoundFacts × List Chapter). z.1 ++ over ∷ []) same in
+    let past : crew'.past ≡ crew.past ++ over ∷ [] = ap (λ (z : RoundFacts × List Chapter). z.1) together ∙ next_past counts.rounds table end first inserts removals r here ∙ ap (λ (z : RoundFacts × List Chapter). z.1 ++ over ∷ []) same in
     let longer : length crew'.past ≡ length crew.past + 1 = ap length past ∙ length-append crew.past (over ∷ []) in
     let last_bits : r.last.round.bits ≡ table.bits = ap (λ (z : CrewFacts). z.round.bits) r.last_is ∙ ap (λ (z : TableFacts). z.bits) here in
     let happened : AreChangesOf table.bits over r.last.knows.accepted = subst (λ (z : ℕ). AreChangesOf z over r.last.knows.accepted) last_bits (all_of_round r.last r.ended r.ends r.none_missing) in
     let none_yet : crew'.knows.accepted ≡ [] = same_changes ∙ ap (λ (z : CrewFacts). z.knows.accepted) r.crew_is in record {
       together = ap table_of (next ∙ r.round_is) ∙ here;
       led = subst (λ (z : RoundFacts × List Chapter). Leads table.bits z.1 z.0.members) (sym together)
-          (next_led counts.rounds table end first list inserts removals r here (subst (λ (z : RoundFacts × List Chapter). Leads table.bits z.1 z.0.members) (sym same) w.led));
+          (next_led counts.rounds table end first inserts removals r here (subst (λ (z : RoundFacts × List Chapter). Leads table.bits z.1 z.0.members) (sym same) w.led));
       workers = w.workers;
       all_out = omega arith;
       within = omega arith;

@@ -57,7 +57,7 @@ pub same_era : (rounds : RoundFacts × List Chapter) (era era' : ℕ) (h : List 
 same_era rounds era era' h e is = subst (λ (z : ℕ). IsBackIn rounds z h e) is
 
 -- what went back to a crew is a part of the rounds before the next one, which its crew begins in the memory of this one
-module _ (era : ℕ) (table : TableFacts) (crew first : CrewFacts) (list : List (ℕ × ℕ)) (inserts removals : ℕ) (r : RollsOver crew first list inserts removals) (same : table_of crew.round ≡ table) where
+module _ (era : ℕ) (table : TableFacts) (crew first : CrewFacts) (inserts removals : ℕ) (r : RollsOver crew first inserts removals) (same : table_of crew.round ≡ table) where
   abbrev pub over : Chapter
   over = (crew_chain r.last).now
 

@@ -19,6 +19,7 @@ struct handle {
 
 int64_t aug_try_open(struct handle *trie, uint32_t bits, uint32_t users, uint64_t bytes);
 int64_t aug_try_user_open(struct handle *trie, aug_user *user);
+int64_t aug_try_tend(struct handle *trie);
 int64_t aug_try_close(struct handle *trie, aug_report *report);
 int64_t aug_user_free(aug_user *user);
 int64_t aug_try_look_again(aug_user *user);
@@ -198,6 +199,15 @@ int64_t aug_user_close(aug_user *user) {
     *user = (aug_user){.tag = 0};
     leave(s);
     return AUG_OK;
+}
+
+int64_t aug_tend(aug_trie *trie) {
+    struct shared *s = shared_of(trie);
+    if (!s) return AUG_CLOSED;
+    pthread_mutex_lock(&s->lock);
+    int64_t code = aug_try_tend(&s->trie);
+    pthread_mutex_unlock(&s->lock);
+    return code;
 }
 
 /* Closes the trie with the lock held, unless a user is in a call or holds a look. */

@@ -20,8 +20,8 @@
  * update that each other user is in and for each look; others wait for that. So end looks soon. The calls aug_try_.. never wait, and
  * answer AUG_AGAIN where the others would; these call again, and yield or sleep in between. Whoever calls again himself says so by
  * aug_wait_begin, or others who look again and again may leave him no time. aug_close waits for updates and looks too. A user that holds
- * no look and is in no call holds nobody up, nor does one whose thread ended so. aug_user_open, aug_user_close and aug_close of a trie
- * wait for one another.
+ * no look and is in no call holds nobody up, nor does one whose thread ended so. aug_user_open, aug_user_close, aug_tend and aug_close of
+ * a trie wait for one another.
  *
  * What you owe. Zero a handle before you open it, and never copy or change an open one. Give a user to one call at a time; it may go
  * from thread to thread, if that is ordered by a lock, by starting or joining a thread, or by a sequentially consistent atomic. aug_close
@@ -166,6 +166,11 @@ AUG_NODISCARD int64_t aug_user_open(aug_trie *trie, aug_user *user);
 
 /* Closes a user, and ends its look. Its place is free for another one, which knows what this one knew. Answers 0 or AUG_CLOSED. */
 int64_t aug_user_close(aug_user *user);
+
+/* Lays a piece of the next round out, once the table is nearly full, in some microseconds. Updates do the same in between; a thread that has a
+   processor to spare takes that work off them if it calls this again and again. It waits for aug_user_open, aug_user_close and aug_close alone. Answers 1
+   if there is more to do now, 0 if there is not or somebody else is at it, so that it may sleep a little, or AUG_CLOSED. */
+int64_t aug_tend(aug_trie *trie);
 
 /* Closes the trie. Updates and looks of its users answer AUG_CLOSED from then on. `report` may be null. Answers 0 or AUG_CLOSED. */
 int64_t aug_close(aug_trie *trie, aug_report *report);

@@ -433,6 +433,19 @@ def what_changed_since_a_list_is_told_over_roll_overs():
 
 
 @test
+def the_next_rounds_are_laid_out_between_updates():
+    rng = random.Random(6)
+    with Trie(7, users=1, bytes=1 << 16) as trie:
+        model = {}
+        for turn in range(300):
+            update_both(trie, model, rng, 128, 20)
+            assert trie.tend() in (True, False)
+            with trie.snapshot() as now:
+                assert trie.tend() in (True, False) and dict(now.items()) == model
+    assert raises(augtrie.Closed, trie.tend)
+
+
+@test
 def a_copy_follows_what_other_threads_change():
     with Trie(7, users=3, bytes=1 << 16) as trie:
         over = []

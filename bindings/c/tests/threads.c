@@ -70,6 +70,7 @@ static void misuses(void) {
     aug_user one = AUG_ZEROED, two = AUG_ZEROED, more = AUG_ZEROED, wild = {.tag = 0x1234, .at = (void *)8, .of = (void *)8};
     uint32_t key = 9;
     WANT(aug_open(NULL, BITS, 1, 1 << 20), AUG_CLOSED);
+    WANT(aug_tend(NULL), AUG_CLOSED);
     WANT(aug_insert(NULL, 1), AUG_CLOSED);
     WANT(aug_close(&other, NULL), AUG_CLOSED);
     WANT(aug_user_open(&other, &one), AUG_CLOSED);

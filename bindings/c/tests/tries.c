@@ -20,6 +20,7 @@ static uint32_t draw(uint32_t below) {
 
 static void step(uint32_t t, uint32_t u) {
     aug_user *user = &users[t][u];
+    if (draw(3) == 0) WANT(aug_tend(&tries[t]) >= 0, open_tries[t] == 1);
     switch (draw(6)) {
         case 0:
             WANT(aug_open(&tries[t], 4, USERS, 4000), open_tries[t] ? AUG_OPEN : 0);
@@ -60,6 +61,16 @@ static void *come(void *place) {
     return NULL;
 }
 
+/* Lays the next rounds out while others work. */
+static void *tend(void *unused) {
+    (void)unused;
+    for (uint32_t i = 0; i < 2000; i++) {
+        int64_t more = aug_tend(&shared);
+        if (more != 0 && more != 1) return "tend";
+    }
+    return NULL;
+}
+
 /* Closes a user that another thread opened, with its look. */
 static void *go(void *place) {
     aug_user *user = place;
@@ -70,14 +81,18 @@ static void *go(void *place) {
 /* Each thread has a user, which another one closes while the trie is closed. */
 static void cross(void) {
     aug_user mine[THREADS] = {AUG_ZEROED};
-    pthread_t threads[THREADS];
+    pthread_t threads[THREADS], tends;
     void *what;
     WANT(aug_open(&shared, 6, THREADS, 20000), 0);
+    WANT(pthread_create(&tends, 0, tend, NULL), 0);
     for (int i = 0; i < THREADS; i++) WANT(pthread_create(&threads[i], 0, come, &mine[i]), 0);
     for (int i = 0; i < THREADS; i++) { WANT(pthread_join(threads[i], &what), 0); WANT(what == NULL, 1); }
     for (int i = 0; i < THREADS - 1; i++) WANT(pthread_create(&threads[i], 0, go, &mine[i]), 0);
     for (int i = 0; i < THREADS - 1; i++) { WANT(pthread_join(threads[i], &what), 0); WANT(what == NULL, 1); }
+    WANT(pthread_join(tends, &what), 0);
+    WANT(what == NULL, 1);
     WANT(aug_close(&shared, NULL), 0);
+    WANT(aug_tend(&shared), AUG_CLOSED);
     for (int i = 0; i < THREADS; i++) WANT(aug_put(&mine[i], 1, 1, NULL), AUG_CLOSED);
     for (int i = 0; i < THREADS - 1; i++) WANT(aug_user_close(&mine[i]), AUG_CLOSED);
     WANT(aug_user_close(&mine[THREADS - 1]), 0);

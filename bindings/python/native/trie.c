@@ -62,6 +62,14 @@ static PyObject *trie_close(PyObject *self, PyObject *unused) {
     return record_of(report_type, 3, fields);
 }
 
+/* A piece takes microseconds, so other threads need not run meanwhile, and the trie stays open. */
+static PyObject *trie_tend(PyObject *self, PyObject *unused) {
+    Trie *trie = (Trie *)self;
+    (void)unused;
+    int64_t more = is_open(trie) ? aug_tend(&trie->handle) : AUG_CLOSED;
+    return more < 0 ? raise_code(more) : PyBool_FromLong(more == 1);
+}
+
 static PyObject *trie_enter(PyObject *self, PyObject *unused) {
     (void)unused;
     if (!is_open((Trie *)self)) return raise_code(AUG_CLOSED);
@@ -296,6 +304,8 @@ static PyMethodDef methods[] = {
      "not there. Refused as update is, and with BadLength if there are not as many weights as keys."},
     {"snapshot", trie_snapshot, METH_NOARGS,
      "snapshot($self, /)\n--\n\nA snapshot, which shows every update of this thread. Until it ends, this thread updates nothing and asks it alone."},
+    {"tend", trie_tend, METH_NOARGS,
+     "tend($self, /)\n--\n\nLays a piece of the next round out, once the table is nearly full: True if there is more to do now. Updates do the same in between."},
     {"close", trie_close, METH_NOARGS,
      "close($self, /)\n--\n\nEnds all snapshots, and closes the trie: what its life came to. The same again if it is closed already."},
     {"__enter__", trie_enter, METH_NOARGS, "The trie."},

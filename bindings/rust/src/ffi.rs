@@ -96,6 +96,7 @@ unsafe extern "C" {
     pub safe fn aug_open(trie: &mut Trie, bits: u32, users: u32, bytes: u64) -> i64;
     pub safe fn aug_user_open(trie: &Trie, user: &mut User) -> i64;
     pub safe fn aug_user_close(user: &mut User) -> i64;
+    pub safe fn aug_tend(trie: &Trie) -> i64;
     pub safe fn aug_close(trie: &mut Trie, report: Option<&mut Report>) -> i64;
     pub safe fn aug_insert(user: &mut User, key: u32) -> i64;
     pub safe fn aug_remove(user: &mut User, key: u32, told: Option<&mut Told>) -> i64;

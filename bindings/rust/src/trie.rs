@@ -43,6 +43,14 @@ impl Trie {
         Ok(User { handle: user, trie: self.0.clone() })
     }
 
+    /// Lays a piece of the next round out, once the table is nearly full: true if there is more to do now. Updates do the same in between; a thread that
+    /// has a processor to spare takes that work off them if it calls this again and again, and sleeps a little after each `false`. It waits for no
+    /// look. Refused with `Closed`, as `user`.
+    pub fn tend(&self) -> Result<bool, Error> {
+        let handle = self.0.handle.try_read().map_err(|_| Error::Closed)?;
+        Ok(number(ffi::aug_tend(&handle))? == 1)
+    }
+
     /// Closes the trie, and tells what its life came to. Its users answer `Closed` from then on, and so does a second `close`.
     ///
     /// It waits for the updates that users are in, and for each look. So a thread that holds a look itself waits for ever.

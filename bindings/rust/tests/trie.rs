@@ -487,6 +487,33 @@ fn users_come_and_go_in_four_threads() -> Result<(), Error> {
 }
 
 #[test]
+fn the_next_rounds_are_laid_out_while_others_update() -> Result<(), Error> {
+    let trie = Trie::new(8, 4, 1 << 17)?;
+    let working = AtomicU32::new(4);
+    thread::scope(|scope| {
+        for i in 0..4 {
+            let (mut user, working) = (trie.user()?, &working);
+            scope.spawn(move || {
+                for key in (i..256).step_by(4).cycle().take(20_000) {
+                    assert!(user.put(key, i).is_ok());
+                }
+                working.fetch_sub(1, SeqCst);
+            });
+        }
+        while working.load(SeqCst) > 0 {
+            if !trie.tend()? {
+                thread::yield_now();
+            }
+        }
+        Ok(())
+    })?;
+    assert_eq!(trie.user()?.look()?.range(..).sum, 64 * (1 + 2 + 3));
+    assert_eq!(trie.close()?.size, 256);
+    assert_eq!(trie.tend(), Err(Error::Closed));
+    Ok(())
+}
+
+#[test]
 fn a_thousand_tries_have_nothing_to_do_with_one_another() -> Result<(), Error> {
     let (mut tries, mut users, mut left) = (Vec::new(), Vec::new(), Vec::new());
     for i in 0..1_000 {

@@ -46,6 +46,11 @@ pub record OpensUser (before after : RawHandle) (old new : Opened) (code : ℤ) 
   pub no_user : (code ≡ codes.no_user) ↔ (old.spare.items ≡ [])
   pub others : (code ≡ pos 0) ⊎ (code ≡ codes.no_user) ⊎ (code ≡ codes.no_memory)
 
+-- a piece of the next round of a trie is laid out, which changes nothing of what is known of it; the answer tells whether there is more to do
+pub record TendsTrie (old new : Opened) (code : ℤ) : Type 0 where
+  pub same : new ≡ old
+  pub told : (code ≡ pos 0) ⊎ (code ≡ pos 1)
+
 -- a call on a trie does this to it, and one on what is no trie does nothing
 abbrev pub OnTrie : (Opened → Opened → ℤ → Type 0) → Type 0 → HandleState → HandleState → ℤ → Type 0
 OnTrie Does Same (Trie old) new code = (trie : Opened) × (new ≡ Trie trie) × Does old trie code

@@ -3,7 +3,7 @@ ghost use Rattle.std.specs.Prelude.{◌≡◌, ◌≢◌, IsNone, None, pos};
 ghost use Rattle.aug_c.specs.Codes.{closed, is_open};
 ghost use Rattle.aug_c.specs.Handles.{state_of};
 ghost use Rattle.aug_c.specs.Marks.{trie_mark, user_mark};
-ghost use Rattle.aug_c.specs.TrieCalls.{ClosesTrie, OnTrie, OpensTrie, OpensUser};
+ghost use Rattle.aug_c.specs.TrieCalls.{ClosesTrie, OnTrie, OpensTrie, OpensUser, TendsTrie};
 
 use crate::codes::{AGAIN, BAD_BITS, BAD_USERS, CLOSED, NO_MEMORY, NO_USER, OPEN, TOO_LARGE};
 use crate::raw_handle::{HandleSlot, RawHandle, TRIE, USER};
@@ -102,6 +102,29 @@ pub extern "C" fn aug_try_user_open(
     }
     match &mut trie.held.as_slot().state {
         HandleState::Trie(opened) => open_user(alloc, opened, user),
+        _ => CLOSED,
+    }
+}
+
+// Lays a piece of the next round of a trie out.
+fn tend(trie: &mut Opened) -> i64
+    ensures { TendsTrie trie.old trie.new result }
+{
+    i64::from(trie.live.tend())
+}
+
+/// Lays a piece of a trie's next round out: 1 if there is more to do now, or 0.
+#[unsafe(no_mangle)]
+pub extern "C" fn aug_try_tend(trie: &mut RawHandle) -> i64
+    ensures tends { OnTrie TendsTrie (Unit {0}) (state_of trie.old) (state_of trie.new) result }
+    ensures tag { trie.new.tag ≡ trie.old.tag }
+    ensures foreign { IsNone trie.old.held.value → trie.new ≡ trie.old }
+{
+    if !trie.is_open() {
+        return CLOSED;
+    }
+    match &mut trie.held.as_slot().state {
+        HandleState::Trie(opened) => tend(opened),
         _ => CLOSED,
     }
 }

@@ -11,7 +11,7 @@ use Rattle.ruled_lock.specs.Locks.{Forks, Holds, Learns, client_of}
 use Rattle.ruled_lock.specs.declared.holding.Holding.{Holding}
 use Rattle.aug_live.specs.LiveTries.{KeepsHandles, KnowsMore, TrieFacts}
 use Rattle.aug_live.specs.declared.desk_end.Desk.{Desk}
-use Rattle.aug_live.specs.inside.DeskKnowledge.{EndKnows, GoesOnFrom, KnowsDesk, KnowsOwn, Moves, OnDesk, is_known, known_after}
+use Rattle.aug_live.specs.inside.DeskKnowledge.{EndKnows, GoesOnFrom, KnowsDesk, KnowsOwn, Moves, OnDesk, DeskStays, is_known, known_after}
 use Rattle.aug_live.proofs.Lanes.{more_on, more_self}
 use Rattle.aug_live.proofs.Tied.{snoc_at}
 
@@ -62,6 +62,31 @@ works_after (Some u) v so = refl
 given_after : (p : Option TrieFacts) (v : TrieFacts) → IfSome p (λ t. t.given ≡ (known_after p v).given)
 given_after None v = tt
 given_after (Some u) v = refl
+
+-- where it goes on with as many handles
+known_still : (o p : Option TrieFacts) (x : TrieFacts) → DeskStays o p → IfSome o (KnowsMore x) → IfSome p (KnowsMore x)
+known_still None None x m k = tt
+known_still None (Some u) x m k = absurd m
+known_still (Some t) None x m k = absurd m
+known_still (Some t) (Some u) x m k = more_on x t u k m.0
+
+was_still : (o p : Option TrieFacts) → DeskStays o p → IsSome p → IsSome o
+was_still None None m s = s
+was_still None (Some u) m s = absurd m
+was_still (Some t) None m s = refl
+was_still (Some t) (Some u) m s = refl
+
+is_still : (o p : Option TrieFacts) → DeskStays o p → IsSome o → IsSome p
+is_still None None m s = s
+is_still None (Some u) m s = absurd m
+is_still (Some t) None m s = absurd m
+is_still (Some t) (Some u) m s = refl
+
+given_still : (o p : Option TrieFacts) (n : ℕ) → DeskStays o p → IfSome o (λ t. t.given ≡ n) → IfSome p (λ t. t.given ≡ n)
+given_still None None n m g = tt
+given_still None (Some u) n m g = absurd m
+given_still (Some t) None n m g = absurd m
+given_still (Some t) (Some u) n m g = m.1 ∙ g
 
 module _ {A B : Type 0} where
   pub learns : (id : ℕ) (v : TrieFacts) → Learns {T = Desk A B} OnDesk id v KnowsDesk
@@ -120,6 +145,24 @@ module _ {A B : Type 0} where
           refl,
         )
 
+    -- what lies there goes on, and who put it there knows what it knew
+    pub stays : new.opened ≡ old.opened → DeskStays old.working new.working → (w : TrieFacts) × OnDesk new (set views id w) × (w ≡ v)
+    stays same moves = (
+      v,
+      λ j x here. let k : EndKnows old j x = ⊎_elim (λ h. subst (EndKnows old j) h.1 (subst (λ (n : ℕ). EndKnows old n v) (sym h.0) (on id v at))) (λ h. on j x h.1) (at_set views id j v x here) in record {
+        alone = λ f. k.alone (sym same ∙ f);
+        none = λ f. k.none (sym same ∙ f);
+        some = λ t. k.some (sym same ∙ t);
+        there = λ some. same ∙ k.there (was_still old.working new.working moves some);
+        knows = known_still old.working new.working x moves k.knows;
+        owner = λ first. let own = k.owner first in record {
+          works = λ t so. is_still old.working new.working moves (own.works (sym same ∙ t) so);
+          given = given_still old.working new.working x.given moves own.given;
+        };
+      },
+      refl,
+    )
+
     -- the first round is laid there
     pub places : (t : TrieFacts) → v.bits ≡ 0 → 0 < t.bits → new.working ≡ Some t → new.opened ≡ true → Goal
     places t bare_bits any is opened = let mine = on id v at in
@@ -145,6 +188,10 @@ module _ {A B : Type 0} where
 -- what an end knows that put something there
 pub put_known : {A B : Type 0} (taken : Option (Desk A B)) (old new : Desk A B) (v w : TrieFacts) → taken ≡ Some old → IfSome taken (λ t. is_known v t new w) → w ≡ known_after new.working v
 put_known taken old new v w is then = subst (λ (z : Option (Desk _ _)). IfSome z (λ t. is_known v t new w)) is then
+
+-- what an end knows that put something there and learnt nothing from it
+pub kept_known : {A B : Type 0} (taken : Option (Desk A B)) (old : Desk A B) (v w : TrieFacts) → taken ≡ Some old → IfSome taken (λ _. w ≡ v) → w ≡ v
+kept_known taken old v w is then = subst (λ (z : Option (Desk _ _)). IfSome z (λ _. w ≡ v)) is then
 
 -- what is known of a trie that was found closed
 pub closed_more : (v : TrieFacts) → KnowsMore v (record v { closed = true })

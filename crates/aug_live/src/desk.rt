@@ -11,6 +11,7 @@ ghost use Rattle.aug_live.specs.LiveHandles.{IsHandleOf};
 ghost use Rattle.aug_live.specs.LiveTries.{CameBack, Closes, KeepsHandles, KnowsMore, ids_of};
 ghost use Rattle.aug_live.specs.declared.known.Whose.TheVariants as whose;
 
+use crate::ahead::{Ahead, PIECE, Pace, SHARE};
 use crate::counts::LiveCounts;
 use crate::desk_end::DeskEnd;
 use crate::end::End;
@@ -40,7 +41,7 @@ pub(crate) struct Working<A: Monoid, B: Monoid> {
     pub(crate) ports: Vec<End<A, B>>,
     // The last lanes, the last one first, if a roll-over took them and waits for the others.
     pub(crate) held: Vec<Held<A, B>>,
-    // Room for them once their passes are back, and for the members.
+    // Room for them once their passes are back, and for the members once the trie is closed.
     pub(crate) idle: Vec<Emptied<A, B>>,
     pub(crate) list: Vec<(u32, u32)>,
 }
@@ -151,6 +152,36 @@ impl<A: Monoid, B: Monoid> Working<A, B> {
             list,
         };
         (working, Ok(()))
+    }
+
+    /// Has the crew lay the next round out further, by about so many nodes, if this round is near its end. Where a roll-over was begun it does
+    /// nothing, since that does all that is left.
+    pub(crate) fn prepare(&mut self, nodes: u32) -> Ahead
+        ensures goes_on { KeepsHandles self.old self.new }
+        ensures held { self.new.held ≡ self.old.held }
+        ensures past { self.new.rounds.past ≡ self.old.rounds.past }
+    {
+        if !self.held.is_empty() {
+            return Ahead {
+                after: PIECE,
+                more: false,
+            };
+        }
+        let spare = self.plan.lanes.saturating_sub(self.crew.handed());
+        let left = u64::from(spare).saturating_mul(u64::from(self.plan.updates));
+        let late = 1u64.wrapping_shl(self.bits) / SHARE;
+        if left > late {
+            // All handles make updates, so each makes a part of these.
+            let handles = (self.ports.len() as u64).max(1);
+            let after = (left - late) / handles;
+            let after = u32::try_from(after).unwrap_or(u32::MAX).max(PIECE);
+            return Ahead { after, more: false };
+        }
+        let done = self.crew.prepare(&self.round, nodes);
+        Ahead {
+            after: PIECE,
+            more: !done,
+        }
     }
 
     /// Rolls the round over if that was begun.
@@ -289,6 +320,7 @@ impl<A: Monoid, B: Monoid> Working<A, B> {
                     bits: self.bits,
                     lane,
                     number,
+                    pace: Pace::new(),
                     round,
                     desk,
                 })

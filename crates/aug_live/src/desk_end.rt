@@ -6,6 +6,7 @@ ghost use Rattle.aug_live.specs.LiveErrors.{IfRefused, RefusesRoll, RefusesRound
 ghost use Rattle.aug_live.specs.LiveTries.{KeepsHandles, KnowsMore};
 ghost use Rattle.aug_live.specs.inside.DeskKnowledge.{GoesOnFrom, IsOwner};
 
+use crate::ahead::Ahead;
 use crate::desk::Working;
 use crate::end::End;
 use crate::error::{LiveError, TryError};
@@ -81,6 +82,13 @@ impl<A: Monoid, B: Monoid> Transition<Desk<A, B>, DeskView<A, B>> for Lay {
     ghost use Rattle.aug_live.specs.inside.DeskKnowledge.{is_known};
 
     ghost then = { is_known };
+}
+
+/// What an end knows that puts something there and learns nothing from it: what it knew.
+pub(crate) struct Keep;
+
+impl<A: Monoid, B: Monoid> Transition<Desk<A, B>, DeskView<A, B>> for Keep {
+    ghost then = { λ v old new w. w ≡ v };
 }
 
 /// One more end, which knows the same.
@@ -197,6 +205,56 @@ impl<A: Monoid, B: Monoid> DeskEnd<A, B> {
             },
             Err(missed) => Err(TryError::Again(missed)),
         }
+    }
+}
+
+impl<A: Monoid, B: Monoid> DeskEnd<A, B> {
+    /// Has the next round laid out further, as `prepare_on` does. All that is known of the trie stays as it is.
+    pub(crate) fn prepare<W: Patience>(&mut self, how: &W, nodes: u32) -> Result<Ahead, W::GaveUp>
+        ensures { self.new ≡ self.old }
+    {
+        prepare_on(how, &self.lock, &mut self.key, nodes)
+    }
+}
+
+/// Has the crew of the round that lies on the desk lay the next one out further, as `Working::prepare` does.
+pub(crate) fn prepare_on<W: Patience, A: Monoid, B: Monoid>(
+    how: &W,
+    lock: &DeskLock<A, B>,
+    key: &mut DeskKey<A, B>,
+    nodes: u32,
+) -> Result<Ahead, W::GaveUp>
+    requires lock { key.old.table_id ≡ lock.now.table.shared.table_id }
+    requires free { HoldsNothing key.old }
+    ensures same { IsSameKey key.old key.new }
+    ensures free { HoldsNothing key.new }
+    ensures view { client_of key.new ≡ client_of key.old }
+{
+    match lock.take::<Read, W>(how, key) {
+        Ok(Desk { working, opened }) => match working {
+            Some(working) => {
+                let mut working = working;
+                let ahead = working.prepare(nodes);
+                let desk = Desk {
+                    working: Some(working),
+                    opened,
+                };
+                lock.put::<Keep>(key, desk);
+                Ok(ahead)
+            }
+            None => {
+                let none = Desk {
+                    working: None,
+                    opened,
+                };
+                lock.put::<Keep>(key, none);
+                Ok(Ahead {
+                    after: u32::MAX,
+                    more: false,
+                })
+            }
+        },
+        Err(missed) => Err(missed),
     }
 }
 

@@ -16,6 +16,7 @@ ghost use Rattle.aug_live.specs.LiveErrors.{IfRefused, RefusesCall};
 ghost use Rattle.aug_live.specs.inside.LaneKnowledge.{Seen};
 ghost use Rattle.aug_live.specs.LiveHandles.{AllOrSpent, Follows, IsSomeOf, Makes, Runs, handle_of, note_at};
 
+use crate::ahead::Pace;
 use crate::desk_end::DeskEnd;
 use crate::end::End;
 use crate::error::{Busy, LiveError, TryError};
@@ -32,9 +33,11 @@ use std::sync::Wait;
 /// A thread's access to a trie, for updates and looks. It may go to another thread, and has a lane of its own. A handle that is
 /// dropped leaves its lane behind, and holds nobody up; `Live::handle` gives the lane to a new one.
 ///
-/// A call with an `rt` waits for a roll-over and for nothing else: it then continues in the next round. If the updates of its lane are spent, it takes a
+/// A call with an `rt` waits for a roll-over, or for a piece of the next round that another handle lays out, and for nothing else. After a roll-over it
+/// continues in the next round. If the updates of its lane are spent, it takes a
 /// spare lane of the round, and waits only for a handle that does the same. If no spare lane is left, it rolls the round over itself, which
-/// waits for the update that another handle is in, and for each look.
+/// waits for the update that another handle is in, and for each look. Near the end of a round a handle lays a piece of the next one out after some of its
+/// updates, so that the roll-over has little to do.
 #[derive(Drop)]
 pub struct Handle<A: Monoid, B: Monoid> {
     // An update takes it out and puts it back.
@@ -43,6 +46,8 @@ pub struct Handle<A: Monoid, B: Monoid> {
     // The number of its lane, counted from 0, and its own, counted from 1.
     pub(crate) lane: usize,
     pub(crate) number: u64,
+    // When it lays the next piece out.
+    pub(crate) pace: Pace,
     pub(crate) round: SharedRound<A, B>,
     pub(crate) desk: DeskEnd<A, B>,
 }
@@ -165,7 +170,10 @@ impl<A: Monoid, B: Monoid> Handle<A, B> {
     {
         // Each has a value of its own, so that the first one need not lie in memory.
         match self.attempt(&mut OneUpdate(k, request)) {
-            Ok(told) => Ok(told),
+            Ok(told) => {
+                self.count(1);
+                Ok(told)
+            }
             Err(obstacle) => self.try_again(&mut OneUpdate(k, request), obstacle),
         }
     }
@@ -325,7 +333,10 @@ impl<A: Monoid, B: Monoid> Handle<A, B> {
     {
         for _ in rt.forever() {
             let obstacle = match self.attempt(op) {
-                Ok(answer) => return Ok(answer),
+                Ok(answer) => {
+                    self.count_or_wait(rt, op.updates(&answer));
+                    return Ok(answer);
+                }
                 Err(obstacle) => obstacle,
             };
             if let Err(cause) = self.wait_to_refill(rt, obstacle) {
@@ -343,7 +354,10 @@ impl<A: Monoid, B: Monoid> Handle<A, B> {
         ensures refused { IfErr result (IfRefused (RefusesCall self.new)) }
     {
         match self.attempt(op) {
-            Ok(answer) => Ok(answer),
+            Ok(answer) => {
+                self.count(op.updates(&answer));
+                Ok(answer)
+            }
             Err(obstacle) => self.try_again(op, obstacle),
         }
     }
@@ -365,7 +379,10 @@ impl<A: Monoid, B: Monoid> Handle<A, B> {
             return Err(cause);
         }
         match self.attempt(op) {
-            Ok(answer) => Ok(answer),
+            Ok(answer) => {
+                self.count(op.updates(&answer));
+                Ok(answer)
+            }
             Err(obstacle) => Err(self.still(obstacle)),
         }
     }
@@ -421,6 +438,7 @@ impl<A: Monoid, B: Monoid> Handle<A, B> {
         let Handle {
             bits,
             lane: index,
+            pace,
             round,
             desk,
             ..
@@ -435,8 +453,55 @@ impl<A: Monoid, B: Monoid> Handle<A, B> {
             round,
             bits,
             lane: index,
+            pace,
             desk,
         })
+    }
+
+    // Counts updates that were made, after some of which it tries to have the next round laid out further.
+    #[inline(always)]
+    fn count(&mut self, updates: i32)
+        ensures { self.new ≡ self.old }
+    {
+        if self.pace.count(updates) {
+            self.prepare(&Tries);
+        }
+    }
+
+    // The same, and waits for the desk if it had to pass by too often.
+    #[inline(always)]
+    fn count_or_wait<R: Wait>(&mut self, rt: &R, updates: i32)
+        ensures { self.new ≡ self.old }
+    {
+        if self.pace.count(updates) {
+            self.wait_to_prepare(rt);
+        }
+    }
+
+    // Has the next round laid out further, if the desk is to be had.
+    #[cold]
+    #[inline(never)]
+    fn prepare<W: Patience>(&mut self, how: &W)
+    where
+        W::GaveUp: Drop,
+        ensures { self.new ≡ self.old }
+    {
+        let nodes = self.pace.nodes();
+        let ahead = self.desk.prepare(how, nodes);
+        self.pace.goes_on(ahead.ok());
+    }
+
+    // The same, and waits for the desk if a handle that made so many updates has to.
+    #[cold]
+    #[inline(never)]
+    fn wait_to_prepare<R: Wait>(&mut self, rt: &R)
+        ensures { self.new ≡ self.old }
+    {
+        if self.pace.presses() {
+            self.prepare(&Waits(rt));
+        } else {
+            self.prepare(&Tries);
+        }
     }
 
     // Sees to what is in the way: with the next round, or a spare lane of this one.

@@ -1,6 +1,7 @@
 //! A shared trie whose rounds roll over by themselves: threads update it and look at it for as long as they like.
 #![tactic(auto)]
 
+mod ahead;
 mod counts;
 mod desk;
 mod desk_end;

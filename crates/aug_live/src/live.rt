@@ -16,10 +16,12 @@ ghost use Rattle.aug_live.specs.inside.DeskKnowledge.{IsOwner};
 ghost use Rattle.aug_live.specs.inside.Desks.{IsNewBerth};
 ghost use Rattle.aug_live.specs.inside.Rolls.{IsHandleEnd, IsOf, IsOpenedLane, Starts, handles_from, rounds_in};
 
+use crate::ahead::Pace;
 use crate::counts::LiveCounts;
 use crate::desk::Working;
 use crate::desk_end::{
-    Desk, DeskEnd, DeskKey, DeskLock, Lay, NewDesk, Same, lay_on, take_own, take_settled,
+    Desk, DeskEnd, DeskKey, DeskLock, Lay, NewDesk, Same, lay_on, prepare_on, take_own,
+    take_settled,
 };
 use crate::end::{Berth, End};
 use crate::error::{LiveError, OpenError, TryError};
@@ -36,6 +38,9 @@ use std::alloc::{AllocError, Global};
 use std::marker::Model;
 use std::snapshot::Snapshot;
 use std::sync::{Arc, Wait};
+
+// How many nodes the owner lays out in one call.
+const TENDS: u32 = 256;
 
 /// A shared trie whose rounds roll over by themselves. Threads work with its handles.
 #[derive(Drop)]
@@ -200,6 +205,18 @@ impl<A: Monoid, B: Monoid> Live<A, B> {
         ensures refused { IfErr result (IfRefused (RefusesRoll self.new)) }
     {
         self.roll_over(&Tries)
+    }
+
+    /// Lays a piece of the next round out, if the round is near its end, for an owner with a processor to spare: the roll-over then has less to do, and
+    /// handles, which do the same between their updates, find it done. True if there is more to do now; otherwise the owner may sleep a little. It waits for
+    /// nobody, and does nothing while somebody else has the desk. Nothing is learnt by it.
+    pub fn tend(&mut self) -> bool
+        ensures { self.new ≡ self.old }
+    {
+        match prepare_on(&Tries, &self.lock, &mut self.key, TENDS) {
+            Ok(ahead) => ahead.more,
+            Err(_) => false,
+        }
     }
 
     // Rolls the round over.
@@ -494,6 +511,7 @@ fn hand_out<A: Monoid, B: Monoid>(
             bits,
             lane,
             number: 1,
+            pace: Pace::new(),
             round,
             desk: DeskEnd { lock, key },
         });

@@ -7,6 +7,7 @@ ghost use Rattle.aug_trie.specs.Comparing.{compare_steps};
 ghost use Rattle.aug_trie.specs.Node.{steps_for};
 ghost use Rattle.aug_live.specs.LiveHandles.{handle_of, set_before, set_of_look, IsAsked, LooksAgain};
 
+use crate::ahead::Pace;
 use crate::desk_end::DeskEnd;
 use crate::end::Out;
 use crate::handle::Handle;
@@ -32,6 +33,7 @@ pub struct Look<A: Monoid, B: Monoid> {
     pub(crate) round: SharedRound<A, B>,
     pub(crate) bits: u32,
     pub(crate) lane: usize,
+    pub(crate) pace: Pace,
     pub(crate) desk: DeskEnd<A, B>,
 }
 
@@ -114,6 +116,7 @@ impl<A: Monoid, B: Monoid> Look<A, B> {
             round,
             bits,
             lane,
+            pace,
             desk,
         } = self;
         let number = parts.number;
@@ -123,6 +126,7 @@ impl<A: Monoid, B: Monoid> Look<A, B> {
             bits,
             lane,
             number,
+            pace,
             round,
             desk,
         }

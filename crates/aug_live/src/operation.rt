@@ -40,6 +40,9 @@ pub(crate) trait Operation<A: Monoid, B: Monoid> {
         ensures does { Does self.old self.new result pass.old pass.new }
         ensures round { rounds_at pass.new ≡ rounds_at pass.old }
         ensures accepts { IsPrefix pass.old.knows.accepted pass.new.knows.accepted };
+
+    /// How many updates that came to.
+    fn updates(&self, answer: &Self::Answer) -> i32;
 }
 
 /// An update of a key.
@@ -63,6 +66,11 @@ impl<A: Monoid, B: Monoid> Operation<A, B> for OneUpdate {
     #[inline(always)]
     fn run(&mut self, pass: &mut Pass<'_, A, B>) -> Told {
         pass.update(self.0, self.1)
+    }
+
+    #[inline(always)]
+    fn updates(&self, _answer: &Told) -> i32 {
+        1
     }
 }
 
@@ -94,6 +102,10 @@ impl<A: Monoid, B: Monoid> Operation<A, B> for Batch<'_> {
         pass.update_all(&self.keys[..count], self.requests, outcomes);
         count
     }
+
+    fn updates(&self, answer: &usize) -> i32 {
+        i32::try_from(*answer).unwrap_or(i32::MAX)
+    }
 }
 
 /// A pop of the member at one end.
@@ -118,6 +130,11 @@ impl<A: Monoid> Operation<A, Extent> for PopAt {
     fn run(&mut self, pass: &mut Pass<'_, A, Extent>) -> Pop {
         pass.pop(self.0)
     }
+
+    #[inline(always)]
+    fn updates(&self, _answer: &Pop) -> i32 {
+        1
+    }
 }
 
 /// A note of what the pass knows.
@@ -140,6 +157,11 @@ impl<A: Monoid, B: Monoid> Operation<A, B> for MakeNote {
 
     fn run(&mut self, pass: &mut Pass<'_, A, B>) -> Note<A, B> {
         pass.note()
+    }
+
+    #[inline(always)]
+    fn updates(&self, _answer: &Note<A, B>) -> i32 {
+        0
     }
 }
 
@@ -166,5 +188,10 @@ impl<A: Monoid, B: Monoid> Operation<A, B> for LearnNote<A, B> {
             unreachable!()
         };
         pass.learn(note);
+    }
+
+    #[inline(always)]
+    fn updates(&self, _answer: &()) -> i32 {
+        0
     }
 }

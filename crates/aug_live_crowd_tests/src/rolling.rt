@@ -5,7 +5,7 @@ use aug_live::OpenError;
 use aug_live_testing::acting::{User, at_last, give_up};
 use aug_live_testing::opening::{HandleOf, Host, LiveOf, opened};
 use aug_trie::Outcome::Accepted;
-use aug_trie_testing::rows::Act::{Close, Has, Look, Now, Over, Renew, Roll};
+use aug_trie_testing::rows::Act::{Close, Has, Look, Now, Over, Renew, Roll, Tend};
 use aug_trie_testing::rows::Change::{Insert, Remove};
 use aug_trie_testing::rows::Reply::{Came, Closed, Done, Is, IsClosed, Not};
 use aug_trie_testing::rows::{Act, Reply, made};
@@ -217,6 +217,11 @@ const CLOSE: &[(Act, Reply)] = &[(Close, Done)];
 
 const ROLL: &[(Act, Reply)] = &[(Roll, Done)];
 
+// Pieces of the next round are laid out behind and before roll-overs, and by themselves.
+const TENDED: &[(Act, Reply)] = &[(Tend, Done), (Tend, Done), (Roll, Done), (Tend, Done)];
+
+const TEND: &[(Act, Reply)] = &[(Tend, Done)];
+
 // New handles for the lane 3 put key 3 in and take it out in turn.
 const RENEW: &[(Act, Reply)] = &[
     (Renew(3), Done),
@@ -236,6 +241,9 @@ const BESIDE: &[Use] = &[
     ((4, 2, 5_000_000), (0, 500), (CLOSE, 1, false), 0, ANY),
     ((4, 4, 5_000_000), (0, 500), (CLOSE, 1, false), 0, ANY),
     ((4, 2, 5_000), (0, 1000), (ROLL, 200, false), 0, ROLLED),
+    ((4, 2, 5_000), (12, 50), (TENDED, 200, false), 0, ROLLED),
+    // 80,000 calls, of which a round has room for 4,000.
+    ((4, 1, 20_000), (12, 250), (TEND, 20_000, true), 0, (20, 26)),
     // 151,000 updates, of which each lane has 1,000 in a round, and 15,100.
     ((3, 0, 50_000), (0, 1000), RENEWED, 500, (50, 152)),
     ((3, 2, 5_000), (0, 1000), (RENEW, 50, false), 50, (5, 16)),

@@ -116,7 +116,7 @@ fn by_user<R: Host>(rt: &R, user: User, waits: bool, act: Act) -> (User, Reply) 
     }
 }
 
-/// What is done with a trie: its round rolls over, it is closed, or a new handle comes in the place of a user's, if it is not refused.
+/// What is done with a trie: its round rolls over, a piece of the next one is laid out, it is closed, or a new handle comes in the place of a user's, if it is not refused.
 fn with_trie<R: Host>(rt: &R, live: LiveOf, user: User, waits: bool, act: Act) -> Then {
     let mut live = live;
     match act {
@@ -135,6 +135,10 @@ fn with_trie<R: Host>(rt: &R, live: LiveOf, user: User, waits: bool, act: Act) -
             ),
             Err(live) => (Some(live), user, Reply::Later),
         },
+        Act::Tend => {
+            live.tend();
+            (Some(live), user, Reply::Done)
+        }
         _ => {
             let reply = rolled(rt, &mut live, waits);
             (Some(live), user, reply)
@@ -149,7 +153,7 @@ pub fn done<R: Host>(rt: &R, live: Option<LiveOf>, user: User, waits: bool, act:
             give_up(user);
             (live, User::Gone, Reply::Done)
         }
-        Act::Renew(_) | Act::Roll | Act::Close => match live {
+        Act::Renew(_) | Act::Roll | Act::Tend | Act::Close => match live {
             Some(live) => with_trie(rt, live, user, waits, act),
             None => (None, user, Reply::Not),
         },

@@ -17,3 +17,5 @@ mod sharing;
 mod since;
 #[cfg(test)]
 mod steps;
+#[cfg(test)]
+mod tending;

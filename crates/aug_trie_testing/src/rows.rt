@@ -95,8 +95,9 @@ pub enum Act {
     SelectByWeight(u64),
     /// A handle of the lane with this number comes in the place of the handle.
     Renew(u32),
-    /// The round rolls over, or the trie is closed.
+    /// The round rolls over, a piece of the next one is laid out, or the trie is closed.
     Roll,
+    Tend,
     Close,
 }
 

@@ -59,6 +59,13 @@ Moves end None (Some t) = ⊥
 Moves end (Some t) None = end ≡ 0
 Moves end (Some t) (Some u) = KnowsMore t u × ((end ≡ 0) ⊎ (u.given ≡ t.given))
 
+-- what lies there goes on, with as many handles as before
+abbrev pub DeskStays : Option TrieFacts → Option TrieFacts → Type 0
+DeskStays None None = Unit {0}
+DeskStays None (Some t) = ⊥
+DeskStays (Some t) None = ⊥
+DeskStays (Some t) (Some u) = KnowsMore t u × (u.given ≡ t.given)
+
 -- an end that took a round lays it there again, or what became of it
 pub record GoesOnFrom {A B : Type 0} (pass : Seat (Option (Desk A B)) (Holding (Desk A B) TrieFacts)) (working : TrieFacts) : Type 0 where
   pub was : TrieFacts

@@ -1,5 +1,5 @@
-use Rattle.std.proofs.Common.{subst}
-use Rattle.aug_live.specs.LiveHandles.{Runs}
+use Rattle.std.proofs.Common.{subst, sym}
+use Rattle.aug_live.specs.LiveHandles.{HandleFacts, Runs}
 use Rattle.aug_live.proofs.Carries.{err_map, follows_on, ok_map, runs_on}
 use Rattle.aug_live.proofs.handle.Handle.try_make.Goals as goal
 
@@ -10,3 +10,6 @@ returns-in-Err-clause-made g c = ok_map _ (λ (answer : _). Runs (g.O.Operation.
 
 pub returns-in-Err-clause-not_made : goal.returns-in-Err-clause-not_made
 returns-in-Err-clause-not_made g c = err_map _ _ c.try_again.result (λ _ later. follows_on c.args.self.now c.attempt.new.self c.try_again.new.self c.in-Err.ensures.not_made later) c.try_again.ensures.not_made
+
+pub returns-in-Ok-clause-made : goal.returns-in-Ok-clause-made
+returns-in-Ok-clause-made g c = subst (λ (h : HandleFacts). Runs (g.O.Operation.Does c.args.op.now c.attempt.new.op c.in-Ok.answer) c.args.self.now h) (sym c.count.ensures) c.in-Ok.ensures.made

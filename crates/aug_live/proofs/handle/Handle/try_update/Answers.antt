@@ -1,3 +1,6 @@
+use Rattle.std.proofs.Common.{subst, sym}
+use Rattle.aug_trie.specs.Updates.{Updates}
+use Rattle.aug_live.specs.LiveHandles.{HandleFacts, Makes}
 use Rattle.aug_live.proofs.Carries.{err_map, follows_on, ok_map, runs_on}
 use Rattle.aug_live.proofs.handle.Handle.try_update.Goals as goal
 
@@ -6,3 +9,6 @@ returns-in-Err-clause-made g c = ok_map _ _ c.try_again.result (λ _ made. runs_
 
 pub returns-in-Err-clause-not_made : goal.returns-in-Err-clause-not_made
 returns-in-Err-clause-not_made g c = err_map _ _ c.try_again.result (λ _ later. follows_on c.args.self.now c.attempt.new.self c.try_again.new.self c.in-Err.ensures.not_made later) c.try_again.ensures.not_made
+
+pub returns-in-Ok-clause-made : goal.returns-in-Ok-clause-made
+returns-in-Ok-clause-made g c = subst (λ (h : HandleFacts). Makes 1 (λ a b. Updates c.args.request c.args.k c.in-Ok.told a.knows b.knows) c.args.self.now h) (sym c.count.ensures) c.in-Ok.ensures.made

@@ -1,18 +1,21 @@
 """Runs scripts of the repository in a folder of their own, and ./run over programs that stand in for the toolchain and the built program."""
 
 import os
+import re
 import shutil
 import subprocess
 
 from common import SECONDS, TOP, InFolder
 
-# Stands in for rt under ./run: it notes its folder and words, does what the file meanwhile holds, says said.rt, and told.rt on its errors, and ends
+# Stands in for rt under ./run: it notes its folder and words, and the processors that it was given, does what the file meanwhile holds, says said.rt, and told.rt on its errors, and ends
 # as status.VERB does. `rt try` notes the script and the input that it was given. `rt lib` and `rt run` leave the names of the libraries that stand
 # there, and `rt run` builds a program.
 PROVER = r"""#!/bin/bash
 crate=${PWD##*/}
 verb=$1
 for word; do if [[ $word == script=* ]]; then script=$(cat "${word#script=}"); fi; done
+words=" $* "
+if [[ $words =~ \ --jobs\ ([0-9]+)\  ]]; then echo "$crate jobs ${BASH_REMATCH[1]} nice $(nice)" >>"$ROOM/given"; fi
 noted="$crate:$(printf ' [%s]' "${@/#script=*/script}")"
 if [[ $verb == try ]]; then noted+=" script=$script input=$(cat)"; fi
 echo "$noted" >>"$ROOM/called"
@@ -79,14 +82,15 @@ class OverStandIns(CopiedScripts):
         """Has rt say and do so, and end with a status for each of its verbs, and forgets how it was called."""
         for verb in "lib", "run", "try":
             self.write(f"status.{verb}", str(ends.get(verb, 0)))
-        for name, text in (("said.rt", said), ("told.rt", told), ("meanwhile", meanwhile), ("called", "")):
+        for name, text in (("said.rt", said), ("told.rt", told), ("meanwhile", meanwhile), ("called", ""), ("given", "")):
             self.write(name, text)
 
     def run_script(self, *words, **how):
         return super().run_script(*words, TMPDIR=self.path("tmp"), **how)
 
     def called(self):
-        return self.read("called").splitlines()
+        """How rt was called, without the number of jobs that it was given."""
+        return re.sub(r" \[--jobs\] \[\d+\]", "", self.read("called")).splitlines()
 
     def prove(self):
         self.behave()

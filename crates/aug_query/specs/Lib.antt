@@ -1,4 +1,3 @@
-pub mod FakeTree
 pub mod Descend
 pub mod DescendBoth
 pub mod BothMembers

@@ -1,10 +1,8 @@
 -- What no promise rests on: what private fields keep, what private calls leave, how views come of fields, and lemmas.
 pub mod Together
-pub mod FakeNodes
 pub mod FirstOver
 pub mod NodePlaces
 pub mod NodeWalkLaws
 pub mod Paths
-pub mod Rows
 pub mod Since
 pub mod Pages

@@ -1,5 +1,5 @@
 //! Summaries of lists of keys with weights, made of those of shorter lists.
-ghost use Rattle.std.specs.Prelude.{◌≡◌, ℕ, ◌+◌, ◌^◌, ◌<◌, List, [], ◌∷◌, ◌++◌, All};
+ghost use Rattle.std.specs.Prelude.{◌≡◌, ℕ, ◌+◌, ◌^◌, ◌<◌, List, [], ◌++◌, All};
 ghost use Rattle.aug_model.specs.Folds.{summary_of};
 ghost use Rattle.aug_monoid.specs.Weighted.{FitsPair};
 
@@ -14,17 +14,6 @@ pub(crate) fn of_none<A: Monoid, B: Monoid>() -> Summary<A, B>
         count: 0,
         a: A::unit(),
         b: B::unit(),
-    }
-}
-
-// The summary of the one key `k` with its weight.
-pub(crate) fn of_one<A: Monoid, B: Monoid>(k: u32, weight: u32) -> Summary<A, B>
-    ensures { result ≡ summary_of A.parts B.parts ((k, weight) ∷ []) }
-{
-    Summary {
-        count: 1,
-        a: A::of_key(k, weight),
-        b: B::of_key(k, weight),
     }
 }
 

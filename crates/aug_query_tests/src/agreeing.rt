@@ -2,7 +2,7 @@
 use super::asking::{keys_of, pairs_of};
 use crate::assertions::{equal, holds};
 use aug_monoid::Sum;
-use aug_query::FakeTree;
+use aug_query_testing::FakeTree;
 use aug_testing::{Host, Last};
 use std::alloc::AllocError;
 

@@ -3,8 +3,9 @@ use crate::assertions::{equal, holds};
 use aug_monoid::{Extent, Monoid};
 use aug_query::descent::{self, First, Greatest, Least, Memberships, Ranks, Weights};
 use aug_query::{
-    FakeTree, after, ask as ask_tree, before, has, keys, pairs, range, rank, select, size, weight,
+    after, ask as ask_tree, before, has, keys, pairs, range, rank, select, size, weight,
 };
+use aug_query_testing::FakeTree;
 use aug_testing::{Host, Last};
 use std::alloc::{AllocError, Global};
 

@@ -2,8 +2,9 @@
 use super::asking::{Answer, Query, Small, Step, five_and_nine, play, take, take_all};
 use crate::assertions::equal;
 use aug_monoid::{Nothing, Sum};
+use aug_query::ask;
 use aug_query::descent::SelectByWeight;
-use aug_query::{FakeTree, ask};
+use aug_query_testing::FakeTree;
 use aug_testing::Host;
 use std::alloc::AllocError;
 

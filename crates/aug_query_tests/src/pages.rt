@@ -4,8 +4,9 @@ use super::agreeing::tree_of;
 use super::asking::pairs_of;
 use crate::assertions::equal;
 use aug_monoid::Sum;
+use aug_query::ask;
 use aug_query::descent::{MembersBelow, MembersFrom};
-use aug_query::{FakeTree, ask};
+use aug_query_testing::FakeTree;
 use aug_testing::{Host, Last};
 use std::alloc::AllocError;
 

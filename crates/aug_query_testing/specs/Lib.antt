@@ -1,0 +1,2 @@
+pub mod FakeTree
+pub mod inside

@@ -27,7 +27,7 @@ use Rattle.aug_core.proofs.Books.{at_below, same_index}
 use Rattle.aug_core.proofs.EntryCuts.{entry_is, cut_later, left_part, right_part, part_pairs}
 use Rattle.aug_core.proofs.PrefixLemmas.{entry_stays}
 use Rattle.aug_words.specs.inside.Builds.{IsReady}
-use Rattle.aug_words.specs.inside.Laying.{own_number, InChunk, IsKept, KeepsRest, LaysNode, renewed_word, next_word, next_record, IsNamed, IsLaidAs, ShownBelow, Brings}
+use Rattle.aug_words.specs.inside.Laying.{own_number, InChunk, IsKept, KeepsRest, LaysNode, renewed_word, next_word, next_record, NamesEntry, IsLaidAs, ShownBelow, Brings}
 use Rattle.aug_words.proofs.CutSets.{members_rise}
 
 -- ---- the numbers of the nodes' own records
@@ -465,10 +465,10 @@ module _ {A B : Type 0} (parts_a : Parts A) (parts_b : Parts B) (s : Shape) (roo
     right_word : over.right_child.word ≡ get_or five 1 0
     right_word = sym (says 1 (omega arith) ∙ ap (λ (z : List ℕ). get_or z 1 0) over.words_say ∙ right_is parts_a parts_b over.left_child.word over.right_child.word e.pairs)
 
-    pub left_named : IsNamed book (left_of s q) (get_or five 0 0)
+    pub left_named : NamesEntry book (left_of s q) (get_or five 0 0)
     left_named = record { index = e.left; entry = over.left_child; at = over.left_at; named = left_word }
 
-    pub right_named : IsNamed book (right_of s q) (get_or five 1 0)
+    pub right_named : NamesEntry book (right_of s q) (get_or five 1 0)
     right_named = record { index = e.right; entry = over.right_child; at = over.right_at; named = right_word }
 
     pub node_laid : (word : ℕ) → e.word ≡ word → (w h w' h' u k v : List ℕ) (below : ShownBelow (face parts_a parts_b) s book w h (level_of s q) (place_on s q))

@@ -1,5 +1,5 @@
 -- The set of a cut: its members rise, are small, and fit.
-use Rattle.std.proofs.Common.{◌≡◌, ℕ, zero, suc, ◌+◌, ◌%◌, ◌^◌, ◌<◌, ◌≤◌, ◌==◌, List, All, length, sym, ap, subst, ⊎_elim, arith}
+use Rattle.std.proofs.Common.{◌≡◌, ℕ, zero, suc, ◌+◌, ◌%◌, ◌^◌, ◌<◌, ◌≤◌, ◌==◌, List, All, length, sym, ap, subst, ⊎_elim, arith, ◌*◌, ◌∙◌}
 use Rattle.std.specs.List.{range_with_len}
 use Rattle.std.specs.List.Sorted.{IsStrictlyIncreasing}
 use Rattle.std.proofs.lemmas.Bool.{cases_lt}
@@ -8,11 +8,11 @@ use Rattle.std.proofs.lemmas.List.Elements.{All-cons, All-filter, All-map, All-n
 use Rattle.std.proofs.lemmas.List.FromFn.{get_or-range_with_len, length-range_with_len}
 use Rattle.std.proofs.lemmas.List.Kept.{IsStrictlyIncreasing-filter}
 use Rattle.std.proofs.Math.Nat.{pow-le-pow_right}
-use Rattle.aug_model.specs.Keys.{IsKeySet, keys_of}
+use Rattle.aug_model.specs.Keys.{IsKeySet, keys_of, pairs_of}
 use Rattle.aug_model.proofs.Pairs.{keys_of-pairs_of}
 use Rattle.aug_monoid.specs.Weighted.{FitsPair}
 use Rattle.aug_core.specs.Addresses.{root_place}
-use Rattle.aug_core.specs.Book.{Book, history_of, IsBook}
+use Rattle.aug_core.specs.Book.{At, Book, history_of, IsBook}
 use Rattle.aug_core.specs.Cuts.{Cut, pairs_of_cut, serial_of, set_of_cut, weight_at}
 use Rattle.aug_core.specs.Effects.{KnowsTable}
 use Rattle.aug_core.specs.Opening.{serial_entry}
@@ -22,7 +22,9 @@ use Rattle.aug_core.specs.inside.RootCuts.{root_cut}
 use Rattle.aug_core.specs.declared.view.Entry.{Entry}
 use Rattle.aug_core.specs.declared.view.SeatView.{SeatView}
 use Rattle.aug_core.proofs.CutsUnder.{reached, shown_is}
-use Rattle.aug_core.proofs.EntryCuts.{entry_at}
+use Rattle.aug_core.proofs.Books.{at_below}
+use Rattle.aug_core.proofs.CutLists.{odd_pairs, odd_weighed, set_is}
+use Rattle.aug_core.proofs.EntryCuts.{entry_at, entry_is, pairs_under}
 use Rattle.aug_core.proofs.Levels.{root_word}
 
 range_below : (n a m : ℕ) → a + n ≤ m → All (λ k. k < m) (range_with_len a n)
@@ -69,3 +71,13 @@ pub cut_light : (f : ℕ → ℕ → List (ℕ × ℕ) → List ℕ) (v : SeatVi
 cut_light f v i key kn low = let s : Shape = v.shape in let r : ℕ = reached s v.seen key s.bits i in
     let is : weight_at (root_cut s v.seen i) key ≡ (entry_of v.seen key r).weight = ap (λ (z : ℕ × ℕ). z.1) (shown_is s v.seen key s.bits 0 key (root_place s) i (root_word s) (omega arith) low) in
     let fits = light f s v.seen kn.book key r low in omega arith
+
+-- ---- the members below the root
+
+pairs_are : (cut : Cut) → pairs_of_cut cut ≡ odd_pairs 0 cut
+pairs_are cut = ap (pairs_of (weight_at cut)) (set_is cut) ∙ sym (odd_weighed (weight_at cut) cut 0 (λ k low. let e : 0 + k ≡ k = omega arith in ap (weight_at cut) e))
+
+-- an entry's of the root are those of its cut
+pub root_pairs : (f : ℕ → ℕ → List (ℕ × ℕ) → List ℕ) (s : Shape) (book : Book) → IsBook f s book → (i : ℕ) (e : Entry) → At book (root_place s) i e → e.pairs ≡ pairs_of_cut (root_cut s book i)
+root_pairs f s book b i e at = let none : 0 * 2 ^ s.bits ≡ 0 = omega arith in
+    ap (λ (z : Entry). z.pairs) (sym (entry_is book (root_place s) i e at)) ∙ pairs_under f s book b s.bits 0 (root_place s) i (root_word s) (at_below _ i e at) ∙ ap (λ (z : ℕ). odd_pairs z (root_cut s book i)) none ∙ sym (pairs_are (root_cut s book i))

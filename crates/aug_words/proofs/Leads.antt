@@ -33,7 +33,7 @@ use lib.ListN.{get_elem?}
 use Rattle.aug_words.specs.Leads.{HandsLaneOut}
 use Rattle.aug_words.specs.Notes.{LearnsNote}
 use Rattle.aug_words.specs.inside.SeatState.{SitsAt, IsPassSeat, IsLeadSeat, IsLead, IsStore}
-use Rattle.aug_words.specs.inside.Laying.{Brings, IsDraft, IsNamed, MayBring, ShownBelow, StepsBeside, words_in}
+use Rattle.aug_words.specs.inside.Laying.{Brings, IsDraft, NamesEntry, MayBring, ShownBelow, StepsBeside, words_in}
 use Rattle.aug_core.proofs.Levels.{level_is, root_word}
 use Rattle.aug_words.proofs.Lays.{drafts_on, knows_steps}
 use Rattle.aug_words.proofs.Passes.{placed_on}
@@ -168,9 +168,9 @@ module _ (face : ℕ → ℕ → List (ℕ × ℕ) → List ℕ) (a : TableId) (
   }
 
   -- from the root's newest record on
-  pub root_named : (top : ℕ) → top ≡ root_place me.0.shape → IsNamed me.0.seen top root
+  pub root_named : (top : ℕ) → top ≡ root_place me.0.shape → NamesEntry me.0.seen top root
   root_named top is = let n = seated.names_root in let bits = seated.knows.laid_out.bits in let inner = root_inner me.0.shape bits.0 bits.1 in
-      subst (λ (z : ℕ). IsNamed me.0.seen z root) (sym is) record { index = n.index; entry = n.entry; at = n.newest.at; named = seated.knows.book.named (root_place me.0.shape) n.index n.entry inner n.newest.at ∙ sym n.named }
+      subst (λ (z : ℕ). NamesEntry me.0.seen z root) (sym is) record { index = n.index; entry = n.entry; at = n.newest.at; named = seated.knows.book.named (root_place me.0.shape) n.index n.entry inner n.newest.at ∙ sym n.named }
 
   pub root_below : (s : Shape) (top : ℕ) → me.0.shape ≡ s → top ≡ root_place s → ShownBelow face s me.0.seen (words_in other s me.0) shown (level_of s top) (place_on s top)
   root_below s top shape is = let on = level_is s (root_place s) s.bits 0 (root_word s) in let level = ap (level_of s) is ∙ on.0 in let place = ap (place_on s) is ∙ on.1 in

@@ -19,7 +19,7 @@ use Rattle.aug_core.proofs.Levels.{level_is, root_word}
 use Rattle.aug_words.specs.Rests.{OpensAgain}
 use Rattle.aug_words.specs.Seats.{NamesRoot}
 use Rattle.aug_words.specs.inside.Laying.{ChangesPart, FreesLanes, InChunk, IsLaidAs, SharesRecords, ShownBelow, StepsBeside, words_in}
-use Rattle.aug_words.proofs.CutSets.{cut_light, cut_members, members_fit}
+use Rattle.aug_words.proofs.CutSets.{cut_light, cut_members, members_fit, root_pairs}
 use Rattle.aug_words.proofs.Chunks.{one_named}
 use Rattle.aug_words.proofs.Leads.{root_inner}
 use Rattle.aug_words.proofs.Lays.{beside_on, beside_stored, laid_opens, whole}
@@ -104,7 +104,7 @@ module _ (f : ℕ → ℕ → List (ℕ × ℕ) → List ℕ) (other root : ℕ)
         newest = n.newest;
         base = other;
         before = w;
-        opened = is;
+        opened = is ∙ ap (λ (z : List (ℕ × ℕ)). reopening f z other w) (sym (root_pairs f s v.seen kn.book n.index n.entry n.newest.at));
         next = (refl, refl, shape_there);
       }
 

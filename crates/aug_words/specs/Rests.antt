@@ -7,9 +7,7 @@ use Rattle.aug_core.specs.Places.{Shape, lane_place, record_start, record_words,
 use Rattle.aug_core.specs.Addresses.{IsInner, root_place}
 use Rattle.aug_core.specs.Lanes.{IsOfLane, word_of_state}
 use Rattle.aug_core.specs.Book.{At, IsNewest}
-use Rattle.aug_core.specs.Cuts.{pairs_of_cut}
 use Rattle.aug_core.specs.Prefixes.{IsPrefix}
-use Rattle.aug_core.specs.inside.RootCuts.{root_cut}
 use Rattle.aug_core.specs.Opening.{Opening, IsIdle, opening_number, opening_words, shared_words}
 use Rattle.aug_core.specs.Effects.{LoadsNode, held_word, opening_of}
 use Rattle.aug_core.specs.Eras.{table_part}
@@ -48,7 +46,8 @@ module _ (face : ℕ → ℕ → List (ℕ × ℕ) → List ℕ) where
     pub idle_is : idle ≡ renewing last idle.whole
     pub rule : EndWith face (opening_of last) last (table_part v.base (word_count v.shape) idle.whole)
 
-  -- a lead opens its table again in another part, over the set of the last cut that it knew; before that it loads records, and then the root
+  -- a lead opens its table again in another part, over the members below the newest record of the root that it has seen; before that it loads records, and
+  -- then the root
   pub record OpensAgain (v w : SeatView) : Type 0 where
     pub prepared : SeatView
     pub prepared_is : prepared ≡ record v { whole = prepared.whole; steps = prepared.steps }
@@ -60,5 +59,5 @@ module _ (face : ℕ → ℕ → List (ℕ × ℕ) → List ℕ) where
     pub newest : IsNewest v.seen (root_place v.shape) index entry
     pub base : ℕ
     pub before : SeatView
-    pub opened : w ≡ reopening face (pairs_of_cut (root_cut v.shape v.seen index)) base before
+    pub opened : w ≡ reopening face entry.pairs base before
     pub next : (before.era ≡ idle.era) × (before.past ≡ idle.past) × (before.shape ≡ v.shape)

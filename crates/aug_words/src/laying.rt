@@ -7,7 +7,7 @@ ghost use Rattle.aug_core.specs.Faces.{face};
 ghost use Rattle.aug_core.specs.Opening.{shared_words};
 ghost use Rattle.aug_core.specs.Places.{record_start, record_words, word_count};
 ghost use Rattle.aug_words.specs.inside.Builds.{WritesFive};
-ghost use Rattle.aug_words.specs.inside.Laying.{Brings, ChangesPart, FreesLanes, IsLaidAs, IsNamed, LaysNode, MayBring, MayLay, PutsWord, SharesRecords, ShownBelow, StepsBeside, next_record, next_word, own_number, renewed_word, words_in};
+ghost use Rattle.aug_words.specs.inside.Laying.{Brings, ChangesPart, FreesLanes, IsLaidAs, NamesEntry, LaysNode, MayBring, MayLay, PutsWord, SharesRecords, ShownBelow, StepsBeside, next_record, next_word, own_number, renewed_word, words_in};
 
 use crate::building::SERIAL;
 use crate::draft::Draft;
@@ -171,7 +171,7 @@ impl<A: Monoid, B: Monoid> Words<A, B> {
     ) -> bool
         requires may { MayBring (face A.parts B.parts) seat.old.table_id self.now.table records draft.old.base self.now.shape seat.old.me }
         requires node { node < place_count self.now.shape }
-        requires named { IsNamed seat.old.me.0.seen node word }
+        requires named { NamesEntry seat.old.me.0.seen node word }
         requires noted { length draft.old.shown.items ≡ 2 ^ self.now.shape.bits }
         requires below { ShownBelow (face A.parts B.parts) self.now.shape seat.old.me.0.seen (words_in draft.old.base self.now.shape seat.old.me.0) draft.old.shown.items (level_of self.now.shape node) (place_on self.now.shape node) }
         ensures may { MayBring (face A.parts B.parts) seat.new.table_id self.now.table records draft.old.base self.now.shape seat.new.me }

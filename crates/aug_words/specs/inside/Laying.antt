@@ -63,7 +63,7 @@ abbrev pub next_record : Shape → ℕ → List ℕ → List ℕ
 next_record s q five = next_word s (left_of s q) (slice_index five 0) ∷ next_word s (right_of s q) (slice_index five 1) ∷ slice_index five 2 ∷ slice_index five 3 ∷ slice_index five 4 ∷ []
 
 -- the word names an entry of the leaf or node q that was seen
-pub record IsNamed (book : Book) (q word : ℕ) : Type 0 where
+pub record NamesEntry (book : Book) (q word : ℕ) : Type 0 where
   pub index : ℕ
   pub entry : Entry
   pub at : At book q index entry
@@ -76,7 +76,7 @@ module _ (face : ℕ → ℕ → List (ℕ × ℕ) → List ℕ) (s : Shape) (bo
 
   -- a leaf or a node is laid out as the entry that this word names
   pub record IsLaidAs (q word : ℕ) (words : List ℕ) : Type 0 where
-    pub names : IsNamed book q word
+    pub names : NamesEntry book q word
     pub laid : IsLaid (level_of s q) (place_on s q) q names.index words
 
   -- what is noted of the nodes of a chunk is so

@@ -10,7 +10,7 @@ use Rattle.aug_core.specs.declared.view.SeatView.{SeatView}
 use Rattle.aug_core.proofs.Levels.{on_level}
 use Rattle.aug_core.proofs.Sizes.{twice}
 use Rattle.aug_words.specs.Seats.{Store}
-use Rattle.aug_words.specs.inside.Laying.{Brings, IsLaidAs, IsNamed, LaysNode, MayBring, StepsBeside, next_record, renewed_word, words_in}
+use Rattle.aug_words.specs.inside.Laying.{Brings, IsLaidAs, NamesEntry, LaysNode, MayBring, StepsBeside, next_record, renewed_word, words_in}
 use Rattle.aug_words.proofs.Chunks.{below_same, brings_halves, brings_leaf, brings_node, brings_none, brings_same, laid_same, leaf_as, left_below, left_named, node_in, node_laid, right_below, right_named}
 use Rattle.aug_words.proofs.Lays.{beside_on, beside_seen, beside_stored, brings_on, leaves_are, part_words}
 use Rattle.aug_words.proofs.words.Words.+bring.Goals as goal
@@ -76,7 +76,7 @@ bring-left-requires g t c κs lives =
     let cleared : set c.passes.new.self.shown.items (q - (c.self.inside.lanes / 2 + 1)) 0 ≡ set h (q - 2 ^ s.bits) 0 = λ i. set ((ap (λ z. z.items) c.passes.ensures.shown) i) (slot i) 0 in
     let seen0 = beside_seen c.passes.new.self.base s v c.load_record-five.new.seat.me.0 c.load_record-five.ensures.view in
     let words0 : words_in c.passes.new.self.base s c.load_record-five.new.seat.me.0 ≡ w = λ i. table_part (same i) (word_count s) (c.load_record-five.ensures.same i) in
-    let inside = c.requires.node in let twin = twice s.bits in (omega (arith, c.decreases), (lives.0, (lives.1, (c.load_record-five.ensures.may, (omega arith, (subst (λ (z : Book × ℕ). IsNamed z.0 z.1 (get_or five 0 0)) (λ i. (sym seen0 i, sym left_at i)) (left_named g.A.Monoid.parts g.B.Monoid.parts s m.room book b q named.index inner named.entry five named.at says), (ap length cleared ∙ length-set h (q - 2 ^ s.bits) 0 ∙ c.requires.noted, below_same s m.room f book _ _ (left_of s q) _ w _ (set h (q - 2 ^ s.bits) 0) (sym seen0) (sym left_at) (sym words0) (sym cleared) (left_below s m.room f book q inner w h c.requires.below))))))))
+    let inside = c.requires.node in let twin = twice s.bits in (omega (arith, c.decreases), (lives.0, (lives.1, (c.load_record-five.ensures.may, (omega arith, (subst (λ (z : Book × ℕ). NamesEntry z.0 z.1 (get_or five 0 0)) (λ i. (sym seen0 i, sym left_at i)) (left_named g.A.Monoid.parts g.B.Monoid.parts s m.room book b q named.index inner named.entry five named.at says), (ap length cleared ∙ length-set h (q - 2 ^ s.bits) 0 ∙ c.requires.noted, below_same s m.room f book _ _ (left_of s q) _ w _ (set h (q - 2 ^ s.bits) 0) (sym seen0) (sym left_at) (sym words0) (sym cleared) (left_below s m.room f book q inner w h c.requires.below))))))))
 
 pub bring-right-requires : goal.bring-right-requires
 bring-right-requires g t c κs lives =
@@ -94,7 +94,7 @@ bring-right-requires g t c κs lives =
     let left : Brings f s book (level_of s (left_of s q)) (place_on s (left_of s q)) w w1 (set h (q - 2 ^ s.bits) 0) h1 = brings_same s m.room f book _ _ (left_of s q) _ _ w w1 _ (set h (q - 2 ^ s.bits) 0) h1 seen0 left_at words0 (ap (λ (z : ℕ). words_in z s c.bring-left.new.seat.me.0) same) cleared c.bring-left.ensures.brings in
     let same1 : c.bring-left.new.draft.base ≡ base = c.bring-left.ensures.base ∙ same in
     let seen1 = beside_seen _ s _ _ c.bring-left.ensures.view ∙ seen0 in
-    let inside = c.requires.node in let twin = twice s.bits in (omega (arith, c.decreases), (lives.0, (lives.1, (subst (λ (z : ℕ). MayBring f c.bring-left.new.seat.table_id c.args.self.now.table c.args.records z s c.bring-left.new.seat.me) (sym c.bring-left.ensures.base) c.bring-left.ensures.may, (omega arith, (subst (λ (z : Book × ℕ). IsNamed z.0 z.1 (get_or five 1 0)) (λ i. (sym seen1 i, sym right_at i)) (right_named g.A.Monoid.parts g.B.Monoid.parts s m.room book b q named.index inner named.entry five named.at says), (left.noted ∙ length-set h (q - 2 ^ s.bits) 0 ∙ c.requires.noted, below_same s m.room f book _ _ (right_of s q) _ w1 _ h1 (sym seen1) (sym right_at) (ap (λ (z : ℕ). words_in z s c.bring-left.new.seat.me.0) (sym same1)) refl (right_below s m.room f book q inner w h c.requires.below w1 h1 left))))))))
+    let inside = c.requires.node in let twin = twice s.bits in (omega (arith, c.decreases), (lives.0, (lives.1, (subst (λ (z : ℕ). MayBring f c.bring-left.new.seat.table_id c.args.self.now.table c.args.records z s c.bring-left.new.seat.me) (sym c.bring-left.ensures.base) c.bring-left.ensures.may, (omega arith, (subst (λ (z : Book × ℕ). NamesEntry z.0 z.1 (get_or five 1 0)) (λ i. (sym seen1 i, sym right_at i)) (right_named g.A.Monoid.parts g.B.Monoid.parts s m.room book b q named.index inner named.entry five named.at says), (left.noted ∙ length-set h (q - 2 ^ s.bits) 0 ∙ c.requires.noted, below_same s m.room f book _ _ (right_of s q) _ w1 _ h1 (sym seen1) (sym right_at) (ap (λ (z : ℕ). words_in z s c.bring-left.new.seat.me.0) (sym same1)) refl (right_below s m.room f book q inner w h c.requires.below w1 h1 left))))))))
 
 pub returns-then-right-clause-may : goal.returns-then-right-clause-may
 returns-then-right-clause-may g t c =

@@ -9,6 +9,8 @@ use Rattle.aug_core.specs.Layout.{IsLayout}
 use Rattle.aug_core.specs.Places.{Shape}
 use Rattle.aug_core.specs.inside.RootCuts.{root_cut}
 use Rattle.aug_core.specs.declared.view.SeatView.{SeatView}
+use Rattle.aug_core.specs.Renewals.{reopening}
+use Rattle.aug_words.proofs.CutSets.{root_pairs}
 use Rattle.aug_words.specs.Seats.{Store, Known, AreTogether}
 use Rattle.aug_trie.specs.Chains.{chapters}
 use Rattle.aug_trie.specs.Crew.{CrewFacts, crew_chain}
@@ -38,10 +40,10 @@ invariant_of-crew g c =
     let laid_out : IsLayout s = subst IsLayout together.one_shape told.0.is_crew.knows_table.laid_out in
     let room : 2 ^ s.bits ≤ s.members = subst (λ (z : TableFacts). 2 ^ z.bits ≤ z.room) (c.requires.together ∙ sym c.self.view_is) c.requires.room in
     let e = c.open_again-lead.ensures in let o = e.opens in let next : Known = c.open_again-lead.result in
-    let list : List (ℕ × ℕ) = pairs_of_cut (root_cut lead.view.shape lead.view.seen o.index) in let tree = tree_set f lead.view o.index told.0.is_crew.knows_table in
+    let list : List (ℕ × ℕ) = pairs_of_cut (root_cut lead.view.shape lead.view.seen o.index) in let opened = o.opened ∙ ap (λ (z : List (ℕ × ℕ)). reopening f z o.base o.before) (root_pairs f lead.view.shape lead.view.seen told.0.is_crew.knows_table.book o.index o.entry o.newest.at) in let tree = tree_set f lead.view o.index told.0.is_crew.knows_table in
     let keys : IsKeySet s.bits (keys_of list) = subst (λ (z : Shape). IsKeySet z.bits (keys_of list)) together.one_shape tree.is_key_set in
     let few : length list ≤ s.members = (let all = IsKeySet-few s.bits (keys_of list) keys in let long = length-keys_of list in omega arith) in
-    record { known = next; there = refl; holds = next_crew f old next o.before o.base list e.together o.opened laid_out keys tree.fit few }
+    record { known = next; there = refl; holds = next_crew f old next o.before o.base list e.together opened laid_out keys tree.fit few }
 
 pub returns : goal.returns
 returns g c =
@@ -51,7 +53,7 @@ returns g c =
     let laid_out : IsLayout s = subst IsLayout together.one_shape told.0.is_crew.knows_table.laid_out in
     let room : 2 ^ s.bits ≤ s.members = subst (λ (z : TableFacts). 2 ^ z.bits ≤ z.room) (c.requires.together ∙ sym c.self.view_is) c.requires.room in
     let e = c.open_again-lead.ensures in let o = e.opens in let next : Known = c.open_again-lead.result in
-    let list : List (ℕ × ℕ) = pairs_of_cut (root_cut lead.view.shape lead.view.seen o.index) in let tree = tree_set f lead.view o.index told.0.is_crew.knows_table in
+    let list : List (ℕ × ℕ) = pairs_of_cut (root_cut lead.view.shape lead.view.seen o.index) in let opened = o.opened ∙ ap (λ (z : List (ℕ × ℕ)). reopening f z o.base o.before) (root_pairs f lead.view.shape lead.view.seen told.0.is_crew.knows_table.book o.index o.entry o.newest.at) in let tree = tree_set f lead.view o.index told.0.is_crew.knows_table in
     let keys : IsKeySet s.bits (keys_of list) = subst (λ (z : Shape). IsKeySet z.bits (keys_of list)) together.one_shape tree.is_key_set in
     let few : length list ≤ s.members = (let all = IsKeySet-few s.bits (keys_of list) keys in let long = length-keys_of list in omega arith) in
     let prepared : Known = record { table = lead.table; view = o.prepared } in let between : CrewFacts = record first { steps = o.prepared.steps } in
@@ -63,8 +65,8 @@ returns g c =
     let shaped : last.shape ≡ s = ap (λ (z : SeatView). z.shape) r.loaded.stepped ∙ ap (λ (z : SeatView). z.shape) o.prepared_is ∙ together.one_shape in
     let members : list ≡ one.ended.members = crew_set f lead first o.index o.entry told.1 o.newest ∙ again.1 in
     let era : next.view.era ≡ now.era + 1 = ap (λ (z : SeatView). z.era) o.opened ∙ o.next.0 ∙ ap (λ (z : SeatView). z.era) r.idle_is ∙ ap (λ (z : SeatView). z.era + 1) r.loaded.stepped ∙ ap (λ (z : SeatView). z.era + 1) o.prepared_is ∙ ap (λ (z : CrewFacts). z.round.era + 1) told.1 ∙ ap (λ (z : CrewFacts). z.round.era + 1) a.last_is in
-    let facts = next_facts f old next o.before o.base list e.together o.opened laid_out keys tree.fit few in
-    let round = next_round f old next o.before o.base list e.together o.opened laid_out keys tree.fit few now era (c.requires.together ∙ sym c.self.view_is) in
+    let facts = next_facts f old next o.before o.base list e.together opened laid_out keys tree.fit few in
+    let round = next_round f old next o.before o.base list e.together opened laid_out keys tree.fit few now era (c.requires.together ∙ sym c.self.view_is) in
     let past : next.view.past ≡ last.past ++ record { members = last.members; book = last.seen } ∷ [] = ap (λ (z : SeatView). z.past) o.opened ∙ o.next.1 ∙ ap (λ (z : SeatView). z.past) r.idle_is in
     let over : past_rounds next.view.shape next.view.past ≡ chapters (crew_chain after) = over_now f prepared between i.back i.inserts i.removals r.root last facts_between holds r.loaded next.view.past next.view.shape past (e.together.one_shape ∙ sym shaped) in
     let bits : s.bits ≡ now.bits = ap (λ (z : TableFacts). z.bits) (c.self.view_is ∙ sym c.requires.together) in

@@ -128,12 +128,11 @@ impl<A: Monoid, B: Monoid> Working<A, B> {
             mut ports,
             mut held,
             mut idle,
-            mut list,
+            list,
             ..
         } = working;
         give_all(counts.rounds, &round, &mut crew, &mut held, &mut idle);
-        let (mut crew, inserts, removals) = round.renew(crew, &mut list);
-        list.clear();
+        let (mut crew, inserts, removals) = round.renew(crew);
         deal_all(counts.rounds, &round, &mut crew, &mut idle, &mut ports);
         let working = Working {
             plan,

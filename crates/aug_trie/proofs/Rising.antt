@@ -1,14 +1,9 @@
 -- Rising lists with the same members are the same, and the members of a cut rise.
-use Rattle.std.proofs.Common.{◌≡◌, ℕ, zero, suc, ◌+◌, ◌%◌, ◌^◌, ◌<◌, ◌≤◌, Bool, true, false, cond, ◌==◌, ◌&&◌, ◌||◌, nat_lt, nat_le, List, [], ◌∷◌, All, length, slice_index, refl, ap, sym, subst, ◌∙◌, inl, inr, arith, filter}
+use Rattle.std.proofs.Common.{◌≡◌, ℕ, zero, suc, ◌+◌, ◌<◌, ◌≤◌, Bool, true, false, cond, ◌==◌, ◌&&◌, ◌||◌, nat_lt, nat_le, List, [], ◌∷◌, length, slice_index, refl, ap, sym, ◌∙◌, inl, inr, arith, filter}
 use Rattle.std.proofs.lemmas.Bool.{eq-eqb, ne_eqb, cases_Bool, cases_order, cases_eq, false≢true, le-leb, lt-leb, lt-ltb, le-ltb, cases_lt}
 use Rattle.std.specs.List.{range_with_len}
 use Rattle.std.specs.List.Sorted.{IsStrictlyIncreasing}
-use Rattle.std.proofs.lemmas.List.Elements.{All-cons, All-filter, All-nil}
-use Rattle.std.proofs.lemmas.List.FromFn.{get_or-range_with_len, length-range_with_len}
-use Rattle.std.proofs.lemmas.List.Kept.{IsStrictlyIncreasing-filter}
-use Rattle.aug_model.specs.Keys.{IsKeySet, is_member, keys_of}
-use Rattle.aug_model.proofs.Pairs.{keys_of-pairs_of}
-use Rattle.aug_core.specs.Cuts.{Cut, pairs_of_cut, serial_of, set_of_cut, weight_at}
+use Rattle.aug_model.specs.Keys.{is_member}
 
 -- the list rises, and begins with at least b
 abbrev pub RisesFrom : ℕ → List ℕ → Type 0

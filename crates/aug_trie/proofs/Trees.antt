@@ -1,32 +1,25 @@
 -- The trees of a pass's snapshots, as contracts see them, and what keeps them.
 use Rattle.std.proofs.Common.{Some, ◌≡◌, ℕ, ◌^◌, ◌<◌, ◌≤◌, List, [], length, length-append, sym, refl, ap, ◌∙◌, subst, ⊎_elim, arith}
-use Rattle.std.proofs.Math.Nat.{pow-le-pow_right}
 use Rattle.std.proofs.lemmas.List.{get_or_past, length-map}
 use Rattle.std.proofs.lemmas.Bool.{cases_lt}
-use Rattle.std.proofs.lemmas.List.Elements.{All-map, All-weaker}
 use Rattle.aug_monoid.specs.Parts.{Parts}
 use Rattle.aug_model.specs.Folds.{summary_of}
-use Rattle.aug_model.specs.Keys.{IsKeySet}
 use Rattle.aug_model.specs.Queries.{weight_in}
-use Rattle.aug_model.proofs.Pairs.{keys_of-pairs_of}
-use Rattle.aug_monoid.specs.Weighted.{FitsPair}
 use Rattle.aug_query.specs.Tree.{IsTreeSet}
 use Rattle.aug_core.specs.Faces.{face}
 use Rattle.aug_core.specs.Places.{Shape}
 use Rattle.aug_core.specs.Addresses.{IsInner, root_place}
 use Rattle.aug_core.specs.Book.{Book, history_of, ArePrefixes, IsBook}
 use Rattle.aug_core.specs.Counts.{changes_of}
-use Rattle.aug_core.specs.Cuts.{Cut, weight_at, set_of_cut}
-use Rattle.aug_core.specs.inside.EntryCuts.{entry_of}
+use Rattle.aug_core.specs.Cuts.{Cut, weight_at}
 use Rattle.aug_core.specs.inside.RootCuts.{root_cut}
-use Rattle.aug_core.specs.Opening.{serial_entry}
 use Rattle.aug_core.specs.Effects.{KnowsTable, opening_of}
 use Rattle.aug_core.specs.declared.view.Entry.{Entry}
 use Rattle.aug_core.specs.declared.view.SeatView.{SeatView}
 use Rattle.aug_core.proofs.Books.{no_shorter}
 use Rattle.aug_core.proofs.Levels.{root_word}
-use Rattle.aug_core.proofs.CutsUnder.{cut_long, reached, shown_is}
-use Rattle.aug_core.proofs.EntryCuts.{entry_at, cut_later}
+use Rattle.aug_core.proofs.CutsUnder.{cut_long}
+use Rattle.aug_core.proofs.EntryCuts.{cut_later}
 use Rattle.aug_core.proofs.OpeningCuts.{root_inner}
 use Rattle.aug_words.specs.Seats.{Known}
 use Rattle.aug_trie.specs.inside.Counted.{HasCounts}

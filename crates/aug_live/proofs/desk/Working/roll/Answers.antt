@@ -42,21 +42,21 @@ give_all-requires-clause-of_round g c = let w = c.working.inside in
 pub deal_all-requires-clause-ready : goal.deal_all-requires-clause-ready
 deal_all-requires-clause-ready g c =
     let w = c.working.inside in let table : TableFacts = arc_value w.round in let gave = c.give_all.ensures in let back = c.give_all.new.idle.items in let now = c.give_all.new.crew in let first = c.renew-crew.result.0 in let era = w.counts.rounds in
-    let rolls = c.renew-crew.ensures.rolls in let here : table_of now.round ≡ table = ap (λ (z : RoundFacts × List Chapter). table_of z.0) gave.round ∙ c.working.invariant.0.together in
+    let rolls = c.renew-crew.ensures in let here : table_of now.round ≡ table = ap (λ (z : RoundFacts × List Chapter). table_of z.0) gave.round ∙ c.working.invariant.0.together in
     subst (λ (z : TableFacts). All (HasEnded z first.past era) back) (sym (ap table_of rolls.round_is ∙ here))
     (all_ended era table now first _ _ rolls here back (subst (λ (z : RoundFacts × List Chapter). All (IsBackIn z era now.knows.history) back) (sym gave.round) gave.back))
 
 pub deal_all-requires-clause-led : goal.deal_all-requires-clause-led
 deal_all-requires-clause-led g c =
     let w = c.working.inside in let table : TableFacts = arc_value w.round in let gave = c.give_all.ensures in let now = c.give_all.new.crew in let first = c.renew-crew.result.0 in
-    let rolls = c.renew-crew.ensures.rolls in let here : table_of now.round ≡ table = ap (λ (z : RoundFacts × List Chapter). table_of z.0) gave.round ∙ c.working.invariant.0.together in
+    let rolls = c.renew-crew.ensures in let here : table_of now.round ≡ table = ap (λ (z : RoundFacts × List Chapter). table_of z.0) gave.round ∙ c.working.invariant.0.together in
     subst (λ (z : TableFacts). Leads z.bits first.past first.round.members) (sym (ap table_of rolls.round_is ∙ here))
     (next_led w.counts.rounds table now first _ _ rolls here (subst (λ (z : RoundFacts × List Chapter). Leads table.bits z.1 z.0.members) (sym gave.round) c.working.invariant.0.led))
 
 pub deal_all-requires-clause-together : goal.deal_all-requires-clause-together
 deal_all-requires-clause-together g c =
     let there : arc_value c.working.inside.round ≡ c.deref-3.result.now = search rules in
-    ap table_of c.renew-crew.ensures.rolls.round_is ∙ ap (λ (z : RoundFacts × List Chapter). table_of z.0) c.give_all.ensures.round ∙ c.working.invariant.0.together ∙ there
+    ap table_of c.renew-crew.ensures.round_is ∙ ap (λ (z : RoundFacts × List Chapter). table_of z.0) c.give_all.ensures.round ∙ c.working.invariant.0.together ∙ there
 
 pub invariant_of-working-2 : goal.invariant_of-working-2
 invariant_of-working-2 g c =
@@ -69,7 +69,7 @@ invariant_of-working-2 g c =
     let handed : c.deal_all.new.crew.handed ≡ vec_len w.ports + vec_len w.held = omega (arith, dealt.handed, gave.len, took.len, zero) in (
       unsettled c.deal_all.new.ports.items c.give_all.new.held.items (vec_len c.deal_all.new.ports) (vec_len c.give_all.new.held) left few
           (rolled_on w.plan.lanes w.plan.updates w.counts _ (arc_value w.round) w.crew c.give_all.new.crew c.renew-crew.result.0 c.deal_all.new.crew all c.give_all.new.idle.items c.deal_all.new.ports.items _ _ c.renew-crew.result.1 c.renew-crew.result.2
-          inv.0 c.renew-crew.ensures.rolls gave.round dealt.of_round as_many kept gave.back gave.changes dealt.kept dealt.same_changes dealt.round handed dealt.back (search rules) (search rules) (search rules) (search rules) (search rules) (search rules) (search rules) (search rules)),
+          inv.0 c.renew-crew.ensures gave.round dealt.of_round as_many kept gave.back gave.changes dealt.kept dealt.same_changes dealt.round handed dealt.back (search rules) (search rules) (search rules) (search rules) (search rules) (search rules) (search rules) (search rules)),
       dealt.none_left,
       omega (arith, as_many, few, dealt.room.0, took.room, inv.2),
       omega (arith, as_many, few, gave.room.0, took.held_room, inv.3),
@@ -88,4 +88,4 @@ returns-clause-goes_on g c =
     desk_keeps _ (arc_value w.round) w.crew c.deal_all.new.crew _ _ c.working.view_is
     (subst (λ (z : List EndFacts). LanesGoOn (map lane_by all) (map lane_by z)) (sym (no_lanes c.deal_all.new.ports.items c.give_all.new.held.items (ap length gave.none_left))) (rolled_lanes all c.deal_all.new.ports.items c.give_all.new.idle.items kept dealt.kept))
     (part_trans (crew_chain w.crew) (crew_chain now) (crew_chain c.deal_all.new.crew) (crew_part w.crew now gave.round gave.goes_on)
-    (part_trans (crew_chain now) (crew_chain first) (crew_chain c.deal_all.new.crew) (rolled_part now first _ _ c.renew-crew.ensures.rolls) (crew_part first c.deal_all.new.crew dealt.round dealt.goes_on)))
+    (part_trans (crew_chain now) (crew_chain first) (crew_chain c.deal_all.new.crew) (rolled_part now first _ _ c.renew-crew.ensures) (crew_part first c.deal_all.new.crew dealt.round dealt.goes_on)))

@@ -1,4 +1,4 @@
-use Rattle.std.proofs.Common.{refl, sym, subst, ap, ◌∙◌, ◌^◌, ◌≤◌, ℕ}
+use Rattle.std.proofs.Common.{refl, sym, subst, ◌^◌, ◌≤◌}
 use Rattle.atomic_table.specs.Seated.{TableId}
 use Rattle.aug_core.specs.Faces.{face}
 use Rattle.aug_core.specs.declared.view.SeatView.{SeatView}

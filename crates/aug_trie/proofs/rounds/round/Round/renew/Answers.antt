@@ -11,7 +11,7 @@ use Rattle.aug_core.specs.inside.RootCuts.{root_cut}
 use Rattle.aug_core.specs.declared.view.SeatView.{SeatView}
 use Rattle.aug_core.specs.Renewals.{reopening}
 use Rattle.aug_words.proofs.CutSets.{root_pairs}
-use Rattle.aug_words.specs.Seats.{Store, Known, AreTogether}
+use Rattle.aug_words.specs.Seats.{Store, Known}
 use Rattle.aug_trie.specs.Chains.{chapters}
 use Rattle.aug_trie.specs.Crew.{CrewFacts, crew_chain}
 use Rattle.aug_trie.specs.Round.{TableFacts, RoundFacts, table_of}

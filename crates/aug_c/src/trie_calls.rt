@@ -110,7 +110,7 @@ pub extern "C" fn aug_try_user_open(
 fn tend(trie: &mut Opened) -> i64
     ensures { TendsTrie trie.old trie.new result }
 {
-    i64::from(trie.live.tend())
+    if trie.live.tend() { 1 } else { 0 }
 }
 
 /// Lays a piece of a trie's next round out: 1 if there is more to do now, or 0.

@@ -90,7 +90,7 @@ abbrev bare_words : ℕ → ℕ
 bare_words bits = 2 ^ (bits + 1) - 1 + 5 * (bits + own_records bits (2 ^ bits) bits)
 
 -- the plan of these numbers is the greatest
-pub is_greatest : (bits handles memory words room lanes updates : ℕ) → Fits bits memory (least_plan handles) → words ≡ word_count (shape_of bits handles 1 (2 ^ bits)) → room ≡ min (memory / 8) 67108864 - words + handles * (1 + 5 * bits)
+pub is_greatest : (bits handles memory words room lanes updates : ℕ) → Fits bits memory (least_plan handles) → words ≡ word_count (shape_of bits handles 1 (2 ^ bits)) → room ≡ min (memory / 16) 67108864 - words + handles * (1 + 5 * bits)
     → lanes ≡ max (min (room / (1 + 256 * (5 * bits))) 64) handles → updates ≡ min ((room / lanes - 1) / (5 * bits)) 65536 → IsGreatest bits handles memory (record { lanes = lanes; updates = updates })
 is_greatest bits handles memory words room lanes updates least words_is room_is lanes_are updates_are = record {
   enough = m.enough;
@@ -109,7 +109,7 @@ is_greatest bits handles memory words room lanes updates least words_is room_is 
     least_are : words ≡ bare_words bits + handles * (1 + 5 * bits)
     least_are = let e : 1 + 5 * bits * 1 ≡ 1 + 5 * bits = omega arith in words_is ∙ all handles 1 ∙ ap (λ (z : ℕ). bare_words bits + handles * z) e
 
-    is : (bare_words bits + room ≡ min (memory / 8) 67108864)
+    is : (bare_words bits + room ≡ min (memory / 16) 67108864)
     is = let a = least_are in let b = least.bytes in let c = least.laid_out.words in omega (arith, a, b, c, words_is, room_is)
 
     fitting : (l u : ℕ) → Fits bits memory (record { lanes = l; updates = u }) → l * (1 + 5 * bits * u) ≤ room

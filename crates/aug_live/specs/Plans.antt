@@ -1,14 +1,14 @@
 -- Which plan of rounds a memory has room for. For 6 bits and 2 handles with 3 updates each (`least_plan` has one) a table has `127 + 2 + 5 * (69 +
--- 36)` words, so 5,232 bytes are enough and 5,231 are not.
+-- 36)` words in each of its two parts, so 10,464 bytes are enough and 10,463 are not.
 use Rattle.std.specs.Prelude.{◌≡◌, ◌⊎◌, ℕ, ◌+◌, ◌*◌, ◌^◌, ◌≤◌}
 use Rattle.aug_core.specs.Layout.{IsLayout}
 use Rattle.aug_core.specs.Places.{shape_of, word_count}
 use Rattle.aug_live.specs.declared.plan.Plan.{Plan}
 
--- a table of this plan, for the full set of keys of `bits` bits, can be laid out, and its words of 8 bytes take at most `memory` bytes
+-- a table of this plan, for the full set of keys of `bits` bits, can be laid out, and its words of 8 bytes, of two parts, take at most `memory` bytes
 pub record Fits (bits memory : ℕ) (plan : Plan) : Type 0 where
   pub laid_out : IsLayout (shape_of bits plan.lanes plan.updates (2 ^ bits))
-  pub bytes : 8 * word_count (shape_of bits plan.lanes plan.updates (2 ^ bits)) ≤ memory
+  pub bytes : 16 * word_count (shape_of bits plan.lanes plan.updates (2 ^ bits)) ≤ memory
 
 -- the greatest plan for so many handles: one more lane does not fit with 256 updates of each, and then one more update of each lane does not. There are more
 -- lanes than handles only if each has 256 updates

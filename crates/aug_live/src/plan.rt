@@ -16,6 +16,9 @@ const MOST_UPDATES: u64 = 65_536;
 
 const MOST_WORDS: u64 = 1 << 26;
 
+// How many bytes a word of a round takes: the table has two parts, so that the next round can be laid out beside the one at work.
+const PART_WORD: u64 = 16;
+
 /// How the rounds of a trie are laid out: how many lanes each has, and how many updates each lane. The lanes that no handle begins
 /// with are spare: a handle that has made all of its updates continues with one of them, and the round rolls over once none is
 /// left.
@@ -28,7 +31,8 @@ pub struct Plan {
 }
 
 impl Plan {
-    /// The greatest plan of a round for `handles` handles, whose table for the full set of `bits` bits takes at most `memory` bytes: up to
+    /// The greatest plan of a round for `handles` handles, whose table for the full set of `bits` bits takes at most `memory` bytes,
+    /// half of them for the round at work and half for the next one: up to
     /// 64 lanes, of 256 updates or more, and fewer lanes only if that many do not fit; then as many updates as fit, up to 65,536. None if
     /// not even one update of each handle fits, or if no table has these numbers.
     pub fn new(bits: u32, handles: u32, memory: u64) -> Option<Plan>
@@ -43,7 +47,7 @@ impl Plan {
         let words = least.words_within(bits, memory)?;
         // A lane takes a word, and so many for each of its updates.
         let update = RECORD_WORDS as u64 * u64::from(bits);
-        let room = (memory / 8).min(MOST_WORDS) - words + u64::from(handles) * (1 + update);
+        let room = (memory / PART_WORD).min(MOST_WORDS) - words + u64::from(handles) * (1 + update);
         let lanes = ((room / (1 + LEAST_UPDATES * update)).min(MOST_LANES) as u32).max(handles);
         let updates = ((room / u64::from(lanes) - 1) / update).min(MOST_UPDATES) as u32;
         Some(Plan { lanes, updates })
@@ -67,7 +71,7 @@ impl Plan {
         }
     }
 
-    // The words of a table for the full set, unless they take more bytes than that.
+    // The words of a part of a table for the full set, unless both parts take more bytes than that.
     fn words_within(&self, bits: u32, memory: u64) -> Option<u64>
         ensures fits { IfSome result (λ words. Fits bits memory self.now × (words ≡ word_count (shape_of bits self.now.lanes self.now.updates (2 ^ bits)))) }
         ensures none { IfNone result (Fits bits memory self.now → ⊥) }
@@ -79,7 +83,7 @@ impl Plan {
             return None;
         };
         let words = layout.words();
-        if 8 * words > memory {
+        if PART_WORD * words > memory {
             return None;
         }
         Some(words)

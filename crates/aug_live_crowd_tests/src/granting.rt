@@ -12,13 +12,13 @@ use std::process::Abort;
 // The bits of the keys, the handles, the bytes of a table, and the lanes and the updates of the greatest plan that fits. The plans grow where there is room
 // for one more update of each lane, or for one more lane.
 const PLANS: [(u32, u32, u64, Option<(u32, u32)>); 8] = [
-    (6, 2, 4_271, None),
-    (6, 2, 4_272, Some((2, 1))),
-    (6, 2, 5_231, Some((2, 2))),
-    (6, 2, 5_232, Some((2, 3))),
-    (6, 2, 188_119, Some((2, 384))),
-    (6, 2, 188_120, Some((3, 256))),
-    (16, 4, 64 << 20, Some((64, 1_548))),
+    (6, 2, 8_543, None),
+    (6, 2, 8_544, Some((2, 1))),
+    (6, 2, 10_463, Some((2, 2))),
+    (6, 2, 10_464, Some((2, 3))),
+    (6, 2, 376_239, Some((2, 384))),
+    (6, 2, 376_240, Some((3, 256))),
+    (16, 4, 128 << 20, Some((64, 1_548))),
     (1, 1, u64::MAX, Some((64, 65_536))),
 ];
 
@@ -30,7 +30,7 @@ fn a_plan_is_the_greatest_that_fits(rt: HostRuntime) {
     }
 }
 
-// The words of a table for the full set of keys of `bits` bits.
+// The words of a part of a table for the full set of keys of `bits` bits.
 fn words_of(bits: u32, plan: Plan) -> u64 {
     let keys = 1u64 << (bits % 32);
     let calls = u64::from(plan.lanes).saturating_mul(u64::from(plan.updates));
@@ -51,7 +51,7 @@ fn opens<R: Host + Abort>(
     plan: Plan,
     count: u32,
 ) -> Result<Members, OpenError> {
-    let (from, memory) = (set.size(), words_of(set.bits(), plan).saturating_mul(8));
+    let (from, memory) = (set.size(), words_of(set.bits(), plan).saturating_mul(16));
     let opened = if by_plan && handles <= plan.lanes {
         Live::<Sum, Extent>::open_with(rt.alloc(), set, handles, plan)
     } else {

@@ -319,7 +319,7 @@ impl<A: Monoid, B: Monoid> Working<A, B> {
                     bits: self.bits,
                     lane,
                     number,
-                    pace: Pace::new(),
+                    pace: Pace::after(PIECE),
                     round,
                     desk,
                 })

@@ -16,7 +16,7 @@ ghost use Rattle.aug_live.specs.LiveErrors.{IfRefused, RefusesCall};
 ghost use Rattle.aug_live.specs.inside.LaneKnowledge.{Seen};
 ghost use Rattle.aug_live.specs.LiveHandles.{AllOrSpent, Follows, IsSomeOf, Makes, Runs, handle_of, note_at};
 
-use crate::ahead::Pace;
+use crate::ahead::{NODES, PIECE, Pace};
 use crate::desk_end::DeskEnd;
 use crate::end::End;
 use crate::error::{Busy, LiveError, TryError};
@@ -33,8 +33,7 @@ use std::sync::Wait;
 /// A thread's access to a trie, for updates and looks. It may go to another thread, and has a lane of its own. A handle that is
 /// dropped leaves its lane behind, and holds nobody up; `Live::handle` gives the lane to a new one.
 ///
-/// A call with an `rt` waits for a roll-over, or for a piece of the next round that another handle lays out, and for nothing else. After a roll-over it
-/// continues in the next round. If the updates of its lane are spent, it takes a
+/// A call with an `rt` waits for a roll-over and for nothing else: it then continues in the next round. If the updates of its lane are spent, it takes a
 /// spare lane of the round, and waits only for a handle that does the same. If no spare lane is left, it rolls the round over itself, which
 /// waits for the update that another handle is in, and for each look. Near the end of a round a handle lays a piece of the next one out after some of its
 /// updates, so that the roll-over has little to do.
@@ -334,7 +333,7 @@ impl<A: Monoid, B: Monoid> Handle<A, B> {
         for _ in rt.forever() {
             let obstacle = match self.attempt(op) {
                 Ok(answer) => {
-                    self.count_or_wait(rt, op.updates(&answer));
+                    self.count(op.updates(&answer));
                     return Ok(answer);
                 }
                 Err(obstacle) => obstacle,
@@ -458,50 +457,27 @@ impl<A: Monoid, B: Monoid> Handle<A, B> {
         })
     }
 
-    // Counts updates that were made, after some of which it tries to have the next round laid out further.
+    // Counts updates that were made, after some of which it has the next round laid out further.
     #[inline(always)]
     fn count(&mut self, updates: i32)
         ensures { self.new ≡ self.old }
     {
         if self.pace.count(updates) {
-            self.prepare(&Tries);
+            self.prepare();
         }
     }
 
-    // The same, and waits for the desk if it had to pass by too often.
-    #[inline(always)]
-    fn count_or_wait<R: Wait>(&mut self, rt: &R, updates: i32)
-        ensures { self.new ≡ self.old }
-    {
-        if self.pace.count(updates) {
-            self.wait_to_prepare(rt);
-        }
-    }
-
-    // Has the next round laid out further, if the desk is to be had.
+    // Has the next round laid out further, if the desk is to be had; otherwise somebody else does that, or is about to roll the round over.
     #[cold]
     #[inline(never)]
-    fn prepare<W: Patience>(&mut self, how: &W)
-    where
-        W::GaveUp: Drop,
+    fn prepare(&mut self)
         ensures { self.new ≡ self.old }
     {
-        let nodes = self.pace.nodes();
-        let ahead = self.desk.prepare(how, nodes);
-        self.pace.goes_on(ahead.ok());
-    }
-
-    // The same, and waits for the desk if a handle that made so many updates has to.
-    #[cold]
-    #[inline(never)]
-    fn wait_to_prepare<R: Wait>(&mut self, rt: &R)
-        ensures { self.new ≡ self.old }
-    {
-        if self.pace.presses() {
-            self.prepare(&Waits(rt));
-        } else {
-            self.prepare(&Tries);
-        }
+        let after = match self.desk.prepare(&Tries, NODES) {
+            Ok(ahead) => ahead.after,
+            Err(_) => PIECE,
+        };
+        self.pace = Pace::after(after);
     }
 
     // Sees to what is in the way: with the next round, or a spare lane of this one.

@@ -16,7 +16,7 @@ ghost use Rattle.aug_live.specs.inside.DeskKnowledge.{IsOwner};
 ghost use Rattle.aug_live.specs.inside.Desks.{IsNewBerth};
 ghost use Rattle.aug_live.specs.inside.Rolls.{IsHandleEnd, IsOf, IsOpenedLane, Starts, handles_from, rounds_in};
 
-use crate::ahead::Pace;
+use crate::ahead::{PIECE, Pace};
 use crate::counts::LiveCounts;
 use crate::desk::Working;
 use crate::desk_end::{
@@ -511,7 +511,7 @@ fn hand_out<A: Monoid, B: Monoid>(
             bits,
             lane,
             number: 1,
-            pace: Pace::new(),
+            pace: Pace::after(PIECE),
             round,
             desk: DeskEnd { lock, key },
         });

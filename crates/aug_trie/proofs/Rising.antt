@@ -3,7 +3,9 @@ use Rattle.std.proofs.Common.{◌≡◌, ℕ, zero, suc, ◌+◌, ◌<◌, ◌�
 use Rattle.std.proofs.lemmas.Bool.{eq-eqb, ne_eqb, cases_Bool, cases_order, cases_eq, false≢true, le-leb, lt-leb, lt-ltb, le-ltb, cases_lt}
 use Rattle.std.specs.List.{range_with_len}
 use Rattle.std.specs.List.Sorted.{IsStrictlyIncreasing}
-use Rattle.aug_model.specs.Keys.{is_member}
+use Rattle.aug_model.specs.Keys.{is_member, keys_of}
+use Rattle.aug_core.specs.Cuts.{Cut, pairs_of_cut}
+use Rattle.aug_words.proofs.CutSets.{members_rise as cut_rises}
 
 -- the list rises, and begins with at least b
 abbrev pub RisesFrom : ℕ → List ℕ → Type 0
@@ -114,3 +116,7 @@ is_member-range a (suc n) k =
       | inr (inl lt) ↦ rw (ne_eqb a k (λ q. omega (arith, q)), is_member-range (a + 1) n k, le-leb (a + 1) k (omega arith), le-leb a k (omega arith), e)
       | inr (inr gt) ↦ rw (ne_eqb a k (λ q. omega (arith, q)), is_member-range (a + 1) n k, lt-leb (a + 1) k (omega arith), lt-leb a k gt)
     ]
+
+-- the members of a cut rise
+pub members_rise : (cut : Cut) → IsStrictlyIncreasing (keys_of (pairs_of_cut cut))
+members_rise cut = cut_rises cut

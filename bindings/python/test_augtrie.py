@@ -25,7 +25,7 @@ from augtrie import Trie
 TESTS = []
 
 # With so few bytes a table is full after some updates, and no more are made until each look has ended.
-SMALL = {"bits": 4, "users": 3, "bytes": 4096}
+SMALL = {"bits": 4, "users": 3, "bytes": 8192}
 
 
 def test(function):

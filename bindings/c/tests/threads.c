@@ -148,7 +148,7 @@ static void waits(void) {
     aug_told told = {77, 78};
     uint32_t keys[SOME], made = 0;
     for (uint32_t k = 0; k < SOME; k++) keys[k] = k;
-    WANT(aug_open(&small, 6, 2, 8000), 0);
+    WANT(aug_open(&small, 6, 2, 16000), 0);
     WANT(aug_user_open(&small, &works), 0);
     WANT(aug_user_open(&small, &looks), 0);
     WANT(aug_look(&looks), 0);

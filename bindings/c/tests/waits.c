@@ -8,7 +8,7 @@
 #include <sched.h>
 #include <time.h>
 
-enum { BITS = 6, KEYS = 1 << BITS, BYTES = 8000 };
+enum { BITS = 6, KEYS = 1 << BITS, BYTES = 16000 };
 
 static aug_trie trie = AUG_ZEROED;
 static aug_user works = AUG_ZEROED, looks = AUG_ZEROED;

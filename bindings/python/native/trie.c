@@ -18,7 +18,7 @@ static PyObject *trie_new(PyTypeObject *type, PyObject *args, PyObject *named) {
     if (given[2] == Py_None) given[2] = NULL;
     for (int i = 0; i < 3; i++) if (given[i] && read_wide(given[i], &numbers[i])) return NULL;
     for (int i = 0; i < 2; i++) if (numbers[i] > UINT32_MAX) numbers[i] = UINT32_MAX;
-    if (!given[2]) numbers[2] = (2 << 20) + ((uint64_t)256 << (numbers[0] & 31));
+    if (!given[2]) numbers[2] = (4 << 20) + ((uint64_t)512 << (numbers[0] & 31));
     Trie *trie = PyObject_New(Trie, trie_type);
     if (!trie) return NULL;
     memset((char *)trie + sizeof(PyObject), 0, sizeof *trie - sizeof(PyObject));
@@ -321,7 +321,7 @@ static PyGetSetDef fields[] = {
 static PyType_Slot slots[] = {
     {Py_tp_doc,
      "Trie(bits, users=16, bytes=None)\n--\n\nThe empty set of keys below 2^bits, with 1 to 16 bits, for so many threads at a time, at most 64. Its "
-     "table takes at most so many bytes, by default 2 MiB and 256 for each key below 2^bits."},
+     "table takes at most so many bytes, by default 4 MiB and 512 for each key below 2^bits."},
     {Py_tp_new, trie_new},
     {Py_tp_dealloc, trie_free},
     {Py_tp_methods, methods},

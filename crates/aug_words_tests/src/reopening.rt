@@ -12,7 +12,7 @@ use std::alloc::{AllocError, Global};
 use std::process::Abort;
 
 // A table of a layout that was opened over some members, and then again over them, in its other part and in its first one. The other part is laid out in
-// pieces of a node or two, the first one all at once.
+// pieces, the first one all at once.
 fn opened_twice_again(
     rt: &impl Abort,
     alloc: Global,
@@ -26,10 +26,10 @@ fn opened_twice_again(
     ensures { IfOk result (λ rest. rest.shape ≡ layout.now) }
 {
     let (words, mut lead) = WordsOf::open(alloc, layout, members)?;
-    let mut pieces = 0;
-    while pieces < 500 && !lead.prepare(&words, 1) {
-        pieces += 1;
-    }
+    lead.prepare(&words, 0);
+    lead.prepare(&words, 1);
+    lead.prepare(&words, 7);
+    equal(rt, lead.prepare(&words, 100), true);
     equal(rt, lead.prepare(&words, 0), true);
     let lead = words.open_again(lead);
     let lead = words.open_again(lead);

@@ -12,7 +12,7 @@ use Rattle.aug_model.proofs.Rising.{is_wider}
 use Rattle.aug_core.specs.Cuts.{Cut, serial_of, set_of_cut, weight_at}
 use Rattle.aug_trie.specs.History.{last_cut}
 use Rattle.aug_trie.proofs.CutLemmas.{length-opening}
-use Rattle.aug_trie.proofs.Rising.{cut_keys}
+use Rattle.aug_words.proofs.CutSets.{cut_keys}
 use Rattle.aug_core.proofs.PrefixLemmas.{prefix_refl}
 use Rattle.aug_script.specs.Limits.{Bounds, IsBounds}
 use Rattle.aug_script.specs.Replies.{report_of}

@@ -1,8 +1,8 @@
 //! When a handle has the next round laid out further, and by how much.
 
 /// A round is near its end once its spare lanes have fewer updates left than it has keys, divided by this. `NODES` for each `PIECE` of these updates come to
-/// twice as many nodes as there are: each is laid out once, and what changes meanwhile again, ever less of it.
-pub(crate) const SHARE: u64 = 4;
+/// four times as many nodes as there are: each is laid out once, and what changes meanwhile several times, ever less of it.
+pub(crate) const SHARE: u64 = 2;
 
 /// How many updates a handle makes between two pieces of that.
 pub(crate) const PIECE: u32 = 16;

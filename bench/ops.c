@@ -6,8 +6,8 @@
 #include <stdlib.h>
 #include <string.h>
 
-// With so many bytes the table is not full before all is done.
-enum { KEYS = 65536, BYTES = 1 << 26 };
+// With so many bytes the table is not nearly full before all is done, so that no piece of the next round is laid out.
+enum { KEYS = 65536, BYTES = 1 << 27 };
 
 static uint32_t half(uint32_t i) { return i * 20011u % (KEYS / 2); }
 static uint32_t key(uint32_t i) { return i * 40503u % KEYS; }

@@ -2,7 +2,7 @@ use crate::operation::{BITS, KEYS};
 use crate::plain::{Pass, SeqCst, Words, room};
 
 /// The table is not full before all is done.
-const BYTES: u64 = 1 << 27;
+const BYTES: u64 = 1 << 25;
 
 /// Makes an operation of the plain algorithm so many times, in the library's orders, for a counter of instructions: the sum of the answers. `ops.c`
 /// does the same of the library.

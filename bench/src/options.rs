@@ -4,8 +4,8 @@ use crate::workload::Workload;
 use std::path::PathBuf;
 use std::time::Duration;
 
-/// In so many bytes each table has room for some updates, for as many threads as may be.
-pub const LEAST_BYTES: u64 = 1 << 23;
+/// In so many bytes each table has room for 64 updates of each thread, for as many threads as may be.
+pub const LEAST_BYTES: u64 = 13 << 20;
 
 /// What the command line asks for.
 pub struct Options {
@@ -29,7 +29,7 @@ usage: bench/run [OPTION..]
   --into FOLDER       where throughput.md goes, and throughput.svg by bench/picture (bench/out if not given)
   --passes N          how often each engine gets its turn (9)
   --slice MS          how long a turn is, in milliseconds (100); where threads are put aside, it is ten times as long
-  --bytes N           what the table of the trie may take, 8388608 to 536870912 (16777216)
+  --bytes N           what the table of the trie may take, 13631488 to 536870912 (16777216)
   --workload NAME     updates, tenth, queries, batches, suspended or crowded alone
   --threads N         so many threads alone, and not 1, 2 and 4; where threads are put aside, there are 4 or 16 all the same
   --check             compares the answers of all engines, and measures nothing

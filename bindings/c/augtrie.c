@@ -59,7 +59,7 @@ const char *aug_error_text(int64_t code) {
         case AUG_NO_MEMORY: return "a request for memory was refused";
         case AUG_BAD_BITS: return "the bits are outside 1 to 16";
         case AUG_BAD_USERS: return "the users are outside 1 to 64";
-        case AUG_TOO_LARGE: return "the bytes are too few for these bits and users";
+        case AUG_TOO_LARGE: return "the bytes are too few for these bits and users, or more than 2^30";
         case AUG_NO_USER: return "all users of the trie are open";
         case AUG_OPEN: return "the handle is open already";
         case AUG_BAD_LENGTH: return "an array is missing or too short, or longer than there are keys or than memory";
@@ -105,9 +105,9 @@ static void sleep_a_little(void) {
     nanosleep(&pause, NULL);
 }
 
-/* Yields, and in a long wait sleeps. */
+/* Yields for longer than a piece of the next round takes to lay out, and in a long wait sleeps. */
 static void wait_a_little(unsigned turn) {
-    if (turn < 32) sched_yield();
+    if (turn < 128) sched_yield();
     else sleep_a_little();
 }
 
@@ -272,9 +272,11 @@ int64_t aug_look_done(aug_user *user) {
 static SELDOM int64_t insert_at_last(aug_user *user, uint32_t key) { AT_LAST(aug_try_insert(user, key)); }
 static SELDOM int64_t remove_at_last(aug_user *user, uint32_t key, aug_told *told) { AT_LAST(aug_try_remove(user, key, told)); }
 static SELDOM int64_t put_at_last(aug_user *user, uint32_t key, uint32_t weight, aug_told *told) { AT_LAST(aug_try_put(user, key, weight, told)); }
+static SELDOM int64_t room_at_last(aug_user *user) { AT_LAST(aug_try_room(user)); }
 static SELDOM int64_t look_at_last(aug_user *user) { AT_LAST(aug_try_look(user)); }
 
 int64_t aug_insert(aug_user *user, uint32_t key) { OF_USER(aug_try_insert(user, key), insert_at_last(user, key)); }
+int64_t aug_room(aug_user *user) { OF_USER(aug_try_room(user), room_at_last(user)); }
 int64_t aug_look(aug_user *user) { OF_USER(aug_try_look(user), look_at_last(user)); }
 
 int64_t aug_remove(aug_user *user, uint32_t key, aug_told *told) {

@@ -63,6 +63,9 @@
 /* No trie has more users. */
 #define AUG_MOST_USERS 64u
 
+/* No table may take more bytes. */
+#define AUG_MOST_BYTES (UINT64_C(1) << 30)
+
 #ifdef __cplusplus
 extern "C" {
 #endif
@@ -138,7 +141,7 @@ enum {
     AUG_NO_MEMORY = -5,    /* a request for memory was refused */
     AUG_BAD_BITS = -6,     /* the bits are outside 1 to 16 */
     AUG_BAD_USERS = -7,    /* the users are outside 1 to 64 */
-    AUG_TOO_LARGE = -8,    /* the bytes are too few for these bits and users */
+    AUG_TOO_LARGE = -8,    /* the bytes are too few for these bits and users, or more than 2^30 */
     AUG_NO_USER = -9,      /* all users of the trie are open */
     AUG_OPEN = -10,        /* the handle is open already */
     AUG_BAD_LENGTH = -11,  /* an array is missing or too short, or longer than there are keys or than memory */
@@ -157,8 +160,10 @@ const char *aug_error_text(int64_t code);
 /* ---- The trie ---- */
 
 /* Opens the empty trie for keys of so many bits, 1 to 16, and so many users, 1 to 64, whose table takes at most so many bytes: twice as
-   many while it is opened. With more bytes it is full less often; 2^20 are plenty for 12 bits, and 2^24 for 16. Answers 0, or AUG_OPEN,
-   AUG_CLOSED, AUG_BAD_BITS, AUG_BAD_USERS, AUG_TOO_LARGE, AUG_NO_MEMORY. */
+   many while it is opened. With more bytes it is full less often: 112 bytes go to each key below 2^bits, and each update takes 80 * bits of the
+   others until it is full. For as many updates as there are keys, 2^21 are enough with 11 bits, and 2^26 with 15; with 16 bits and 4 users, 2^26
+   give each user some 11,000 updates. Fewer bytes than 64 updates of each user take are AUG_TOO_LARGE, and so are more than AUG_MOST_BYTES. Answers
+   0, or AUG_OPEN, AUG_CLOSED, AUG_BAD_BITS, AUG_BAD_USERS, AUG_TOO_LARGE, AUG_NO_MEMORY. */
 AUG_NODISCARD int64_t aug_open(aug_trie *trie, uint32_t bits, uint32_t users, uint64_t bytes);
 
 /* Opens a user of the trie. Answers 0, or AUG_OPEN, AUG_CLOSED, AUG_NO_USER, AUG_NO_MEMORY. */
@@ -213,6 +218,10 @@ AUG_NODISCARD int64_t aug_remove_all(aug_user *user, const uint32_t *keys, size_
 /* Puts n keys in, each with the weight that has its index, or gives a member this weight. Answers how many of the updates changed the
    set, or as aug_insert_all; or AUG_BAD_LENGTH if there are not as many weights as keys. */
 AUG_NODISCARD int64_t aug_put_all(aug_user *user, const uint32_t *keys, size_t n, const uint32_t *weights, size_t weight_count);
+
+/* How many updates are left to the user in its part of the table, and makes none. The next one after these takes a part that is spare, or begins
+   a new round of the table, if none is; a refused update counts as well. Answers that, or AUG_CLOSED, AUG_LOOKING. It waits as an update does. */
+AUG_NODISCARD int64_t aug_room(aug_user *user);
 
 /* ---- Looks ---- */
 
@@ -297,6 +306,7 @@ AUG_NODISCARD int64_t aug_changes_since(aug_user *user, const uint32_t *keys, co
 AUG_NODISCARD int64_t aug_try_insert(aug_user *user, uint32_t key);
 AUG_NODISCARD int64_t aug_try_remove(aug_user *user, uint32_t key, aug_told *told);
 AUG_NODISCARD int64_t aug_try_put(aug_user *user, uint32_t key, uint32_t weight, aug_told *told);
+AUG_NODISCARD int64_t aug_try_room(aug_user *user);
 AUG_NODISCARD int64_t aug_try_look(aug_user *user);
 
 /* These are not made again either if another user changed the key meanwhile, and answer 0 then. */

@@ -24,8 +24,8 @@ from augtrie import Trie
 
 TESTS = []
 
-# With so few bytes a table is full after some updates, and no more are made until each look has ended.
-SMALL = {"bits": 4, "users": 3, "bytes": 8192}
+# With so few bytes, the fewest for four users, a table is full after some updates, and no more are made until each look has ended.
+SMALL = {"bits": 4, "users": 3, "bytes": 84_000}
 
 
 def test(function):
@@ -323,7 +323,7 @@ def what_has_an_index_is_a_number():
 def refusals_have_names():
     assert all(raises(augtrie.BadBits, Trie, bits) for bits in (17, 0, -1, 1 << 40))
     assert all(raises(augtrie.BadUsers, Trie, 4, users) for users in (65, 0, -1, 1 << 40))
-    assert all(raises(augtrie.TooLarge, Trie, 16, bytes=bytes) for bytes in (0, -1, 999))
+    assert all(raises(augtrie.TooLarge, Trie, 16, bytes=bytes) for bytes in (0, -1, 999, 8_652_191, (1 << 30) + 1, 1 << 70))
     with Trie(16) as trie:
         assert trie.update(range(1 << 16)) == 1 << 16 and trie.rank_all([1 << 15]) == [1 << 15]
     with Trie(4) as trie:
@@ -332,10 +332,20 @@ def refusals_have_names():
                 assert raises(augtrie.BadKey, call, key) and raises(ValueError, call, key)
             assert trie.discard(key) is False and raises(KeyError, trie.remove, key)
         now = trie.snapshot()
-    for call in (lambda: trie.add(3), lambda: trie.discard(-1), lambda: len(trie), lambda: list(trie), trie.snapshot, trie.__enter__,
+    for call in (lambda: trie.add(3), lambda: trie.discard(-1), lambda: len(trie), lambda: list(trie), trie.room, trie.snapshot, trie.__enter__,
                  lambda: trie.update([]), lambda: len(now), now.renew, now.__enter__):
         assert raises(augtrie.Closed, call)
     assert now.close() is None
+
+
+@test
+def a_thread_is_told_how_many_updates_are_left_to_it():
+    with Trie(16, bytes=8_652_192) as trie:
+        assert [(trie.room(), trie.add(key)) for key in range(3)] == [(64, True), (63, True), (62, True)]
+        assert elsewhere(lambda: (trie.room(), trie.update(range(9)), trie.room())) == (64, 6, 55)
+        with trie.snapshot():
+            assert raises(augtrie.Looking, trie.room) and elsewhere(trie.room) == 55
+        assert trie.room() == 61 and not trie.discard(9) and trie.room() == 60
 
 
 @test
@@ -447,7 +457,7 @@ def the_next_rounds_are_laid_out_between_updates():
 
 @test
 def a_copy_follows_what_other_threads_change():
-    with Trie(7, users=3, bytes=1 << 16) as trie:
+    with Trie(7, users=3, bytes=1 << 17) as trie:
         over = []
 
         def work(seed):
@@ -1037,7 +1047,7 @@ def a_thread_keeps_nothing_of_tries_that_are_gone():
         sizes = []
         for _ in range(6):
             for _ in range(tries):
-                Trie(4, users=2, bytes=1 << 13).add(3)
+                Trie(4, users=2, bytes=1 << 16).add(3)
             sizes.append(resident())
         return sizes
 

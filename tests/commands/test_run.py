@@ -74,12 +74,13 @@ class TestRun(OverStandIns):
         self.behave(meanwhile=f': >"$ROOM/$crate"; if [[ $crate == left || $crate == right ]]; then {both}; fi\n')
         assert self.run_script("./run", "--proved")[2] == 3
 
-    def test_proofs_get_the_processors_and_the_one_that_others_wait_for_comes_first(self):
-        self.write("crates/right/src/lib.rt", "a line\n" * 100)
+    def test_long_proofs_get_the_processors_and_the_one_that_others_wait_for_comes_first(self):
+        self.write("crates/right/src/lib.rt", "a line\n" * 40000)
         self.run_script("./run", "--proved")
         given = {it.split()[0]: it.split()[1:] for it in self.read("given").splitlines()}
         assert sorted(given) == ["augtrie", "left", "low", "right"]
-        assert all(1 <= int(it[1]) <= min(os.cpu_count(), 8) for it in given.values())
+        assert 1 <= int(given["right"][1]) <= min(os.cpu_count(), 8)
+        assert [int(given[it][1]) for it in ("low", "left", "augtrie")] == [1, 1, 1]
         base = os.nice(0)
         assert [int(given[it][3]) - base for it in ("low", "right", "left", "augtrie")] == [0, 0, min(10, 19 - base), 0]
 

@@ -288,6 +288,10 @@ class Installed:
     def test_c_changes(self):
         assert self.answers_in("changes.c") >= 500000
 
+    def test_c_a_thousand_rounds(self):
+        said = said_by(self.compiled("c", "tests", "rounds.c"))
+        assert int(re.fullmatch(r"ok: (\d+) answers, 1260 rounds\n", said)[1]) >= 250000
+
     def test_c_sums(self):
         assert self.answers_in("sums.c") >= 36000
 
@@ -611,11 +615,11 @@ class Bench:
             assert f"bench: {names[0]} was run under the name of {names[1]}\n" in said
 
     def test_bench_measures_each_engine(self):
-        said = self.script("run", "--passes", "1", "--slice", "2", "--bytes", str(1 << 23), "--into", os.path.join(self.folder, "measured"))
+        said = self.script("run", "--passes", "1", "--slice", "2", "--bytes", str(1 << 24), "--into", os.path.join(self.folder, "measured"))
         with open(os.path.join(self.folder, "measured", "throughput.md"), encoding="utf-8") as file:
             lines = file.read().splitlines()
         assert "\n".join(lines) in said
-        assert any(line.endswith(f" tables of at most {1 << 23} bytes") for line in lines)
+        assert any(line.endswith(f" tables of at most {1 << 24} bytes") for line in lines)
         seats = table(lines, "Engine")
         assert list(seats) == list(ENGINES)
         for name, seat in ENGINES.items():

@@ -159,7 +159,7 @@ PLANTED = [
 
 
 # The file and the beginning of the function at which they are.
-PATH, HEAD = "crates/aug_run/src/scripts/run.rt", "{\n    let bytes = match read_all"
+PATH, HEAD = "crates/aug_run/src/script.rt", "{\n    let bytes = match read_all"
 
 TEXTS = sources()
 PLACES = [place for path, text in TEXTS.items() for place in places_in(path, text)]

@@ -204,7 +204,7 @@ static void unchanged(void) {
 
 /* A list of an earlier round: the table is full after some 500 updates, and so again and again between two looks. And a list with fewer bits. */
 static void over_rounds(uint32_t bits) {
-    open_all(bits, 1 << 17);
+    open_all(bits, 1 << 19);
     look();
     for (uint32_t turn = 0; turn < 20; turn++) {
         const uint32_t updates = turn % 5 ? draw(4000) : 0;
@@ -329,7 +329,7 @@ static void follow(void) {
 static void beside_writers(void) {
     pthread_t threads[WRITERS];
     uint32_t numbers[WRITERS];
-    open_all(8, 1 << 17);
+    open_all(8, 1 << 18);
     WANT(aug_user_close(&works), AUG_OK);
     writing = WRITERS;
     for (uint32_t i = 0; i < WRITERS; i++) {

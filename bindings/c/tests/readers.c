@@ -11,7 +11,7 @@
 #include <time.h>
 #include <unistd.h>
 
-enum { READERS = 3, MEASUREMENTS = 3, BYTES = 16000, SECOND = 1000000000, LONGEST = SECOND / 10 };
+enum { READERS = 3, MEASUREMENTS = 3, BYTES = 84000, SECOND = 1000000000, LONGEST = SECOND / 10 };
 
 static aug_trie trie = AUG_ZEROED;
 static atomic_int stopped;

@@ -8,7 +8,7 @@
 #include <pthread.h>
 #include <stdatomic.h>
 
-enum { BITS = 6, KEYS = 1 << BITS, THREADS = 4, TRIES = 8, UPDATES = 1000, BYTES = 16000 };
+enum { BITS = 6, KEYS = 1 << BITS, THREADS = 4, TRIES = 8, UPDATES = 1000, BYTES = 130496 };
 
 /* Of this thread: whether it opens something, and how many requests are granted before one is refused, or -1. */
 static _Thread_local int opens;
@@ -82,7 +82,7 @@ static void *work(void *unused) {
     return NULL;
 }
 
-/* How many updates the table has room for: a look keeps it from being given a new round. */
+/* How many updates a user has room for: a look keeps the table from being given a new round. */
 static uint32_t room(void) {
     aug_user user = AUG_ZEROED, looks = AUG_ZEROED;
     aug_told told;
@@ -92,6 +92,7 @@ static uint32_t room(void) {
     WANT(requests > 0, 1);
     REFUSED_EACH(aug_user_open(&trie, &user));
     WANT(aug_look(&looks), 0);
+    WANT(aug_room(&user), 64);
     for (int64_t code; (code = aug_try_put(&user, made % KEYS, made, &told)) != AUG_AGAIN; made++) WANT(code > 0, 1);
     WANT(aug_user_close(&looks), 0);
     /* The place of a user that was closed takes no memory. */
@@ -108,7 +109,7 @@ int main(void) {
     for (int i = 0; i < TRIES; i++) {
         REFUSED_EACH(aug_open(&trie, BITS, THREADS, BYTES));
         WANT(requests > 2, 1);
-        if (i % 2) WANT(room() < UPDATES / 50, 1);
+        if (i % 2) WANT(room(), 64);
         for (int j = 0; j < THREADS; j++) WANT(pthread_create(&threads[j], NULL, work, NULL), 0);
         for (int j = 0; j < THREADS; j++) WANT(pthread_join(threads[j], NULL), 0);
         /* All places are left. */

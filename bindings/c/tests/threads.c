@@ -49,7 +49,7 @@ static uint32_t threads_agree(void) {
     pthread_t threads[THREADS];
     aug_report report;
     uint32_t in = 0, out = 0, checks = 0;
-    WANT(aug_open(&trie, BITS, THREADS, 600000), 0);
+    WANT(aug_open(&trie, BITS, THREADS, 705440), 0);
     for (int i = 0; i < THREADS; i++) WANT(pthread_create(&threads[i], 0, work, &w[i]), 0);
     for (int i = 0; i < THREADS; i++) {
         void *what;
@@ -86,6 +86,11 @@ static void misuses(void) {
     WANT(aug_open(&other, BITS, 0, 1 << 20), AUG_BAD_USERS);
     WANT(aug_open(&other, BITS, 65, 1 << 20), AUG_BAD_USERS);
     WANT(aug_open(&other, BITS, 1, 1000), AUG_TOO_LARGE);
+    WANT(aug_open(&other, BITS, 1, 521071), AUG_TOO_LARGE);
+    WANT(aug_open(&other, BITS, 1, AUG_MOST_BYTES + 1), AUG_TOO_LARGE);
+    WANT(aug_open(&other, BITS, 1, UINT64_MAX), AUG_TOO_LARGE);
+    WANT(aug_open(&other, BITS, 1, 521072), 0);
+    WANT(aug_close(&other, NULL), 0);
     WANT(aug_open(&other, BITS, 2, 1 << 20), 0);
     WANT(aug_open(&other, BITS, 2, 1 << 20), AUG_OPEN);
     /* The handle of a trie is no user, and nothing behind it is read. */
@@ -112,11 +117,15 @@ static void misuses(void) {
     WANT(aug_insert(&one, KEYS), AUG_BAD_KEY);
     WANT(aug_put(&one, 9, 4000000000u, NULL), 1);
     WANT(aug_put(&one, 9, 4000000001u, NULL), 2);
+    WANT(aug_room(NULL), AUG_CLOSED);
+    WANT(aug_room((aug_user *)&other), AUG_CLOSED);
     WANT(aug_size(&one), AUG_NOT_LOOKING);
     WANT(aug_look_again(&one), AUG_NOT_LOOKING);
     WANT(aug_look_done(&one), AUG_NOT_LOOKING);
     WANT(aug_look(&one), 0);
     WANT(aug_look(&one), AUG_LOOKING);
+    WANT(aug_room(&one), AUG_LOOKING);
+    WANT(aug_try_room(&one), AUG_LOOKING);
     WANT(aug_remove(&one, 9, NULL), AUG_LOOKING);
     WANT(aug_has(&one, 9), 1);
     WANT(aug_has(&one, 4000000000u), 0);
@@ -134,6 +143,7 @@ static void misuses(void) {
     WANT(aug_close(&other, NULL), AUG_CLOSED);
     WANT(aug_user_open(&other, &one), AUG_CLOSED);
     WANT(aug_insert(&more, 9), AUG_CLOSED);
+    WANT(aug_room(&more), AUG_CLOSED);
     WANT(aug_look(&two), AUG_CLOSED);
     WANT(aug_user_close(&more), 0);
     WANT(aug_user_close(&two), 0);
@@ -141,20 +151,24 @@ static void misuses(void) {
 
 /* A look holds up whoever has to give the table a new round. Who calls again when it is done goes on, also within an array. */
 static void waits(void) {
-    enum { SOME = 64 };
+    enum { SOME = 100, ROOM = 64 };
     aug_trie small = AUG_ZEROED;
     aug_user looks = AUG_ZEROED, works = AUG_ZEROED;
     aug_progress so_far = {0, 0};
     aug_told told = {77, 78};
     uint32_t keys[SOME], made = 0;
     for (uint32_t k = 0; k < SOME; k++) keys[k] = k;
-    WANT(aug_open(&small, 6, 2, 16000), 0);
+    WANT(aug_open(&small, 7, 2, 86512), 0);
     WANT(aug_user_open(&small, &works), 0);
     WANT(aug_user_open(&small, &looks), 0);
     WANT(aug_look(&looks), 0);
-    int64_t code;
-    while ((code = aug_try_insert(&works, made)) == 1) made++;
-    WANT(code, AUG_AGAIN);
+    for (; aug_room(&works) > 0; made++) {
+        WANT(aug_try_room(&works), ROOM - made);
+        WANT(aug_try_insert(&works, made), 1);
+    }
+    WANT(made, ROOM);
+    WANT(aug_try_insert(&works, made), AUG_AGAIN);
+    WANT(aug_try_room(&works), AUG_AGAIN);
     WANT(aug_try_remove(&works, 0, &told), AUG_AGAIN);
     WANT(aug_try_put(&works, 0, 7, &told), AUG_AGAIN);
     WANT(aug_try_add(&works, 0, 7, &told), AUG_AGAIN);

@@ -5,8 +5,8 @@
 
 #include <pthread.h>
 
-/* With so few bytes the table is full again and again. */
-enum { BITS = 6, BYTES = 16000, KEYS = 9, THREADS = 4, UPDATES = 4000 };
+/* With so few bytes, the fewest for five users, the table is full again and again. */
+enum { BITS = 6, BYTES = 161232, KEYS = 9, THREADS = 4, UPDATES = 4000 };
 
 static aug_trie trie = AUG_ZEROED;
 

@@ -8,7 +8,8 @@
 #include <sched.h>
 #include <time.h>
 
-enum { BITS = 6, KEYS = 1 << BITS, BYTES = 16000 };
+/* With so few bytes each of two users has 64 updates in a round. */
+enum { BITS = 6, KEYS = 1 << BITS, BYTES = 69024, ROOM = 64, HALF = KEYS / 2 };
 
 static aug_trie trie = AUG_ZEROED;
 static aug_user works = AUG_ZEROED, looks = AUG_ZEROED;
@@ -81,10 +82,13 @@ static void updates_tell(void) {
     WANT(aug_user_close(&looks), AUG_OK);
 }
 
-/* Begins a look in a round that has just begun, of which one update was made. It holds up an array that has more keys than there are updates. */
+/* Begins a look in a round of which as many updates are left as half of the keys. It holds up an array of all keys. */
 static void hold_up(void) {
     fill();
-    WANT(aug_insert(&works, 0), 0);
+    for (int64_t left = ROOM - 1; left >= HALF; left--) {
+        WANT(aug_insert(&works, 0), 0);
+        WANT(aug_room(&works), left);
+    }
     WANT(others == NULL, 1);
     WANT(aug_look(&looks), AUG_OK);
     others = end_look;
@@ -93,7 +97,7 @@ static void hold_up(void) {
 /* The array was held up in its middle. */
 static void check_held_up(void) {
     WANT(others == NULL, 1);
-    WANT(held_up_at > 1 && held_up_at < KEYS, 1);
+    WANT(held_up_at, HALF);
 }
 
 static void arrays_go_on(void) {

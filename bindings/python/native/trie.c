@@ -269,6 +269,18 @@ static PyObject *trie_put_all(PyObject *self, PyObject *args) {
     return NULL;
 }
 
+/* How many updates are left to this thread. Other threads run while it waits. */
+static PyObject *trie_room(PyObject *self, PyObject *unused) {
+    (void)unused;
+    for (unsigned turn = 0;; turn++) {
+        Seat *seat = seat_of((Trie *)self);
+        int64_t left = seat ? aug_try_room(&seat->handle) : AUG_CLOSED;
+        if (!seat) return NULL;
+        if (left != AUG_AGAIN) return told_number(left);
+        if (wait_for_looks((Trie *)self, turn)) return NULL;
+    }
+}
+
 static PyObject *trie_bits(PyObject *self, void *unused) {
     (void)unused;
     return PyLong_FromUnsignedLong(((Trie *)self)->bits);
@@ -302,6 +314,8 @@ static PyMethodDef methods[] = {
     {"put_all", trie_put_all, METH_VARARGS,
      "put_all($self, keys, weights, /)\n--\n\nPuts keys in, each with the weight that has its index, or gives members these weights: how many were "
      "not there. Refused as update is, and with BadLength if there are not as many weights as keys."},
+    {"room", trie_room, METH_NOARGS,
+     "room($self, /)\n--\n\nHow many updates are left to this thread until it takes a spare part of the table, or the table is full. None of them is made."},
     {"snapshot", trie_snapshot, METH_NOARGS,
      "snapshot($self, /)\n--\n\nA snapshot, which shows every update of this thread. Until it ends, this thread updates nothing and asks it alone."},
     {"tend", trie_tend, METH_NOARGS,
@@ -321,7 +335,8 @@ static PyGetSetDef fields[] = {
 static PyType_Slot slots[] = {
     {Py_tp_doc,
      "Trie(bits, users=16, bytes=None)\n--\n\nThe empty set of keys below 2^bits, with 1 to 16 bits, for so many threads at a time, at most 64. Its "
-     "table takes at most so many bytes, by default 4 MiB and 512 for each key below 2^bits."},
+     "table takes at most so many bytes, by default 4 MiB and 512 for each key below 2^bits. TooLarge if these are fewer than 64 updates of each thread "
+     "take, or more than 2^30."},
     {Py_tp_new, trie_new},
     {Py_tp_dealloc, trie_free},
     {Py_tp_methods, methods},

@@ -19,7 +19,7 @@ pub enum Error {
     BadBits = -6,
     /// The users are outside 1 to 64.
     BadUsers = -7,
-    /// The bytes are too few for these bits and users.
+    /// The bytes are too few for these bits and users, or more than [`Trie::MOST_BYTES`](crate::Trie::MOST_BYTES).
     TooLarge = -8,
     /// All users of the trie are open.
     NoUser = -9,

@@ -108,6 +108,7 @@ unsafe extern "C" {
     pub fn aug_insert_all(user: &mut User, keys: *const u32, n: usize) -> i64;
     pub fn aug_remove_all(user: &mut User, keys: *const u32, n: usize) -> i64;
     pub fn aug_put_all(user: &mut User, keys: *const u32, n: usize, weights: *const u32, weight_count: usize) -> i64;
+    pub safe fn aug_room(user: &mut User) -> i64;
     pub safe fn aug_look(user: &mut User) -> i64;
     pub safe fn aug_look_again(user: &mut User) -> i64;
     pub safe fn aug_look_done(user: &mut User) -> i64;

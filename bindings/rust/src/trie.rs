@@ -24,9 +24,14 @@ use std::sync::PoisonError;
 pub struct Trie(Shared);
 
 impl Trie {
+    /// No table may take more bytes.
+    pub const MOST_BYTES: u64 = 1 << 30;
+
     /// Opens the empty trie for keys of 1 to 16 bits and 1 to 64 users at a time, whose table takes at most so many bytes: twice as many
-    /// while it is opened. With more bytes it is full less often. `1 << 20` are plenty for 12 bits, and each bit more takes twice as many.
-    /// Refused with `BadBits`, `BadUsers`, `TooLarge` if the bytes are too few, and `NoMemory`.
+    /// while it is opened. With more bytes it is full less often: 112 bytes go to each key below `2^bits`, and each update takes `80 * bits` of the
+    /// others until it is full. For as many updates as there are keys, `1 << 21` are enough with 11 bits, and `1 << 26` with 15.
+    /// Refused with `BadBits`, `BadUsers`, `TooLarge` if the bytes are fewer than 64 updates of each user take, or more than `MOST_BYTES`, and
+    /// `NoMemory`.
     pub fn new(bits: u32, users: u32, bytes: u64) -> Result<Trie, Error> {
         let shared = Shared::new(bits).ok_or(Error::NoMemory)?;
         number(ffi::aug_open(&mut shared.handle.write().unwrap_or_else(PoisonError::into_inner), bits, users, bytes))?;

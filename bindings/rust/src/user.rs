@@ -143,6 +143,12 @@ impl User {
         number(unsafe { ffi::aug_put_all(&mut self.handle, keys.as_ptr(), keys.len(), weights.as_ptr(), weights.len()) })
     }
 
+    /// How many updates are left to this user in its part of the table: the next one after these takes a part that is spare, or begins a new round of the
+    /// table, if none is. It makes none of them, and waits and is refused as an update.
+    pub fn room(&mut self) -> Result<u32, Error> {
+        number(ffi::aug_room(&mut self.handle))
+    }
+
     /// Takes a snapshot, which queries are asked of: the set after all updates of this user, and after all that it has seen before. Refused
     /// with `Closed`. A look that was forgotten is ended first.
     pub fn look(&mut self) -> Result<Look<'_>, Error> {

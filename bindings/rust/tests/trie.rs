@@ -488,7 +488,7 @@ fn users_come_and_go_in_four_threads() -> Result<(), Error> {
 
 #[test]
 fn the_next_rounds_are_laid_out_while_others_update() -> Result<(), Error> {
-    let trie = Trie::new(8, 4, 1 << 17)?;
+    let trie = Trie::new(8, 4, 1 << 18)?;
     let working = AtomicU32::new(4);
     thread::scope(|scope| {
         for i in 0..4 {
@@ -510,6 +510,26 @@ fn the_next_rounds_are_laid_out_while_others_update() -> Result<(), Error> {
     assert_eq!(trie.user()?.look()?.range(..).sum, 64 * (1 + 2 + 3));
     assert_eq!(trie.close()?.size, 256);
     assert_eq!(trie.tend(), Err(Error::Closed));
+    Ok(())
+}
+
+#[test]
+fn a_user_is_told_how_many_updates_are_left_to_it() -> Result<(), Error> {
+    for (bytes, room) in [(22_512, 64), (22_831, 64), (22_832, 65)] {
+        let trie = Trie::new(4, 1, bytes)?;
+        let mut user = trie.user()?;
+        // Those that are refused count as well, and the table has a new round after the last one.
+        for turn in 0..3 * room {
+            assert_eq!(user.room(), Ok(if turn > 0 && turn % room == 0 { 0 } else { room - turn % room }));
+            assert_eq!(user.insert(turn % 16), Ok(turn < 16));
+        }
+        assert_eq!((user.insert_all(&[1, 2, 3]), user.room()), (Ok(0), Ok(room - 3)));
+        forget(user.look()?);
+        assert_eq!(user.room(), Err(Error::Looking));
+        drop(user.look()?);
+        assert_eq!((user.room(), trie.close().map(|report| report.size)), (Ok(room - 3), Ok(16)));
+        assert_eq!(user.room(), Err(Error::Closed));
+    }
     Ok(())
 }
 
@@ -767,7 +787,8 @@ fn a_panic_ends_the_look_and_frees_the_place() -> Result<(), Error> {
 #[test]
 fn refusals_have_names() -> Result<(), Error> {
     for (bits, users, bytes, want) in [(0, 1, PLENTY, Error::BadBits), (17, 1, PLENTY, Error::BadBits), (4, 0, PLENTY, Error::BadUsers),
-        (4, 65, PLENTY, Error::BadUsers), (4, 1, 0, Error::TooLarge), (4, 1, 99, Error::TooLarge)]
+        (4, 65, PLENTY, Error::BadUsers), (4, 1, 0, Error::TooLarge), (4, 1, 22_511, Error::TooLarge),
+        (4, 1, Trie::MOST_BYTES + 1, Error::TooLarge), (4, 1, u64::MAX, Error::TooLarge)]
     {
         assert_eq!(Trie::new(bits, users, bytes).err(), Some(want));
     }
@@ -787,7 +808,7 @@ fn refusals_have_names() -> Result<(), Error> {
 fn with_little_memory() -> Result<(), Error> {
     let mut tries = Vec::new();
     let cause = loop {
-        match Trie::new(16, 64, u64::MAX) {
+        match Trie::new(16, 64, Trie::MOST_BYTES) {
             Ok(trie) => tries.push(trie),
             Err(cause) => break cause,
         }

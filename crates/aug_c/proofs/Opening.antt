@@ -5,7 +5,7 @@ use Rattle.aug_core.specs.Layout.{IsOutside, IsWithin}
 use Rattle.aug_model.specs.Keys.{SetFacts}
 use Rattle.aug_live.specs.LiveHandles.{IsNew}
 use Rattle.aug_live.specs.LiveTries.{IsOpenedTrie, KnowsMore}
-use Rattle.aug_live.specs.Plans.{Fits, IsGreatest, least_plan}
+use Rattle.aug_live.specs.Plans.{IsGreatest, Suits}
 use Rattle.aug_live.specs.declared.plan.Plan.{Plan}
 use Rattle.aug_c.specs.Codes as codes
 use Rattle.aug_c.specs.Handles.{state_of}
@@ -34,13 +34,13 @@ module _ (bits users bytes : ℕ) (trie : Opened) where
     new = subst (λ (s : SetFacts). All (IsNew trie.live s new.0) trie.spare.items) empty new.2;
   }
 
-  pub opens : (old new : RawHandle) → IsWithin 1 16 bits → IsWithin 1 64 users → Fits bits bytes (least_plan users) → state_of new ≡ Trie trie → new.tag ≡ trie_mark → IsOpenedFor bits users bytes trie → OpensTrie bits users bytes old new (pos 0)
-  opens old new within few fits is mark opened = record {
+  pub opens : (old new : RawHandle) → IsWithin 1 16 bits → IsWithin 1 64 users → Suits bits users bytes → state_of new ≡ Trie trie → new.tag ≡ trie_mark → IsOpenedFor bits users bytes trie → OpensTrie bits users bytes old new (pos 0)
+  opens old new within few suits is mark opened = record {
     opened = λ _. (trie, is, mark, opened);
     refused = λ n. absurd (n refl);
     bad_bits = (apart (pos 0) codes.bad_bits refl, (λ out. absurd (not_both 1 16 bits within out)));
     bad_users = (apart (pos 0) codes.bad_users refl, (λ w. absurd (not_both 1 64 users few w.1)));
-    too_large = (apart (pos 0) codes.too_large refl, (λ w. absurd (w.2 fits)));
+    too_large = (apart (pos 0) codes.too_large refl, (λ w. absurd (w.2 suits)));
     others = inl refl;
   }
 

@@ -30,7 +30,7 @@ bad_bits = negsuc 5
 abbrev pub bad_users : ℤ
 bad_users = negsuc 6
 
--- the memory that the trie may take is too little for its bits and users
+-- the memory that the trie may take is too little for its bits and users, or more than any table takes
 abbrev pub too_large : ℤ
 too_large = negsuc 7
 

@@ -1,12 +1,12 @@
--- What the calls on a trie do to it, and what they answer. For 6 bits and 2 users a table has at least `127 + 2 + 5 * (69 + 12)` words, so 4,272 bytes
--- are enough and fewer are answered -8. The third `aug_try_user_open` answers -9, and one over the handle of an open trie -2. If one user put 0, 1 and 3
+-- What the calls on a trie do to it, and what they answer. For 6 bits and 2 users each part of a table has at least `127 + 2 + 5 * (69 + 768)` words, so
+-- 69,024 bytes are enough, and fewer are answered -8, as more than 2^30 are. The third `aug_try_user_open` answers -9, and one over the handle of an open trie -2. If one user put 0, 1 and 3
 -- in and the other took 1 out, `aug_try_close` reports three insertions, one removal and the size 2.
 use Rattle.std.specs.Prelude.{◌≡◌, ◌≢◌, ◌⊎◌, ℕ, ◌↔◌, ℤ, pos, [], ◌∷◌, ◌++◌, length, All, vec_len}
 use Rattle.aug_core.specs.Layout.{IsOutside, IsWithin}
 use Rattle.aug_model.specs.Keys.{SetFacts}
 use Rattle.aug_live.specs.LiveHandles.{HandleFacts, IsNew}
 use Rattle.aug_live.specs.LiveTries.{Closes, IsOpenedTrie, KnowsMore, TrieFacts}
-use Rattle.aug_live.specs.Plans.{Fits, IsGreatest, least_plan}
+use Rattle.aug_live.specs.Plans.{IsGreatest, Suits}
 use Rattle.aug_live.specs.declared.counts.LiveCounts.{LiveCounts}
 use Rattle.aug_live.specs.declared.plan.Plan.{Plan}
 use Rattle.aug_c.specs.declared.trie_calls.ClosingReport.{ClosingReport}
@@ -36,7 +36,7 @@ pub record OpensTrie (bits users bytes : ℕ) (old new : RawHandle) (code : ℤ)
   pub refused : code ≢ pos 0 → new ≡ old
   pub bad_bits : (code ≡ codes.bad_bits) ↔ IsOutside 1 16 bits
   pub bad_users : (code ≡ codes.bad_users) ↔ (IsWithin 1 16 bits × IsOutside 1 64 users)
-  pub too_large : (code ≡ codes.too_large) ↔ (IsWithin 1 16 bits × IsWithin 1 64 users × (¬ Fits bits bytes (least_plan users)))
+  pub too_large : (code ≡ codes.too_large) ↔ (IsWithin 1 16 bits × IsWithin 1 64 users × (¬ Suits bits users bytes))
   pub others : (code ≡ pos 0) ⊎ (code ≡ codes.bad_bits) ⊎ (code ≡ codes.bad_users) ⊎ (code ≡ codes.too_large) ⊎ (code ≡ codes.no_memory)
 
 -- a user gets the last of the accesses that are left, or nothing changes

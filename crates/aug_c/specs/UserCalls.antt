@@ -1,7 +1,8 @@
 -- What the calls on a user do to it, and what they answer. `UpdatesKey` has the exact condition of `bad_key`; an update that was not made left the set
 -- as it was. A query answers by the snapshot that the look shows (`Asks`) and changes nothing that a later one could see. In the example an insertion
 -- of 0 answers 1, one of 1 answers 0, and one of 4 answers -3; in a look a rank of 3 answers 1, `aug_select` of 5 answers -1, and `aug_range` from 1 to
--- 4 answers 2 and writes the sum 4 and the bounds 1 and 3; an insertion answers -12 until the look is done, and a rank -13 after that.
+-- 4 answers 2 and writes the sum 4 and the bounds 1 and 3; an insertion answers -12 until the look is done, and a rank -13 after that. Of 64 updates that
+-- the lane of a new user has, `aug_try_room` tells 64, and 62 after the first two insertions.
 use Rattle.std.specs.Prelude.{◌≡◌, ◌≢◌, ◌⊎◌, ℕ, ◌^◌, ◌≤◌, ◌↔◌, ℤ, pos, Bool, true, false, Option, Some, None, Result, Ok, Err, IfOk, IfErr, IsErrOf, List, length, ⊤}
 use Rattle.aug_monoid.specs.Sum.{sum_parts}
 use Rattle.aug_monoid.specs.Extent.{extent_parts}
@@ -18,7 +19,7 @@ use Rattle.aug_model.specs.declared.outcome.Outcome.TheVariants.{Accepted, Repla
 use Rattle.aug_trie.specs.declared.updates.request.Request.{Request}
 use Rattle.aug_trie.specs.declared.updates.request.Request.TheVariants.{Insert}
 use Rattle.aug_trie.specs.declared.updates.told.Told.{Told}
-use Rattle.aug_live.specs.LiveHandles.{HandleFacts, LookFacts, Follows, Makes, IsAsked, LooksAgain, handle_of, set_of_look}
+use Rattle.aug_live.specs.LiveHandles.{HandleFacts, LookFacts, Follows, IsRoom, Makes, IsAsked, LooksAgain, handle_of, set_of_look}
 use Rattle.aug_live.specs.LiveErrors.{RefusesCall}
 use Rattle.aug_live.specs.declared.error.LiveError.{LiveError}
 use Rattle.aug_c.specs.declared.refusal.CallRefusal.{CallRefusal}
@@ -88,6 +89,14 @@ pub record UpdatesFree (asked : Request) (key : ℕ) (before after : WeightsTold
 -- an update of a key by a user that holds no look
 abbrev pub UpdatesKey : Request → ℕ → WeightsTold → WeightsTold → RawHandle → RawHandle → ℤ → Type 0
 UpdatesKey asked key before after = UpdatesUser (UpdatesFree asked key before after) (after ≡ before)
+
+-- a user that holds no look is told how many updates are left to its lane in this round, and makes none of them
+pub record TellsRoom (old new : HandleFacts) (code : ℤ) : Type 0 where
+  pub follows : Follows old new
+  pub told : ((left : ℕ) × (code ≡ pos left) × IsRoom left new.half) ⊎ (code ≡ codes.again) ⊎ ((code ≡ codes.closed) × ShowsClosed new)
+
+abbrev pub AsksRoom : RawHandle → RawHandle → ℤ → Type 0
+AsksRoom = UpdatesUser TellsRoom ⊤
 
 -- an insertion, which does not tell what its key weighed
 abbrev pub InsertsKey : ℕ → RawHandle → RawHandle → ℤ → Type 0

@@ -10,7 +10,8 @@ use crate::codes::BAD_LENGTH;
 use crate::queries::Number;
 use crate::raw_handle::{RawHandle, on_look};
 use crate::state::SummedLook;
-use aug_query::descent::{Four, Has, Rank, Weight};
+use aug_batch::Four;
+use aug_query::descent::{Has, Rank, Weight};
 
 // What is asked for each key of an array, and what is written of the answer.
 trait KeyQuery<T> {

@@ -14,7 +14,7 @@ pub const NO_MEMORY: i64 = -5;
 pub const BAD_BITS: i64 = -6;
 /// The users are outside 1 to 64.
 pub const BAD_USERS: i64 = -7;
-/// The memory that the trie may take is too little for its bits and users.
+/// The memory that the trie may take is too little for its bits and users, or more than any table takes.
 pub const TOO_LARGE: i64 = -8;
 /// All users of the trie are open.
 pub const NO_USER: i64 = -9;

@@ -24,7 +24,8 @@ pub struct ClosingReport {
     pub size: u32,
 }
 
-/// Opens the empty trie for keys below `2^bits`, with so many users, whose table takes at most so many bytes.
+/// Opens the empty trie for keys below `2^bits`, with so many users, whose table takes at most so many bytes. `TOO_LARGE` if 64 updates of each user take
+/// more, or for more than 2^30 bytes.
 #[unsafe(no_mangle)]
 pub extern "C" fn aug_try_open(
     alloc: Global,

@@ -1,4 +1,4 @@
-//! The updates of a user, and its looks.
+//! The updates of a user, how many are left to it, and its looks.
 ghost use Rattle.std.specs.Prelude.{◌≡◌, ◌↔◌, ◌^◌, ◌≤◌, ⊤, IfOk, IfErr, IsErrOf};
 ghost use Rattle.aug_trie.specs.Updates.{Updates};
 ghost use Rattle.aug_trie.specs.declared.updates.request.Request.TheVariants as request;
@@ -6,7 +6,7 @@ ghost use Rattle.aug_live.specs.LiveHandles.{Follows, Makes};
 ghost use Rattle.aug_c.specs.declared.refusal.CallRefusal.TheVariants as refusal;
 ghost use Rattle.aug_c.specs.Handles.{HandleCall, OnFree, OnLooking};
 ghost use Rattle.aug_c.specs.inside.UserKinds.{IsFreeUser, IsLookingUser};
-ghost use Rattle.aug_c.specs.UserCalls.{told_in, update_code, EndsFree, InsertsKey, LooksAnew, ShowsClosed, TakesFree, UpdatesKey};
+ghost use Rattle.aug_c.specs.UserCalls.{told_in, update_code, AsksRoom, EndsFree, InsertsKey, LooksAnew, ShowsClosed, TakesFree, TellsRoom, UpdatesKey};
 
 use crate::codes::{CLOSED, TOO_GREAT, TOO_LITTLE};
 use crate::queries::Number;
@@ -138,6 +138,24 @@ pub extern "C" fn aug_try_sub(
     ensures { UpdatesKey (request.Sub amount) key out.old out.new user.old user.new result }
 {
     update(user, key, Request::Sub(amount), out)
+}
+
+// How many updates are left to a lane, or the code of why that is not told.
+fn room(access: &mut SummedAccess) -> i64
+    ensures { TellsRoom access.old access.new result }
+{
+    match access.try_room() {
+        Ok(left) => i64::from(left),
+        Err(cause) => CallRefusal::of(cause).code(),
+    }
+}
+
+/// How many updates are left to the user's lane in this round.
+#[unsafe(no_mangle)]
+pub extern "C" fn aug_try_room(user: &mut RawHandle) -> i64
+    ensures { AsksRoom user.old user.new result }
+{
+    on_access!(user, access => room(access))
 }
 
 // A user with a look in the place of its access, and what the call answers.

@@ -59,6 +59,10 @@ module _ (face : ℕ → ℕ → List (ℕ × ℕ) → List ℕ) where
       → KnowsTable face record v { live = live; also = also; held = held; spare = spare; began = began; steps = steps }
   knows_same v live also held spare began steps kn = record { laid_out = kn.laid_out; key_set = kn.key_set; members_fit = kn.members_fit; few_members = kn.few_members; book = kn.book; opened = kn.opened; fits = kn.fits }
 
+  -- and for whomever it answers
+  pub knows_lent : (v : SeatView) (lent : List ℕ) → KnowsTable face v → KnowsTable face record v { lent = lent }
+  knows_lent v lent kn = record { laid_out = kn.laid_out; key_set = kn.key_set; members_fit = kn.members_fit; few_members = kn.few_members; book = kn.book; opened = kn.opened; fits = kn.fits }
+
   -- and after it took something in
   pub knows_told : (v : SeatView) (also : Book) (told : Option Learnt) → KnowsTable face v → KnowsTable face record v { also = also; told = told }
   knows_told v also told kn = record { laid_out = kn.laid_out; key_set = kn.key_set; members_fit = kn.members_fit; few_members = kn.few_members; book = kn.book; opened = kn.opened; fits = kn.fits }

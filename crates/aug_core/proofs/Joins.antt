@@ -4,6 +4,7 @@ use mathlib.Core.Option.{some, some-ne-none}
 use lib.ListN.{get_elem?}
 use Rattle.atomic_table.specs.Table.{Joins}
 use Rattle.atomic_table.proofs.Lists.{at_set}
+use Rattle.aug_core.specs.Book.{Book, ArePrefixes}
 use Rattle.aug_core.specs.Opening.{Opening}
 use Rattle.aug_core.specs.Rule.{Knows, Kept}
 use Rattle.aug_core.specs.Effects.{spent}
@@ -16,7 +17,7 @@ use Rattle.aug_core.proofs.Moves.{St}
 use Rattle.aug_core.specs.Counts.{StandsAt, Stands}
 use Rattle.aug_core.specs.declared.view.Change.{Change}
 use Rattle.std.proofs.lemmas.Bool.{cases_eq}
-use Rattle.std.proofs.Common.{refl}
+use Rattle.std.proofs.Common.{refl, append-nil}
 use Rattle.aug_core.proofs.Books.{at_below}
 use Rattle.atomic_table.proofs.Lists.{at_longer, set_here, set_else}
 use Rattle.aug_core.proofs.PrefixLemmas.{book_none}
@@ -45,9 +46,9 @@ spent_knows o words book = record {
   blocks = λ n lane k e le low small. let clash : None ≡ Some n = e in cc;
 }
 
-module _ (face : ℕ → ℕ → List (ℕ × ℕ) → List ℕ) (o : Opening) (s : St) (r : Kept face o s) (id : ℕ) (v : SeatView) (at : get_elem? s.views id ≡ some v) (other : ℕ) (w : SeatView) (ne : other ≢ id) (at' : get_elem? s.views other ≡ some w) (told : Option Learnt) where
+module _ (face : ℕ → ℕ → List (ℕ × ℕ) → List ℕ) (o : Opening) (s : St) (r : Kept face o s) (id : ℕ) (v : SeatView) (at : get_elem? s.views id ≡ some v) (other : ℕ) (w : SeatView) (ne : other ≢ id) (at' : get_elem? s.views other ≡ some w) (also : Book) (known : ArePrefixes also r.book) (told : Option Learnt) (lent : List ℕ) where
   abbrev lead : SeatView
-  lead = record v { also = w.seen; told = told; held = v.held ++ w.held }
+  lead = record v { also = also; told = told; held = v.held ++ w.held; lent = lent }
 
   abbrev views : List SeatView
   views = set (set s.views id lead) other spent
@@ -125,7 +126,7 @@ module _ (face : ℕ → ℕ → List (ℕ × ℕ) → List ℕ) (o : Opening) (
           shaped = kn.shaped;
           same_members = kn.same_members;
           saw = kn.saw;
-          also_saw = kw.saw;
+          also_saw = known;
           fresh = kn.fresh;
           holds = λ a h q. ⊎_elim (λ old. kn.holds a h old) (λ new. kw.holds new.0 h new.2) (append_at v.held w.held h a q);
           spares = kn.spares;
@@ -167,6 +168,12 @@ module _ (face : ℕ → ℕ → List (ℕ × ℕ) → List ℕ) (o : Opening) (
   }
 
 module _ (face : ℕ → ℕ → List (ℕ × ℕ) → List ℕ) (o : Opening) where
-  pub joins_seat : (id other : ℕ) (v w : SeatView) (told : Option Learnt) → Joins (Kept face o) id v other w record v { also = w.seen; told = told; held = v.held ++ w.held } spent
-  joins_seat id other v w told s r at ne at' = let lead : SeatView = record v { also = w.seen; told = told; held = v.held ++ w.held } in
-      takes_back face o s r id v at other w ne (⊎_elim (λ t. absurd (ne t.0)) (λ t. t.1) (at_set s.views id other lead w at')) told
+  pub joins_seat : (id other : ℕ) (v w : SeatView) (told : Option Learnt) (lent : List ℕ) → Joins (Kept face o) id v other w record v { also = w.seen; told = told; held = v.held ++ w.held; lent = lent } spent
+  joins_seat id other v w told lent s r at ne at' = let lead : SeatView = record v { also = w.seen; told = told; held = v.held ++ w.held; lent = lent } in
+      let there = ⊎_elim (λ t. absurd (ne t.0)) (λ t. t.1) (at_set s.views id other lead w at') in takes_back face o s r id v at other w ne there w.seen (r.each_view other w there).saw told lent
+
+  -- a view that holds no lane may go, where another one answers for other readers
+  pub frees_seat : (id other : ℕ) (v w : SeatView) (lent : List ℕ) → w.held ≡ [] → Joins (Kept face o) id v other w record v { lent = lent } spent
+  frees_seat id other v w lent none s r at ne at' = let lead : SeatView = record v { lent = lent } in let same : v.held ++ w.held ≡ v.held = ap (λ (z : List Held). v.held ++ z) none ∙ append-nil v.held in
+      let there = ⊎_elim (λ t. absurd (ne t.0)) (λ t. t.1) (at_set s.views id other lead w at') in
+      subst (λ (z : List Held). Kept face o record { words = s.words; homes = s.homes; views = set (set s.views id record v { held = z; lent = lent }) other spent }) same (takes_back face o s r id v at other w ne there v.also (r.each_view id v at).also_saw v.told lent)

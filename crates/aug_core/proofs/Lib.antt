@@ -9,6 +9,7 @@ pub mod Views
 pub mod Moves
 pub mod Fits
 pub mod Loads
+pub mod ReaderCounts
 pub mod Stores
 pub mod States
 pub mod Nodes
@@ -19,6 +20,7 @@ pub mod Joins
 pub mod Eras
 pub mod EraSteps
 pub mod Notes
+pub mod Lending
 pub mod Counting
 pub mod Missing
 pub mod Renewals

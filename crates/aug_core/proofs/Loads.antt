@@ -47,7 +47,8 @@ module _ (face : ℕ → ℕ → List (ℕ × ℕ) → List ℕ) (o : Opening) w
               own = subst (λ (z : Shape). (number field : ℕ) → field < record_words → place ≡ record_start z number + field → (a : ℕ) (h : Held) → get_elem? v.held a ≡ some h → IsOfLane z h.lane number → found ≡ held_word z h number field) shaped (of_own s r v kn place);
             },
           ),
-          record { live = refl; era = refl; past = refl; shape = refl; members = refl; told = refl; renews = refl; base = refl; whole = refl; led = λ m e. (m, e) },
+          record { live = refl; era = refl; past = refl; shape = refl; members = refl; told = refl; base = refl; whole = refl; led = λ m e. (m, e) },
+          record { reads = refl; lent = refl; leads = λ m e. (m, e); works = λ work. work },
         ),
       )
 
@@ -83,7 +84,8 @@ module _ (face : ℕ → ℕ → List (ℕ × ℕ) → List ℕ) (o : Opening) w
               shown = t.shown;
             },
           ),
-          record { live = refl; era = refl; past = refl; shape = refl; members = refl; told = refl; renews = refl; base = refl; whole = refl; led = λ m e. (m, e) },
+          record { live = refl; era = refl; past = refl; shape = refl; members = refl; told = refl; base = refl; whole = refl; led = λ m e. (m, e) },
+          record { reads = refl; lent = refl; leads = λ m e. (m, e); works = λ work. work },
         ),
       )
 
@@ -108,7 +110,8 @@ module _ (face : ℕ → ℕ → List (ℕ × ℕ) → List ℕ) (o : Opening) w
               shown = t.shown;
             },
           ),
-          record { live = refl; era = refl; past = refl; shape = refl; members = refl; told = refl; renews = refl; base = refl; whole = refl; led = λ m e. (m, e) },
+          record { live = refl; era = refl; past = refl; shape = refl; members = refl; told = refl; base = refl; whole = refl; led = λ m e. (m, e) },
+          record { reads = refl; lent = refl; leads = λ m e. (m, e); works = λ work. work },
         ),
       )
 
@@ -134,6 +137,7 @@ module _ (face : ℕ → ℕ → List (ℕ × ℕ) → List ℕ) (o : Opening) w
         watches face o s r id v at v.began (load_node place found) place,
         (
           (empty, shows_node s r id v at live place),
-          record { live = refl; era = refl; past = refl; shape = refl; members = refl; told = refl; renews = refl; base = refl; whole = refl; led = λ m e. (m, e) },
+          record { live = refl; era = refl; past = refl; shape = refl; members = refl; told = refl; base = refl; whole = refl; led = λ m e. (m, e) },
+          record { reads = refl; lent = refl; leads = λ m e. (m, e); works = λ work. work },
         ),
       )

@@ -28,6 +28,7 @@ use Rattle.aug_core.proofs.States.{Did}
 use Rattle.aug_core.proofs.Fits.{fits_book, sees_after}
 use Rattle.aug_core.proofs.Loads.{sees_it}
 use Rattle.aug_core.proofs.PrefixLemmas.{book_trans, entry_stays}
+use Rattle.aug_core.proofs.ReaderCounts.{still_works}
 
 -- the list lists what it listed, and the new number
 lists_more : (l : List ℕ) (x n : ℕ) → Lists l n → Lists (x ∷ l) n
@@ -167,7 +168,8 @@ module _ (face : ℕ → ℕ → List (ℕ × ℕ) → List ℕ) (o : Opening) w
               miss = λ miss. absurd (miss hit);
             },
           ),
-          record { live = refl; era = refl; past = refl; shape = refl; members = refl; told = refl; renews = refl; base = refl; whole = refl; led = λ m e. (m, e) },
+          record { live = refl; era = refl; past = refl; shape = refl; members = refl; told = refl; base = refl; whole = refl; led = λ m e. (m, e) },
+          record { reads = refl; lent = refl; leads = λ m e. (m, e); works = still_works (with_published number) v w refl refl },
         ),
       ))
       (λ miss. let w : SeatView = seeing v r.book taken in let top = r.tree.newest q inner'.inside in (
@@ -189,6 +191,7 @@ module _ (face : ℕ → ℕ → List (ℕ × ℕ) → List ℕ) (o : Opening) w
               miss = λ _. (refl, top.word ∙ r.tree.is_book.named q top.index top.entry inner' top.newest.at);
             },
           ),
-          record { live = refl; era = refl; past = refl; shape = refl; members = refl; told = refl; renews = refl; base = refl; whole = refl; led = λ m e. (m, e) },
+          record { live = refl; era = refl; past = refl; shape = refl; members = refl; told = refl; base = refl; whole = refl; led = λ m e. (m, e) },
+          record { reads = refl; lent = refl; leads = λ m e. (m, e); works = λ work. work },
         ),
       ))

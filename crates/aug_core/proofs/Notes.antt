@@ -1,14 +1,12 @@
 -- A view makes a note of what it has seen, which is a new view that holds no lane; and a view takes a note in.
-use Rattle.std.proofs.Common.{true, false, ◌≡◌, ◌≢◌, ℕ, ◌≤◌, ◌⊎◌, inl, inr, Bool, if◌then◌else◌, eqb, List, [], ◌∷◌, ◌++◌, map, set, refl, sym, ap, ◌∙◌, subst, ⊎_elim, arith, Option, Some, None}
-use Rattle.std.proofs.lemmas.Bool.{false≢true}
+use Rattle.std.proofs.Common.{true, false, ◌≡◌, ℕ, ◌≤◌, ◌⊎◌, inl, inr, Bool, if◌then◌else◌, eqb, List, [], ◌∷◌, ◌++◌, map, set, refl, sym, ap, ◌∙◌, subst, ⊎_elim, arith, Option, Some, None}
 use Rattle.std.proofs.lemmas.List.{append-nil, map-set, map-append}
 use mathlib.Core.Option.{some, some-ne-none}
 use lib.ListN.{get_elem?}
 use Rattle.atomic_table.specs.Table.{Splits, Joins}
 use Rattle.atomic_table.proofs.Lists.{at_set, at_map, at_snoc, at_longer, set_again}
 use Rattle.aug_core.specs.Places.{Shape, word_count}
-use Rattle.aug_core.specs.Eras.{IsAtWork, seen_in, table_in, table_part, opening_with, Remembers, Works, IsPast, Renews, Ruled}
-use Rattle.aug_core.specs.inside.EraSteps.{MayNote}
+use Rattle.aug_core.specs.Eras.{IsAtWork, seen_in, table_in, table_part, opening_with, Remembers, Ruled}
 use Rattle.aug_core.specs.Opening.{Opening}
 use Rattle.aug_core.specs.Counts.{StandsAt}
 use Rattle.aug_core.specs.Rule.{Knows, Kept}
@@ -21,14 +19,16 @@ use Rattle.aug_core.specs.declared.view.Learnt.{Learnt}
 use Rattle.aug_core.specs.declared.view.PastEra.{PastEra}
 use Rattle.aug_core.specs.declared.view.SeatView.{SeatView}
 use Rattle.aug_core.proofs.Books.{snoc_at}
-use Rattle.aug_core.proofs.Eras.{seen_spent, spent_rests, none_renews, stands_now, views_now, present_on, placed_on, beside_on, none_later_on, none_renews_on}
+use Rattle.aug_core.proofs.Eras.{seen_spent, spent_rests, lent_none, rests_none, stands_now, views_now, present_on, placed_on, beside_on, lends_on, reading_on, none_later_on}
 use Rattle.aug_core.proofs.Joins.{joins_seat}
+use Rattle.aug_core.specs.Readers.{times_in, AreLent}
 use Rattle.aug_core.proofs.Moves.{St}
+use Rattle.aug_core.proofs.ReaderCounts.{lent_more, lent_joined}
 use Rattle.aug_core.proofs.PrefixLemmas.{book_none}
 
-module _ (face : ℕ → ℕ → List (ℕ × ℕ) → List ℕ) (o : Opening) (s : St) (r : Kept face o s) (id : ℕ) (v : SeatView) (at : get_elem? s.views id ≡ some v) where
+module _ (face : ℕ → ℕ → List (ℕ × ℕ) → List ℕ) (o : Opening) (s : St) (r : Kept face o s) (id : ℕ) (v : SeatView) (at : get_elem? s.views id ≡ some v) (reads : Bool) where
   abbrev note : SeatView
-  note = noted v
+  note = record (noted v) { reads = reads }
 
   abbrev views : List SeatView
   views = s.views ++ note ∷ []
@@ -97,23 +97,29 @@ module _ (face : ℕ → ℕ → List (ℕ × ℕ) → List ℕ) (o : Opening) (
 module _ (face : ℕ → ℕ → List (ℕ × ℕ) → List ℕ) (o : Opening) where
   -- any view may make a note
   pub notes_seat : (id : ℕ) (v : SeatView) → Splits (Kept face o) id v v (noted v)
-  notes_seat id v s r at = subst (λ (z : List SeatView). Kept face o record { words = s.words; homes = s.homes; views = z ++ noted v ∷ [] }) (sym (set_again s.views id v at)) (makes_note face o s r id v at)
+  notes_seat id v s r at = subst (λ (z : List SeatView). Kept face o record { words = s.words; homes = s.homes; views = z ++ noted v ∷ [] }) (sym (set_again s.views id v at)) (makes_note face o s r id v at false)
 
   -- and any view may take one in, which holds no lane
   pub learns_seat : (id other : ℕ) (v w : SeatView) (told : Option Learnt) → w.held ≡ [] → Joins (Kept face o) id v other w (record v { also = w.seen; told = told }) spent
   learns_seat id other v w told none = let same : v.held ++ w.held ≡ v.held = ap (λ (z : List Held). v.held ++ z) none ∙ append-nil v.held in
-      subst (λ (z : List Held). Joins (Kept face o) id v other w (record v { also = w.seen; told = told; held = z }) spent) same (joins_seat face o id other v w told)
+      subst (λ (z : List Held). Joins (Kept face o) id v other w (record v { also = w.seen; told = told; held = z }) spent) same (joins_seat face o id other v w told v.lent)
+
+-- who holds no lane and hands none out is not at work
+pub at_rest : (v : SeatView) → v.held ≡ [] → v.spare ≡ None → IsAtWork v → ⊥
+at_rest v none follows work = ⊎_elim
+    (λ t. let out : get_elem? [] t.0 ≡ some t.1 = subst (λ (z : List Held). get_elem? z t.0 ≡ some t.1) none t.2 in some-ne-none t.1 (sym out))
+    (λ t. let clash : None ≡ Some t.0 = sym follows ∙ t.1 in cc) work
 
 -- a note takes no steps
 noted_rests : (v : SeatView) → IsAtWork (noted v) → ⊥
 noted_rests v work = ⊎_elim (λ t. some-ne-none t.1 (sym t.2)) (λ t. let clash : None ≡ Some t.0 = t.1 in cc) work
 
 -- and knows of its table what its maker knows
-noted_remembers : (shape : Shape) (era : ℕ) (past : List PastEra) (v : SeatView) → Remembers shape era past v → Remembers shape era past (noted v)
+pub noted_remembers : (shape : Shape) (era : ℕ) (past : List PastEra) (v : SeatView) → Remembers shape era past v → Remembers shape era past (noted v)
 noted_remembers shape era past v r = record { shaped = r.shaped; present = r.present; learnt = λ _. tt; earlier = r.earlier }
 
 -- who holds no lane holds none in any era
-none_held : (b : Bool) (u : SeatView) → u.held ≡ [] → (if b then u else spent).held ≡ []
+pub none_held : (b : Bool) (u : SeatView) → u.held ≡ [] → (if b then u else spent).held ≡ []
 none_held true u none = none
 none_held false u none = refl
 
@@ -124,17 +130,17 @@ noted_counts false v = refl
 
 module _ (face : ℕ → ℕ → List (ℕ × ℕ) → List ℕ) (shape : Shape) where
   -- the same under the rule of all eras
-  pub notes_in_its_era : (id : ℕ) (v : SeatView) → MayNote v → Splits (Ruled face shape) id v v (noted v)
-  notes_in_its_era id v may s rule at = let again : set s.views id v ≡ s.views = set_again s.views id v at in
+  pub notes_in_its_era : (id : ℕ) (v : SeatView) → Splits (Ruled face shape) id v v (noted v)
+  notes_in_its_era id v s rule at = let again : set s.views id v ≡ s.views = set_again s.views id v at in
       let old : (j : ℕ) (x : SeatView) → get_elem? (set s.views id v) j ≡ some x → get_elem? s.views j ≡ some x = λ j x p. subst (λ (z : List SeatView). get_elem? z j ≡ some x) again p in
-      ⊎_elim
-      (λ (w : Works face shape s). let seen : SeatView → SeatView = seen_in w.era in
+      let w : Ruled face shape s = rule in
+      let seen : SeatView → SeatView = seen_in w.era in
       let kept = notes_seat face (opening_with shape w.members) id (seen v) (table_in w.era w.base (word_count shape) s) w.kept (at_map seen s.views id v at) in
       let same : set (map seen s.views) id (seen v) ++ noted (seen v) ∷ [] ≡ map seen (set s.views id v ++ noted v ∷ []) =
       ap (λ (z : List SeatView). z ++ noted (seen v) ∷ []) (sym (map-set seen s.views id v))
       ∙ ap (λ (z : SeatView). map seen (set s.views id v) ++ z ∷ []) (noted_counts (eqb v.era w.era) v)
       ∙ sym (map-append seen (set s.views id v) (noted v ∷ [])) in
-      inl record {
+      record {
         era = w.era;
         members = w.members;
         base = w.base;
@@ -147,32 +153,13 @@ module _ (face : ℕ → ℕ → List (ℕ × ℕ) → List ℕ) (shape : Shape)
         placed = λ j x p work. ⊎_elim (λ q. w.placed j x (old j x q) work) (λ q. absurd (noted_rests v (subst IsAtWork (sym q) work))) (at_snoc (set s.views id v) (noted v) x j p);
         beside = λ j m x p leads. ⊎_elim (λ q. w.beside j m x (old j x q) leads) (λ q. let clash : None ≡ Some m = ap (λ (z : SeatView). z.spare) q ∙ leads in cc) (at_snoc (set s.views id v) (noted v) x j p);
         none_later = λ j x p. ⊎_elim (λ q. w.none_later j x (old j x q)) (λ q. subst (λ (z : SeatView). z.era ≤ w.era) q (w.none_later id v at)) (at_snoc (set s.views id v) (noted v) x j p);
-        none_renews = λ j x p. ⊎_elim (λ q. w.none_renews j x (old j x q)) (λ q. subst (λ (z : SeatView). z.renews ≡ false) q refl) (at_snoc (set s.views id v) (noted v) x j p);
-      })
-      (λ (r : Renews shape s). ⊎_elim (λ work. absurd (none_renews face shape s id v at work r))
-      (λ still.
-      let other : id ≢ r.seat = λ is. let e : some v ≡ some r.view = sym (subst (λ (z : ℕ). get_elem? s.views z ≡ some v) is at) ∙ r.sits in let same : v ≡ r.view = cc e in
-      false≢true (sym still ∙ ap (λ (z : SeatView). z.renews) same ∙ r.renews) in
-      inr record {
-        seat = r.seat;
-        view = r.view;
-        sits = subst (λ (z : List SeatView). get_elem? (z ++ noted v ∷ []) r.seat ≡ some r.view) (sym again) (at_longer s.views (noted v ∷ []) r.seat r.view r.sits);
-        renews = r.renews;
-        no_work = r.no_work;
-        shaped = r.shaped;
-        words_are = r.words_are;
-        counted = r.counted;
-        others = λ j x ne p. ⊎_elim (λ q. r.others j x ne (old j x q))
-            (λ q. let was = r.others id v other at in subst (IsPast shape r.view.era r.view.past) q (record {
-              no_work = noted_rests v;
-              no_renewal = refl;
-              earlier = was.earlier;
-              remembers = λ live. noted_remembers shape r.view.era r.view.past v (was.remembers live);
-            })) (at_snoc (set s.views id v) (noted v) x j p);
-      }) may) rule
+        lent = subst (λ (z : List SeatView). AreLent (z ++ noted v ∷ [])) (sym again) (lent_more s.views w.lent (noted v) refl);
+        lends = λ j x p. ⊎_elim (λ q. w.lends j x (old j x q)) (λ q. lent_none x (ap (λ (z : SeatView). z.lent) (sym q)) w.base) (at_snoc (set s.views id v) (noted v) x j p);
+        reads = λ j x p does. ⊎_elim (λ q. w.reads j x (old j x q) does) (λ q. let clash : false ≡ true = ap (λ (z : SeatView). z.reads) q ∙ does in cc) (at_snoc (set s.views id v) (noted v) x j p);
+      }
 
   -- what a note tells is so
-  module _ (s : St) (w : Works face shape s) (id other : ℕ) (v u : SeatView) (at : get_elem? s.views id ≡ some v) (there : get_elem? s.views other ≡ some u) (live : v.live ≡ true) (live' : u.live ≡ true) (present : v.era ≡ w.era) where
+  module _ (s : St) (w : Ruled face shape s) (id other : ℕ) (v u : SeatView) (at : get_elem? s.views id ≡ some v) (there : get_elem? s.views other ≡ some u) (live : v.live ≡ true) (live' : u.live ≡ true) (present : v.era ≡ w.era) where
     same_members : u.era ≡ v.era → u.members ≡ v.members
     same_members e = (w.kept.each_view other u (stands_now face shape s other u there w (e ∙ present))).same_members live'
         ∙ sym ((w.kept.each_view id v (stands_now face shape s id v at w present)).same_members live)
@@ -194,9 +181,9 @@ module _ (face : ℕ → ℕ → List (ℕ × ℕ) → List ℕ) (shape : Shape)
     }
 
   -- who is at work takes a note in
-  pub learns_in_its_era : (id other : ℕ) (v u : SeatView) → IsAtWork v → v.live ≡ true → u.live ≡ true → u.held ≡ [] → Joins (Ruled face shape) id v other u (learning v u) spent
-  learns_in_its_era id other v u work live live' none s rule at ne at' = ⊎_elim
-      (λ (w : Works face shape s). let present : v.era ≡ w.era = w.present id v at work in
+  pub learns_in_its_era : (id other : ℕ) (v u : SeatView) → IsAtWork v → v.live ≡ true → u.live ≡ true → u.held ≡ [] → u.spare ≡ None → Joins (Ruled face shape) id v other u (learning v u) spent
+  learns_in_its_era id other v u work live live' none follows s rule at ne at' = let w : Ruled face shape s = rule in
+      let present : v.era ≡ w.era = w.present id v at work in
       let seen : SeatView → SeatView = seen_in w.era in
       let next : SeatView = learning v u in
       let there : get_elem? s.views other ≡ some u = ⊎_elim (λ t. absurd (ne t.0)) (λ t. t.1) (at_set s.views id other next u at') in
@@ -208,7 +195,7 @@ module _ (face : ℕ → ℕ → List (ℕ × ℕ) → List ℕ) (shape : Shape)
       let kept = joins (table_in w.era w.base (word_count shape) s) w.kept (stands_now face shape s id v at w present) ne there' in
       let same : set (set (map seen s.views) id next) other spent ≡ map seen (set views' other spent) =
       ap (λ (z : List SeatView). set z other spent) now ∙ ap (set (map seen views') other) (sym (seen_spent w.era)) ∙ sym (map-set seen views' other spent) in
-      inl record {
+      record {
         era = w.era;
         members = w.members;
         base = w.base;
@@ -224,6 +211,8 @@ module _ (face : ℕ → ℕ → List (ℕ × ℕ) → List ℕ) (shape : Shape)
         beside = λ j m x p leads. ⊎_elim (λ t. let clash : None ≡ Some m = ap (λ (z : SeatView). z.spare) t.1 ∙ leads in cc)
             (λ t. beside_on face shape s id v at w present next refl refl (λ k e. (k, e)) j m x t.1 leads) (at_set views' other j spent x p);
         none_later = λ j x p. ⊎_elim (λ t. subst (λ (z : SeatView). z.era ≤ w.era) t.1 (omega arith)) (λ t. none_later_on face shape s id v at w present next refl j x t.1) (at_set views' other j spent x p);
-        none_renews = λ j x p. ⊎_elim (λ t. subst (λ (z : SeatView). z.renews ≡ false) t.1 refl) (λ t. none_renews_on face shape s id v at w present next refl refl j x t.1) (at_set views' other j spent x p);
-      })
-      (λ (r : Renews shape s). absurd (none_renews face shape s id v at work r)) rule
+        lent = lent_joined s.views w.lent id other v u next at ne there (λ b. let none_lent : times_in b u.lent ≡ 0 = rests_none face shape s other u there w (at_rest u none follows) b in omega arith);
+        lends = λ j x p. ⊎_elim (λ t. lent_none x (ap (λ (z : SeatView). z.lent) (sym t.1)) w.base) (λ t. lends_on face shape s id v at w present next refl refl (λ m e. (m, e)) (λ go. go) j x t.1) (at_set views' other j spent x p);
+        reads = λ j x p does. ⊎_elim (λ t. let clash : false ≡ true = ap (λ (z : SeatView). z.reads) t.1 ∙ does in cc)
+            (λ t. reading_on face shape s id v at w present next refl s.words (w.placed id v at work) (λ _ _ r. r) j x t.1 does) (at_set views' other j spent x p);
+      }

@@ -170,8 +170,8 @@ module _ (face : ℕ → ℕ → List (ℕ × ℕ) → List ℕ) (o : Opening) w
   opening_fits = record { few = λ key low. let long = leaf_long key low in let one = at_most_one (is_member (keys_of o.members) key) in omega arith }
 
   -- the view of the seat that opens the table, in an era of the table, whose words are known to it
-  abbrev pub opener : List PastEra → ℕ → ℕ → List ℕ → List ℕ → SeatView
-  opener past era base known whole = record {
+  abbrev pub opener : List PastEra → ℕ → ℕ → List ℕ → List ℕ → List ℕ → SeatView
+  opener past era base lent known whole = record {
     live = true;
     era = era;
     past = past;
@@ -183,7 +183,8 @@ module _ (face : ℕ → ℕ → List (ℕ × ℕ) → List ℕ) (o : Opening) w
     told = None;
     held = [];
     spare = Some 0;
-    renews = false;
+    reads = false;
+    lent = lent;
     words = known;
     whole = whole;
     began = no_beginning;
@@ -194,11 +195,11 @@ module _ (face : ℕ → ℕ → List (ℕ × ℕ) → List ℕ) (o : Opening) w
   pub record IsAlone (views : List SeatView) (id : ℕ) (first : SeatView) : Type 0 where
     pub each : (j : ℕ) (x : SeatView) → get_elem? views j ≡ some x → ((j ≡ id) × (first ≡ x)) ⊎ (spent ≡ x)
 
-  module _ (views : List SeatView) (past : List PastEra) (id era base : ℕ) (known whole : List ℕ) (one : IsAlone views id (opener past era base known whole)) where
+  module _ (views : List SeatView) (past : List PastEra) (id era base : ℕ) (lent known whole : List ℕ) (one : IsAlone views id (opener past era base lent known whole)) where
     -- nobody holds a lane
     holds_none : (j a : ℕ) (x : SeatView) (h : Held) → get_elem? views j ≡ some x → get_elem? x.held a ≡ some h → ⊥
     holds_none j a x h p q = ⊎_elim
-        (λ t. let out : get_elem? (opener past era base known whole).held a ≡ some h = subst (λ (z : SeatView). get_elem? z.held a ≡ some h) (sym t.1) q in some-ne-none h (sym out))
+        (λ t. let out : get_elem? (opener past era base lent known whole).held a ≡ some h = subst (λ (z : SeatView). get_elem? z.held a ≡ some h) (sym t.1) q in some-ne-none h (sym out))
         (λ t. let out : get_elem? spent.held a ≡ some h = subst (λ (z : SeatView). get_elem? z.held a ≡ some h) (sym t) q in some-ne-none h (sym out)) (one.each j x p)
 
     -- and one hands lanes out
@@ -260,9 +261,9 @@ module _ (face : ℕ → ℕ → List (ℕ × ℕ) → List ℕ) (o : Opening) w
         }
 
   -- what such a seat knows of its table
-  pub opener_knows : (past : List PastEra) (era base : ℕ) (known whole : List ℕ) → IsLayout o.shape → IsKeySet o.shape.bits (keys_of o.members) → All FitsPair o.members → length (keys_of o.members) ≤ o.shape.members → KnowsTable face (opener past era base known whole)
-  opener_knows past era base known whole laid_out key_set fit few = record { laid_out = laid_out; key_set = key_set; members_fit = fit; few_members = let long = length-keys_of o.members in omega arith; book = is_book (rises_from (keys_of o.members) key_set.rising) fit few; opened = book_refl book; fits = opening_fits }
+  pub opener_knows : (past : List PastEra) (era base : ℕ) (lent known whole : List ℕ) → IsLayout o.shape → IsKeySet o.shape.bits (keys_of o.members) → All FitsPair o.members → length (keys_of o.members) ≤ o.shape.members → KnowsTable face (opener past era base lent known whole)
+  opener_knows past era base lent known whole laid_out key_set fit few = record { laid_out = laid_out; key_set = key_set; members_fit = fit; few_members = let long = length-keys_of o.members in omega arith; book = is_book (rises_from (keys_of o.members) key_set.rising) fit few; opened = book_refl book; fits = opening_fits }
 
   -- the first seat knows its table
   pub newcomer_knows : (n : ℕ) → IsLayout o.shape → IsKeySet o.shape.bits (keys_of o.members) → All FitsPair o.members → length (keys_of o.members) ≤ o.shape.members → KnowsTable face (newcomer face record { opening = o; words = n })
-  newcomer_knows n = opener_knows [] 0 0 [] (replicate n 0)
+  newcomer_knows n = opener_knows [] 0 0 [] [] (replicate n 0)

@@ -1,8 +1,8 @@
--- One seat renews a table: it begins to, stores and loads any words, and opens the table again.
-use Rattle.std.proofs.Common.{true, false, ◌≡◌, ◌≢◌, ◌⊎◌, inl, inr, ℕ, zero, suc, ◌+◌, ◌*◌, ◌^◌, ◌<◌, ◌≤◌, Bool, if◌then◌else◌, ltb, lt-ltb, List, [], ◌∷◌, ◌++◌, length, map, get_or, set, get_or-set_same, get_or-set_other, refl, sym, ap, ◌∙◌, subst, ⊎_elim, arith, Some, None, length-set, length-append, append_assoc, replicate}
-use Rattle.std.proofs.lemmas.Bool.{cases_eq, cases_lt, false≢true}
+-- A table is renewed: its lead stores and loads words beside the part at work, and opens another part over what it laid out there.
+use Rattle.std.proofs.Common.{true, false, ◌≡◌, ◌≢◌, ◌⊎◌, inl, inr, ℕ, zero, suc, ◌+◌, ◌*◌, ◌^◌, ◌<◌, ◌≤◌, Bool, if◌then◌else◌, ltb, lt-ltb, List, [], ◌∷◌, ◌++◌, length, map, get_or, set, get_or-set_same, get_or-set_other, refl, sym, ap, ◌∙◌, subst, ⊎_elim, arith, Some, length-set, length-append, append_assoc, replicate}
+use Rattle.std.proofs.lemmas.Bool.{cases_eq, cases_lt}
 use Rattle.std.proofs.lemmas.List.{set-get_or, get_or_past, get_or-replicate, length-replicate}
-use mathlib.Core.Option.{none, some, some-ne-none}
+use mathlib.Core.Option.{none, some}
 use lib.ListN.{get_elem?}
 use Rattle.atomic_table.specs.Table.{step, keeps, opening, Allows}
 use Rattle.atomic_table.proofs.Lists.{set_again, at_set}
@@ -13,14 +13,16 @@ use Rattle.aug_model.proofs.Ranges.{Rises, rises_from, all_below_from, range_cut
 use Rattle.aug_core.specs.Places.{Shape, word_count}
 use Rattle.aug_core.specs.Lanes.{block_start, block_size}
 use Rattle.aug_core.specs.Book.{Book}
-use Rattle.aug_core.specs.Addresses.{IsInner}
+use Rattle.aug_core.specs.Addresses.{IsInner, root_place}
 use Rattle.aug_core.specs.Opening.{Opening}
-use Rattle.aug_core.specs.Rule.{Knows, Kept, newcomer}
+use Rattle.aug_core.specs.Rule.{Lists, Knows, Kept, newcomer}
 use Rattle.aug_core.specs.Kinds.{load_node}
 use Rattle.aug_core.specs.Effects.{Sat, in_part, opening_of, seeing}
 use Rattle.aug_core.specs.Pasts.{IsEarlier}
-use Rattle.aug_core.specs.Eras.{IsAtWork, seen_in, table_in, table_part, IsBeside, opening_with, Remembers, Works, IsPast, Renews, Ruled}
-use Rattle.aug_core.specs.Renewals.{HoldsAll, BeginsRenewal, renewing, rewriting, rewrote, reread, EndWith, surveyed, began_renewal, IsOpened, reopening, reopened}
+use Rattle.aug_core.specs.Readers.{IsAside, FindsRecords, ReadsOn}
+use Rattle.aug_core.specs.inside.ClearParts.{IsClear, IsClearPart}
+use Rattle.aug_core.specs.Eras.{IsAtWork, seen_in, table_in, table_part, IsBeside, opening_with, Remembers, Ruled}
+use Rattle.aug_core.specs.Renewals.{HoldsAll, Reopens, renewing, rewriting, rewrote, reread, EndWith, surveyed, IsOpened, reopening, reopened}
 use Rattle.aug_core.specs.inside.EraSteps.{WithEra}
 use Rattle.aug_core.specs.declared.view.Held.{Held}
 use Rattle.aug_core.specs.declared.view.PastEra.{PastEra}
@@ -35,7 +37,10 @@ use Rattle.aug_core.proofs.Loads.{shows_node}
 use Rattle.aug_core.proofs.Stores.{alone}
 use Rattle.aug_core.proofs.Views.{now_there}
 use Rattle.aug_core.proofs.Openings.{IsAlone, opens}
-use Rattle.aug_core.proofs.Eras.{part_get, part_apart, views_now, present_on, placed_on, none_later_on, none_renews_on, seen_now, seen_past, hands_out, none_renews, stands_now, in_its_era}
+use Rattle.aug_core.proofs.ReaderCounts.{who_answers, lent_set, lent_same}
+use Rattle.aug_core.proofs.PlaceLemmas.{keys-within}
+use Rattle.aug_core.specs.Layout.{IsLayout}
+use Rattle.aug_core.proofs.Eras.{part_apart, beside_same, finds_set, finds_now, lent_none, lends_on, views_now, present_on, placed_on, none_later_on, seen_now, seen_past, hands_out, stands_now, in_its_era}
 
 -- ---- words open a table over one set alone
 
@@ -86,67 +91,7 @@ module _ (face : ℕ → ℕ → List (ℕ × ℕ) → List ℕ) (shape : Shape)
       ∙ (λ i. pairs_of (λ k. weight_same k i) (keys_same i))
       ∙ pairs-again (weight_in ns) ns (agrees-own ns up')
 
--- ---- who renews does so alone
-
 module _ (face : ℕ → ℕ → List (ℕ × ℕ) → List ℕ) (shape : Shape) where
-  -- what holds while this view's seat renews the table
-  pub record IsAloneAt (s : St) (id : ℕ) (v : SeatView) : Type 0 where
-    pub no_work : IsAtWork v → ⊥
-    pub shaped : v.shape ≡ shape
-    pub words_are : s.words ≡ v.whole
-    pub counted : length v.past ≡ v.era
-    pub others : (j : ℕ) (u : SeatView) → j ≢ id → get_elem? s.views j ≡ some u → IsPast shape v.era v.past u
-
-  pub is_alone_at : (s : St) → Ruled face shape s → (id : ℕ) (v : SeatView) → get_elem? s.views id ≡ some v → v.renews ≡ true → IsAloneAt s id v
-  is_alone_at s rule id v at does = ⊎_elim
-      (λ (w : Works face shape s). absurd (false≢true (sym (w.none_renews id v at) ∙ does)))
-      (λ (r : Renews shape s). ⊎_elim
-      (λ (is : id ≡ r.seat). let e : some r.view ≡ some v = sym r.sits ∙ subst (λ (z : ℕ). get_elem? s.views z ≡ some v) is at in let same : r.view ≡ v = cc e in
-      subst (IsAloneAt s id) same record {
-        no_work = r.no_work;
-        shaped = r.shaped;
-        words_are = r.words_are;
-        counted = r.counted;
-        others = λ j u ne p. r.others j u (λ e. ne (e ∙ sym is)) p;
-      })
-      (λ other. absurd (false≢true (sym (r.others id v other at).no_renewal ∙ does))) (cases_eq id r.seat)) rule
-
-  module _ (s : St) (id : ℕ) (v : SeatView) (at : get_elem? s.views id ≡ some v) (l : IsAloneAt s id v) where
-    -- it goes on to, where it knows all words
-    pub renews_on : (words : List ℕ) (u : SeatView) → u.era ≡ v.era → u.past ≡ v.past → u.renews ≡ true → (IsAtWork u → ⊥) → u.shape ≡ v.shape → words ≡ u.whole
-        → Renews shape record { words = words; homes = s.homes; views = set s.views id u }
-    renews_on words u era past does no_work shaped words_are = record {
-      seat = id;
-      view = u;
-      sits = now_there s.views id v u at;
-      renews = does;
-      no_work = no_work;
-      shaped = shaped ∙ l.shaped;
-      words_are = words_are;
-      counted = ap (λ (z : List PastEra). length z) past ∙ l.counted ∙ sym era;
-      others = λ j x ne p. ⊎_elim (λ t. absurd (ne t.0)) (λ t. subst (λ (z : ℕ × List PastEra). IsPast shape z.0 z.1 x) (λ i. (sym era i, sym past i)) (l.others j x ne t.1)) (at_set s.views id j u x p);
-    }
-
-  -- a store of any word
-  pub rewrites : (n id i x : ℕ) (me : Sat) → me.0.renews ≡ true → me.1 ≡ [] → Allows (Ruled face shape) n id me i (λ _. x) (λ _ m. rewrote (step n i x 0 none) me x m)
-  rewrites n id i x me does empty s rule _ at _ = let v : SeatView = me.0 in let l = is_alone_at s rule id v at does in (
-    rewriting v i x,
-    keeps,
-    tt,
-    inr (renews_on s id v at l (set s.words i x) (rewriting v i x) refl refl does l.no_work refl (ap (λ (z : List ℕ). set z i x) l.words_are)),
-    (empty, refl),
-  )
-
-  -- a load of any word
-  pub rereads : (n id i : ℕ) (me : Sat) → me.0.renews ≡ true → me.1 ≡ [] → Allows (Ruled face shape) n id me i (λ z. z) (reread (step n i 0 0 none) me)
-  rereads n id i me does empty s rule _ at _ = let v : SeatView = me.0 in let l = is_alone_at s rule id v at does in let same = set-get_or s.words i 0 in (
-    v,
-    keeps,
-    tt,
-    inr (renews_on s id v at l (set s.words i (get_or s.words i 0)) v refl refl does l.no_work refl (same ∙ l.words_are)),
-    (empty, refl, ap (λ (z : List ℕ). get_or z i 0) l.words_are),
-  )
-
   -- ---- a survey
 
   -- a load under the rule of an opening, with which the table then meets that rule
@@ -174,7 +119,8 @@ module _ (face : ℕ → ℕ → List (ℕ × ℕ) → List ℕ) (shape : Shape)
               };
             },
           ),
-          record { live = refl; era = refl; past = refl; shape = refl; members = refl; told = refl; renews = refl; base = refl; whole = refl; led = λ m e. (m, e) },
+          record { live = refl; era = refl; past = refl; shape = refl; members = refl; told = refl; base = refl; whole = refl; led = λ m e. (m, e) },
+          record { reads = refl; lent = refl; leads = λ m e. (m, e); works = λ work. work },
         ),
       )
 
@@ -183,9 +129,9 @@ module _ (face : ℕ → ℕ → List (ℕ × ℕ) → List ℕ) (shape : Shape)
       → Allows (Ruled face shape) n id me i (λ z. z) (in_part (surveyed face) (step n i 0 0 none) me)
   surveys n id place i me work live empty inside at = in_its_era face shape n id place i me (λ z. z) (λ w. surveyed face (step n w 0 0 none) me) work live inside at (λ o. surveys_under o n id place me live empty)
 
-  -- ---- the beginning
+  -- ---- a renewal
 
-  module _ (s : St) (w : Works face shape s) (id : ℕ) (v : SeatView) (at : get_elem? s.views id ≡ some v) (live : v.live ≡ true) (present : v.era ≡ w.era) where
+  module _ (s : St) (w : Ruled face shape s) (id : ℕ) (v : SeatView) (at : get_elem? s.views id ≡ some v) (live : v.live ≡ true) (present : v.era ≡ w.era) where
     abbrev now : Opening
     now = opening_with shape w.members
 
@@ -266,114 +212,114 @@ module _ (face : ℕ → ℕ → List (ℕ × ℕ) → List ℕ) (shape : Shape)
             saw = t.saw;
           }) (cases_eq u.era w.era)
 
-      pub begins : (i k : ℕ) → Renews shape record { words = set s.words k (get_or s.words k 0); homes = s.homes; views = set s.views id (renewing (last i) s.words) }
-      begins i k = record {
-        seat = id;
-        view = renewing (last i) s.words;
-        sits = now_there s.views id v (renewing (last i) s.words) at;
-        renews = refl;
-        no_work = λ work. ⊎_elim (λ t. some-ne-none t.1 (sym t.2)) (λ t. let clash : None ≡ Some t.0 = t.1 in cc) work;
-        shaped = shape_is;
-        words_are = set-get_or s.words k 0;
-        counted = let long = length-append v.past (over ∷ []) in let was = ap (λ (z : List PastEra). length z) same_past in let counted = w.counted in let e = present in omega arith;
-        others = λ j u ne p. ⊎_elim (λ t. absurd (ne t.0)) (λ t. let le = w.none_later j u t.1 in record {
-          no_work = no_other j u ne t.1;
-          no_renewal = w.none_renews j u t.1;
-          earlier = let e = present in omega arith;
-          remembers = λ live'. record {
-            shaped = (w.remembers j u t.1 live').shaped;
-            present = λ same. let e = present in absurd (omega arith);
-            learnt = λ same. let e = present in absurd (omega arith);
-            earlier = λ _. ended j u t.1 live';
-          };
-        }) (at_set s.views id j (renewing (last i) s.words) u p);
-      }
+      -- who reads finds its records, be it of this era or of an earlier one
+      finds_still : (j : ℕ) (u : SeatView) → get_elem? s.views j ≡ some u → u.reads ≡ true → FindsRecords shape s.words u
+      finds_still j u p does = let r = w.reads j u p does in let le = w.none_later j u p in ⊎_elim
+          (λ (e : u.era ≡ w.era). finds_now face shape s j u p w e (r.now e))
+          (λ ne. (r.before (omega (arith, ne))).1) (cases_eq u.era w.era)
 
-  -- a lead that holds all lanes which it handed out begins to renew its table
-  pub begins_renewal : (n id i j : ℕ) (me : Sat) → me.0.live ≡ true → me.1 ≡ [] → i < word_count me.0.shape → j ≡ me.0.base + i → HoldsAll me.0
-      → Allows (Ruled face shape) n id me j (λ z. z) (in_part (began_renewal face) (step n j 0 0 none) me)
-  begins_renewal n id i j me live empty small is all s rule long at fits = let v : SeatView = me.0 in let work = hands_out v all.next all.hands_out in ⊎_elim
-      (λ (w : Works face shape s). let present = w.present id v at work in let size : ℕ = word_count shape in let words : List ℕ = table_part w.base size s.words in
-      let here : w.base ≡ v.base = sym (w.placed id v at work) in let shaped : shape ≡ v.shape = sym (shape_is s w id v at live present) in let inside : i < size = subst (λ (z : Shape). i < word_count z) (sym shaped) small in
-      let loads : get_or words i 0 ≡ get_or s.words j 0 = part_get w.base size i s.words inside ∙ ap (λ (z : ℕ). get_or s.words (z + i) 0) here ∙ ap (λ (z : ℕ). get_or s.words z 0) (sym is) in
-      let next : SeatView = renewing (last s w id v at live present all i) s.words in (
-        next,
+      -- for each reader it answers itself
+      answers : (j : ℕ) (u : SeatView) → j ≢ id → get_elem? s.views j ≡ some u → u.reads ≡ true → Lists v.lent u.base
+      answers j u ne p does = let t = who_answers s.views w.lent j u p does in ⊎_elim
+          (λ (is : t.0 ≡ id). let e : some t.1 ≡ some v = sym t.2 ∙ subst (λ (z : ℕ). get_elem? s.views z ≡ some v) (sym is) at in let same : t.1 ≡ v = cc e in subst (λ (z : SeatView). Lists z.lent u.base) same t.3)
+          (λ other. absurd (no_other t.0 t.1 other t.2 (w.lends t.0 t.1 t.2 u.base t.3).0)) (cases_eq t.0 id)
+
+      -- it opens another part, whose words are those of an opening over these members
+      module _ (i base : ℕ) (members : List (ℕ × ℕ)) (clear : IsClearPart (word_count v.shape) v.lent base) (opened : IsOpened face (opening_with v.shape members) (table_part base (word_count v.shape) s.words)) where
+        abbrev idle : SeatView
+        idle = renewing (last i) s.words
+
+        abbrev first : SeatView
+        first = reopening face members base idle
+
+        abbrev era : ℕ
+        era = v.era + 1
+
+        abbrev views : List SeatView
+        views = map (seen_in era) (set s.views id first)
+
+        -- the others are of an earlier era
+        before : (j : ℕ) (u : SeatView) → get_elem? s.views j ≡ some u → u.era < era
+        before j u p = let le = w.none_later j u p in let e = present in omega arith
+
+        is_alone : IsAlone face (opening_with v.shape members) views id first
+        is_alone = record {
+          each = λ j x p. let t = map_at (seen_in era) (set s.views id first) j x p in ⊎_elim
+              (λ q. inl (q.0, sym (seen_now era first refl) ∙ ap (seen_in era) q.1 ∙ t.2))
+              (λ q. let past = before j t.0 q.1 in inr (sym (seen_past era t.0 (λ e. absurd (omega arith))) ∙ t.2)) (at_set s.views id j first t.0 t.1);
+        }
+
+        pub opens_again : (k : ℕ) → Ruled face shape record { words = set s.words k (get_or s.words k 0); homes = s.homes; views = set s.views id first }
+        opens_again k = let same : s.words ≡ set s.words k (get_or s.words k 0) = sym (set-get_or s.words k 0) in record {
+          era = era;
+          members = members;
+          base = base;
+          kept = subst (λ (z : Shape × List ℕ). Kept face (opening_with z.0 members) record { words = table_part base (word_count z.0) z.1; homes = s.homes; views = views }) (λ n. (shape_is n, same n))
+              (opens face (opening_with v.shape members) views idle.past id era base v.lent (table_part base (word_count v.shape) s.words) s.words is_alone (table_part base (word_count v.shape) s.words) s.homes opened (λ lane n low small. refl));
+          past = idle.past;
+          counted = let long = length-append v.past (over ∷ []) in let was = ap (λ (z : List PastEra). length z) same_past in let counted = w.counted in let e = present in omega arith;
+          remembers = λ j x p live'. ⊎_elim
+              (λ t. subst (Remembers shape era idle.past) t.1 record { shaped = shape_is; present = λ _. refl; learnt = λ _. tt; earlier = λ less. absurd (omega arith) })
+              (λ t. let less = before j x t.1 in record {
+                shaped = (w.remembers j x t.1 live').shaped;
+                present = λ now. absurd (omega arith);
+                learnt = λ now. absurd (omega arith);
+                earlier = λ _. ended j x t.1 live';
+              }) (at_set s.views id j first x p);
+          present = λ j x p work. ⊎_elim (λ t. ap (λ (z : SeatView). z.era) (sym t.1)) (λ t. absurd (no_other j x t.0 t.1 work)) (at_set s.views id j first x p);
+          placed = λ j x p work. ⊎_elim (λ t. ap (λ (z : SeatView). z.base) (sym t.1)) (λ t. absurd (no_other j x t.0 t.1 work)) (at_set s.views id j first x p);
+          beside = λ j n x p leads. ⊎_elim
+              (λ t. let are = ap (λ (z : SeatView). z.whole) (sym t.1) ∙ same in record { long = ap length are; same = λ m _. ap (λ (z : List ℕ). get_or z m 0) are })
+              (λ t. absurd (no_other j x t.0 t.1 (hands_out x n leads))) (at_set s.views id j first x p);
+          none_later = λ j x p. ⊎_elim (λ t. let e = ap (λ (z : SeatView). z.era) t.1 in omega arith) (λ t. let e = before j x t.1 in omega arith) (at_set s.views id j first x p);
+          lent = lent_set s.views w.lent id v first at (λ b. omega arith);
+          lends = λ j x p b has. ⊎_elim (λ t. subst (λ (z : SeatView). IsAtWork z × ((b ≡ base) ⊎ ((n : ℕ) × (z.spare ≡ Some n)))) t.1 (hands_out first 0 refl, inr (0, refl)))
+              (λ t. absurd (no_other j x t.0 t.1 (w.lends j x t.1 b has).0)) (at_set s.views id j first x p);
+          reads = λ j x p does. ⊎_elim (λ t. let clash : false ≡ true = ap (λ (z : SeatView). z.reads) t.1 ∙ does in cc)
+              (λ t. let less = before j x t.1 in record {
+                now = λ e. absurd (omega arith);
+                before = λ _. (subst (λ (z : Shape). IsAside (word_count z) base x.base) shape_is (clear x.base (answers j x t.0 t.1 does)), subst (λ (z : List ℕ). FindsRecords shape z x) same (finds_still j x t.1 does));
+              }) (at_set s.views id j first x p);
+        }
+
+  root_inner : (s : Shape) → 1 ≤ s.bits → s.bits ≤ 16 → IsInner s (root_place s)
+  root_inner s some_bits few = let b = (keys-within s.bits some_bits few).0 in let t = twice s.bits in record { past_leaves = omega arith; inside = omega arith }
+
+  -- a lead that holds all lanes which it handed out, and has laid another part out, opens it by a load of its first word
+  pub reopens : (n id base : ℕ) (me : Sat) (members : List (ℕ × ℕ)) → me.0.live ≡ true → me.1 ≡ [] → IsLayout me.0.shape → HoldsAll me.0 → IsAside (word_count me.0.shape) me.0.base base → base + word_count me.0.shape ≤ length me.0.whole → IsClearPart (word_count me.0.shape) me.0.lent base
+      → IsOpened face (opening_with me.0.shape members) (table_part base (word_count me.0.shape) me.0.whole) → Allows (Ruled face shape) n id me base (λ z. z) (reopened face (step n base 0 0 none) me)
+  reopens n id base me members live empty laid_out all aside inside clear opened s rule _ at _ =
+      let v : SeatView = me.0 in let work = hands_out v all.next all.hands_out in let w : Ruled face shape s = rule in let present = w.present id v at work in let size : ℕ = word_count v.shape in
+      let here : w.base ≡ v.base = sym (w.placed id v at work) in let shaped : shape ≡ v.shape = sym (shape_is s w id v at live present) in
+      let beside : IsBeside v.base size v.whole s.words = subst (λ (z : ℕ × Shape). IsBeside z.0 (word_count z.1) v.whole s.words) (λ k. (here k, shaped k)) (w.beside id all.next v at all.hands_out) in
+      let same : table_part base size s.words ≡ table_part base size v.whole = beside_same v.base size base size v.whole s.words aside inside beside in
+      let opened' : IsOpened face (opening_with v.shape members) (table_part base size s.words) = subst (IsOpened face (opening_with v.shape members)) (sym same) opened in
+      let top : ℕ = root_place v.shape in let part : List ℕ = table_part w.base (word_count shape) s.words in (
+        first s w id v at live present all top base members clear opened',
         keeps,
         tt,
-        inr (begins s w id v at live present all i j),
-        λ p e. (
+        opens_again s w id v at live present all top base members clear opened' base,
+        (
           empty,
-          subst (λ (z : ℕ × ℕ). IsInner v.shape z.0 → BeginsRenewal face v z.0 z.1 next) (λ k. ((let same : i ≡ p = omega (arith, is, e) in same) k, loads k)) (λ inner. record {
-            last = last s w id v at live present all i;
-            loaded = shows_node face (now s w id v at live present) (table_in w.era w.base size s) w.kept id v (stands_now face shape s id v at w present) live i inner;
+          λ others opened''. subst (λ (z : List (ℕ × ℕ)). Reopens face z base v (first s w id v at live present all top base members clear opened')) (one_set face v.shape (table_part base size v.whole) members others opened opened'') record {
+            root = get_or part top 0;
+            last = last s w id v at live present all top;
+            loaded = shows_node face (now s w id v at live present) (table_in w.era w.base (word_count shape) s) w.kept id v (stands_now face shape s id v at w present) live top (root_inner v.shape laid_out.bits.0 laid_out.bits.1);
+            whole = s.words;
+            beside = beside;
+            ends = subst (λ (z : ℕ × Shape). EndWith face (opening_of v) (last s w id v at live present all top) (table_part z.0 (word_count z.1) s.words)) (λ k. (here k, shaped k)) (met_after s w id v at live present all top);
             stepped = refl;
-            beside = subst (λ (z : ℕ × Shape). IsBeside z.0 (word_count z.1) v.whole s.words) (λ k. (here k, shaped k)) (w.beside id all.next v at all.hands_out);
-            ends = subst (λ (z : ℕ × Shape). EndWith face (opening_of v) (last s w id v at live present all i) (table_part z.0 (word_count z.1) s.words)) (λ k. (here k, shaped k)) (met_after s w id v at live present all i);
-          }),
+          },
         ),
-      ))
-      (λ (r : Renews shape s). absurd (none_renews face shape s id v at work r)) rule
-
-  -- ---- and the end
-
-  module _ (s : St) (id base : ℕ) (v : SeatView) (at : get_elem? s.views id ≡ some v) (l : IsAloneAt s id v) (members : List (ℕ × ℕ)) (opened : IsOpened face (opening_with v.shape members) (table_part base (word_count v.shape) v.whole)) where
-    abbrev first : SeatView
-    first = reopening face members base v
-
-    abbrev views : List SeatView
-    views = map (seen_in v.era) (set s.views id first)
-
-    is_alone : IsAlone face (opening_with v.shape members) views id first
-    is_alone = record {
-      each = λ j x p. let t = map_at (seen_in v.era) (set s.views id first) j x p in ⊎_elim
-          (λ q. inl (q.0, sym (seen_now v.era first refl) ∙ ap (seen_in v.era) q.1 ∙ t.2))
-          (λ q. let past = (l.others j t.0 q.0 q.1).earlier in inr (sym (seen_past v.era t.0 (λ e. absurd (omega arith))) ∙ t.2)) (at_set s.views id j first t.0 t.1);
-    }
-
-    kept_again : Kept face (opening_with v.shape members) record { words = table_part base (word_count v.shape) s.words; homes = s.homes; views = views }
-    kept_again = let are = ap (table_part base (word_count v.shape)) l.words_are in
-        opens face (opening_with v.shape members) views v.past id v.era base (table_part base (word_count v.shape) v.whole) v.whole is_alone (table_part base (word_count v.shape) s.words) s.homes
-        (subst (IsOpened face (opening_with v.shape members)) (sym are) opened) (λ lane k low small. ap (λ (z : List ℕ). get_or z (block_start v.shape lane + k) 0) are)
-
-    pub opens_again : Works face shape record { words = set s.words base (get_or s.words base 0); homes = s.homes; views = set s.views id first }
-    opens_again = let same : v.whole ≡ set s.words base (get_or s.words base 0) = sym l.words_are ∙ sym (set-get_or s.words base 0) in record {
-      era = v.era;
-      members = members;
-      base = base;
-      kept = subst (λ (z : Shape × List ℕ). Kept face (opening_with z.0 members) record { words = table_part base (word_count z.0) z.1; homes = s.homes; views = views }) (λ k. (l.shaped k, sym (set-get_or s.words base 0) k)) kept_again;
-      past = v.past;
-      counted = l.counted;
-      remembers = λ j x p live. ⊎_elim
-          (λ t. subst (Remembers shape v.era v.past) t.1 record { shaped = l.shaped; present = λ _. refl; learnt = λ _. tt; earlier = λ less. absurd (omega arith) })
-          (λ t. (l.others j x t.0 t.1).remembers live) (at_set s.views id j first x p);
-      present = λ j x p work. ⊎_elim (λ t. ap (λ (z : SeatView). z.era) (sym t.1)) (λ t. absurd ((l.others j x t.0 t.1).no_work work)) (at_set s.views id j first x p);
-      placed = λ j x p work. ⊎_elim (λ t. ap (λ (z : SeatView). z.base) (sym t.1)) (λ t. absurd ((l.others j x t.0 t.1).no_work work)) (at_set s.views id j first x p);
-      beside = λ j n x p leads. ⊎_elim
-          (λ t. let are = ap (λ (z : SeatView). z.whole) (sym t.1) ∙ same in record { long = ap length are; same = λ k _. ap (λ (z : List ℕ). get_or z k 0) are })
-          (λ t. absurd ((l.others j x t.0 t.1).no_work (hands_out x n leads))) (at_set s.views id j first x p);
-      none_later = λ j x p. ⊎_elim (λ t. let e = ap (λ (z : SeatView). z.era) t.1 in omega arith) (λ t. let e = (l.others j x t.0 t.1).earlier in omega arith) (at_set s.views id j first x p);
-      none_renews = λ j x p. ⊎_elim (λ t. ap (λ (z : SeatView). z.renews) (sym t.1)) (λ t. (l.others j x t.0 t.1).no_renewal) (at_set s.views id j first x p);
-    }
-
-  -- who has written the words of a part of a table that opens so opens it there again
-  pub reopens : (n id base : ℕ) (me : Sat) (members : List (ℕ × ℕ)) → me.0.renews ≡ true → me.1 ≡ [] → IsOpened face (opening_with me.0.shape members) (table_part base (word_count me.0.shape) me.0.whole)
-      → Allows (Ruled face shape) n id me base (λ z. z) (reopened face (step n base 0 0 none) me)
-  reopens n id base me members does empty opened s rule _ at _ = let v : SeatView = me.0 in let l = is_alone_at s rule id v at does in (
-    reopening face members base v,
-    keeps,
-    tt,
-    inl (opens_again s id base v at l members opened),
-    (empty, λ others opened'. ap (λ (z : List (ℕ × ℕ)). reopening face z base v) (one_set face v.shape (table_part base (word_count v.shape) v.whole) members others opened opened')),
-  )
+      )
 
   -- ---- the lead lays out what is beside the part at work
 
   -- the lead loads any word beside the part
   pub looks_beside : (n id next i : ℕ) (me : Sat) → me.0.spare ≡ Some next → me.1 ≡ [] → me.0.live ≡ true → (i < me.0.base) ⊎ (me.0.base + word_count me.0.shape ≤ i) → Allows (Ruled face shape) n id me i (λ z. z) (reread (step n i 0 0 none) me)
   looks_beside n id next i me leads empty live apart s rule _ at _ = let v : SeatView = me.0 in let work = hands_out v next leads in
-      let found : get_or s.words i 0 ≡ get_or v.whole i 0 = ⊎_elim
-      (λ (w : Works face shape s). sym ((w.beside id next v at leads).same i (subst (λ (z : ℕ × Shape). (i < z.0) ⊎ (z.0 + word_count z.1 ≤ i)) (λ k. (w.placed id v at work k, (w.remembers id v at live).shaped k)) apart)))
-      (λ (r : Renews shape s). absurd (none_renews face shape s id v at work r)) rule in (
+      let found : get_or s.words i 0 ≡ get_or v.whole i 0 = let w : Ruled face shape s = rule in
+      sym ((w.beside id next v at leads).same i (subst (λ (z : ℕ × Shape). (i < z.0) ⊎ (z.0 + word_count z.1 ≤ i)) (λ k. (w.placed id v at work k, (w.remembers id v at live).shaped k)) apart)) in (
         v,
         keeps,
         tt,
@@ -396,10 +342,20 @@ module _ (face : ℕ → ℕ → List (ℕ × ℕ) → List ℕ) (shape : Shape)
         (λ ne. get_or-set_other known i k x 0 ne ∙ b.same k apart ∙ sym (get_or-set_other words i k x 0 ne)) (cases_eq k i);
   }
 
+  -- no reader reads a word beside the part that lies in no part for which the lead answers
+  clear_of_reader : (s : St) (id : ℕ) (v : SeatView) (at : get_elem? s.views id ≡ some v) (w : Ruled face shape s) (present : v.era ≡ w.era) {next i : ℕ} → v.spare ≡ Some next → IsAtWork v → IsClear (word_count shape) v.lent i
+      → (i < w.base) ⊎ (w.base + word_count shape ≤ i) → (j : ℕ) (y : SeatView) → get_elem? s.views j ≡ some y → y.reads ≡ true → (i < y.base) ⊎ (y.base + word_count shape ≤ i)
+  clear_of_reader s id v at w present {next} {i} leads work free apart j y p does = let t = who_answers s.views w.lent j y p does in let l = w.lends t.0 t.1 t.2 y.base t.3 in ⊎_elim
+      (λ (here : y.base ≡ w.base). subst (λ (z : ℕ). (i < z) ⊎ (z + word_count shape ≤ i)) (sym here) apart)
+      (λ (led : (n : ℕ) × (t.1.spare ≡ Some n)).
+      let one : t.0 ≡ id = w.kept.apart.one_lead t.0 id led.0 next t.1 v (stands_now face shape s t.0 t.1 t.2 w (w.present t.0 t.1 t.2 l.0)) (stands_now face shape s id v at w present) led.1 leads in
+      let e : some t.1 ≡ some v = sym t.2 ∙ subst (λ (z : ℕ). get_elem? s.views z ≡ some v) (sym one) at in let same : t.1 ≡ v = cc e in
+      free y.base (subst (λ (z : SeatView). Lists z.lent y.base) same t.3)) l.1
+
   -- the lead stores any word beside the part
-  pub lays : (n id next i x : ℕ) (me : Sat) → me.0.spare ≡ Some next → me.1 ≡ [] → me.0.live ≡ true → (i < me.0.base) ⊎ (me.0.base + word_count me.0.shape ≤ i) → Allows (Ruled face shape) n id me i (λ _. x) (λ _ m. rewrote (step n i x 0 none) me x m)
-  lays n id next i x me leads empty live apart s rule _ at _ = let v : SeatView = me.0 in let work = hands_out v next leads in let u : SeatView = rewriting v i x in ⊎_elim
-      (λ (w : Works face shape s). let present = w.present id v at work in let size : ℕ = word_count shape in let o : Opening = opening_with shape w.members in
+  pub lays : (n id next i x : ℕ) (me : Sat) → me.0.spare ≡ Some next → me.1 ≡ [] → me.0.live ≡ true → (i < me.0.base) ⊎ (me.0.base + word_count me.0.shape ≤ i) → IsClear (word_count me.0.shape) me.0.lent i → Allows (Ruled face shape) n id me i (λ _. x) (λ _ m. rewrote (step n i x 0 none) me x m)
+  lays n id next i x me leads empty live apart free s rule _ at _ = let v : SeatView = me.0 in let work = hands_out v next leads in let u : SeatView = rewriting v i x in let w : Ruled face shape s = rule in
+      let present = w.present id v at work in let size : ℕ = word_count shape in let o : Opening = opening_with shape w.members in
       let clear : (i < w.base) ⊎ (w.base + size ≤ i) = subst (λ (z : ℕ × Shape). (i < z.0) ⊎ (z.0 + word_count z.1 ≤ i)) (λ k. (w.placed id v at work k, (w.remembers id v at live).shaped k)) apart in
       let t : St = table_in w.era w.base size s in let here = stands_now face shape s id v at w present in
       let kept = stands face o t w.kept id v here u (record { back = λ a h p. (h, p, refl, refl); forth = λ a h p. (h, p, refl, refl); spare = refl }) (more_known o t.words (set v.whole i x) w.kept.book v (w.kept.each_view id v here)) 0 in
@@ -407,7 +363,7 @@ module _ (face : ℕ → ℕ → List (ℕ × ℕ) → List ℕ) (shape : Shape)
         u,
         keeps,
         tt,
-        inl record {
+        record {
           era = w.era;
           members = w.members;
           base = w.base;
@@ -423,11 +379,15 @@ module _ (face : ℕ → ℕ → List (ℕ × ℕ) → List ℕ) (shape : Shape)
               (λ q. subst (λ (z : SeatView). IsBeside w.base size z.whole (set s.words i x)) q.1 (beside_both w.base size i x v.whole s.words (w.beside id next v at leads)))
               (λ q. absurd (q.0 (w.kept.apart.one_lead j id m next y v (stands_now face shape s j y q.1 w (w.present j y q.1 (hands_out y m is))) here is leads))) (at_set s.views id j u y p);
           none_later = none_later_on face shape s id v at w present u refl;
-          none_renews = none_renews_on face shape s id v at w present u refl refl;
+          lent = lent_same s.views w.lent id v u at refl refl refl;
+          lends = lends_on face shape s id v at w present u refl refl (λ m e. (m, e)) (λ go. go);
+          reads = λ j y p does. ⊎_elim
+              (λ q. subst (ReadsOn shape w.era w.base (set s.words i x)) q.1 record { now = λ _. w.placed id v at work; before = λ less. let e = present in absurd (omega arith) })
+              (λ q. let r = w.reads j y q.1 does in record { now = r.now; before = λ less. let b = r.before less in (b.0, finds_set shape s.words y i x (clear_of_reader s id v at w present leads work (subst (λ (z : Shape). IsClear (word_count z) v.lent i) (w.remembers id v at live).shaped free) clear j y q.1 does) b.1) })
+              (at_set s.views id j u y p);
         },
         (empty, refl),
-      ))
-      (λ (r : Renews shape s). absurd (none_renews face shape s id v at work r)) rule
+      )
 
 -- ---- a table that is made
 
@@ -438,14 +398,14 @@ blank_word n k = ⊎_elim (λ low. get_or-replicate n k 0 0 low) (λ past. get_o
 pub first_opening : (face : ℕ → ℕ → List (ℕ × ℕ) → List ℕ) (o : Opening) (n : ℕ) (words : List ℕ) → length words ≡ n → IsOpened face o (table_part 0 (word_count o.shape) words)
     → ((lane k : ℕ) → lane < o.shape.workers → k < block_size o.shape → get_or (table_part 0 (word_count o.shape) words) (block_start o.shape lane + k) 0 ≡ 0)
     → ((i : ℕ) → word_count o.shape ≤ i → get_or words i 0 ≡ 0) → Ruled face o.shape (opening words [] (newcomer face record { opening = o; words = n }))
-first_opening face o n words long opened blank beside = let first : SeatView = newcomer face record { opening = o; words = n } in inl record {
+first_opening face o n words long opened blank beside = let first : SeatView = newcomer face record { opening = o; words = n } in record {
   era = 0;
   members = o.members;
   past = [];
   counted = refl;
   remembers = λ j x p live. subst (Remembers o.shape 0 []) (alone first x j p).1 record { shaped = refl; present = λ _. refl; learnt = λ _. tt; earlier = λ less. absurd (omega arith) };
   base = 0;
-  kept = opens face o (first ∷ []) [] 0 0 0 [] (replicate n 0) record { each = λ j x p. inl (alone first x j p) } (table_part 0 (word_count o.shape) words) [] opened blank;
+  kept = opens face o (first ∷ []) [] 0 0 0 [] [] (replicate n 0) record { each = λ j x p. inl (alone first x j p) } (table_part 0 (word_count o.shape) words) [] opened blank;
   present = λ j x p work. ap (λ (z : SeatView). z.era) (sym (alone first x j p).1);
   placed = λ j x p work. ap (λ (z : SeatView). z.base) (sym (alone first x j p).1);
   beside = λ j m x p leads. subst (λ (z : SeatView). IsBeside 0 (word_count o.shape) z.whole words) (alone first x j p).1 record {
@@ -453,5 +413,7 @@ first_opening face o n words long opened blank beside = let first : SeatView = n
     same = λ k apart. ⊎_elim (λ low. absurd (omega (arith, low))) (λ high. blank_word n k ∙ sym (beside k (let le : word_count o.shape ≤ k = omega (arith, high) in le))) apart;
   };
   none_later = λ j x p. let e = ap (λ (z : SeatView). z.era) (alone first x j p).1 in omega arith;
-  none_renews = λ j x p. ap (λ (z : SeatView). z.renews) (sym (alone first x j p).1);
+  lent = λ b. omega arith;
+  lends = λ j x p. lent_none x (ap (λ (z : SeatView). z.lent) (sym (alone first x j p).1)) 0;
+  reads = λ j x p does. let clash : false ≡ true = ap (λ (z : SeatView). z.reads) (alone first x j p).1 ∙ does in cc;
 }

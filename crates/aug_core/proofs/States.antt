@@ -20,6 +20,7 @@ use Rattle.aug_core.specs.declared.view.LaneState.TheVariants.{Taken, Ended, Fre
 use Rattle.aug_core.specs.declared.view.SeatView.{SeatView}
 use Rattle.aug_core.proofs.Moves.{St, IsOwnWord, own_moves, moves_on, knows_keeping}
 use Rattle.aug_core.proofs.Stores.{alone, one_lane}
+use Rattle.aug_core.proofs.ReaderCounts.{still_works}
 
 module _ (face : ℕ → ℕ → List (ℕ × ℕ) → List ℕ) (o : Opening) where
   module _ (s : St) (r : Kept face o s) (id : ℕ) (v : SeatView) (at : get_elem? s.views id ≡ some v) (h : Held) (only : v.held ≡ h ∷ []) (state : LaneState) (some_state : word_of_state Free < word_of_state state) (last_state : word_of_state state ≤ word_of_state Ended) (steps : List StepTaken) where
@@ -87,7 +88,7 @@ module _ (face : ℕ → ℕ → List (ℕ × ℕ) → List ℕ) (o : Opening) w
         subst (λ (z : List Held). Kept face o record { words = set s.words place (word_of_state Taken); homes = s.homes; views = set s.views id record v { held = z; steps = steps } }) (sym held)
             (subst (λ (z : ℕ). Kept face o record { words = set s.words z (word_of_state Taken); homes = s.homes; views = set s.views id record v { held = in_state Taken h ∷ []; steps = steps } }) (sym is')
             (restates s r id v at h may.only Taken (omega arith) (omega arith) steps)),
-        ((empty, found, refl), record { live = refl; era = refl; past = refl; shape = refl; members = refl; told = refl; renews = refl; base = refl; whole = refl; led = λ m e. (m, e) }),
+        ((empty, found, refl), record { live = refl; era = refl; past = refl; shape = refl; members = refl; told = refl; base = refl; whole = refl; led = λ m e. (m, e) }, record { reads = refl; lent = refl; leads = λ m e. (m, e); works = still_works (in_state Taken) v (taking v place) refl refl }),
       ))
       (λ miss. absurd (miss found))
 
@@ -104,5 +105,5 @@ module _ (face : ℕ → ℕ → List (ℕ × ℕ) → List ℕ) (o : Opening) w
         subst (λ (z : List Held). Kept face o record { words = set s.words place (word_of_state Ended); homes = s.homes; views = set s.views id record v { held = z; steps = steps } }) (sym held)
             (subst (λ (z : ℕ). Kept face o record { words = set s.words z (word_of_state Ended); homes = s.homes; views = set s.views id record v { held = in_state Ended h ∷ []; steps = steps } }) (sym is')
             (restates s r id v at h may.only Ended (omega arith) (omega arith) steps)),
-        ((empty, refl), record { live = refl; era = refl; past = refl; shape = refl; members = refl; told = refl; renews = refl; base = refl; whole = refl; led = λ m e. (m, e) }),
+        ((empty, refl), record { live = refl; era = refl; past = refl; shape = refl; members = refl; told = refl; base = refl; whole = refl; led = λ m e. (m, e) }, record { reads = refl; lent = refl; leads = λ m e. (m, e); works = still_works (in_state Ended) v (finishing v place) refl refl }),
       )

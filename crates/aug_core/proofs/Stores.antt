@@ -20,6 +20,7 @@ use Rattle.aug_core.proofs.Sizes.{in_block, block_inside, blocks_apart}
 use Rattle.aug_core.proofs.Views.{Repeats}
 use Rattle.aug_core.proofs.Moves.{St, IsOwnWord, own_moves, moves_on, knows_keeping}
 use Rattle.aug_core.specs.Book.{Book}
+use Rattle.aug_core.proofs.ReaderCounts.{still_works}
 
 module _ {A : Type 0} where
   -- a list of one
@@ -112,5 +113,5 @@ module _ (face : ℕ → ℕ → List (ℕ × ℕ) → List ℕ) (o : Opening) w
         subst (λ (z : List Held). Kept face o record { words = set s.words place x; homes = s.homes; views = set s.views id record v { held = z; steps = steps } }) (sym held)
             (subst (λ (z : ℕ). Kept face o record { words = set s.words z x; homes = s.homes; views = set s.views id record v { held = record h { words = set h.words (record_words * (number - first_record o.shape h.lane) + field) x } ∷ []; steps = steps } }) (sym is')
             (writes s r id v at h may.only (is_taken v h may.only has) number field x of_lane may.unpublished small steps)),
-        ((empty, refl), record { live = refl; era = refl; past = refl; shape = refl; members = refl; told = refl; renews = refl; base = refl; whole = refl; led = λ m e. (m, e) }),
+        ((empty, refl), record { live = refl; era = refl; past = refl; shape = refl; members = refl; told = refl; base = refl; whole = refl; led = λ m e. (m, e) }, record { reads = refl; lent = refl; leads = λ m e. (m, e); works = still_works (with_word v.shape place x) v (storing v place x) refl refl }),
       )

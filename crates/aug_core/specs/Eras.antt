@@ -1,17 +1,16 @@
--- The rule of a table that may be opened again and again. In each of its eras it is at work under the rule of one opening, and in between one seat
--- alone renews it. An era is the time from one opening to the next. A table may have room for several openings: in each era one part of it is at
--- work, and who hands lanes out knows all words beside that part, where the next era may be laid out meanwhile. At work (`Works`), `Kept` holds of that
--- part with the members of this era, where a view of an earlier era counts as one that was joined; whoever holds a lane or hands lanes out is of this era. While it is renewed (`Renews`), one view knows
--- each word exactly, and every other one holds no lane and is of an earlier era. A view knows the eras before its own too (`Remembers`). In the
--- example, once the one pass was joined, the lead may begin era 1.
-use Rattle.std.specs.Prelude.{◌≡◌, ◌≢◌, ◌⊎◌, ℕ, ◌+◌, ◌<◌, ◌≤◌, ◌==◌, if◌then◌else◌, true, false, List, length, map, take, drop, slice_index, Some, IfSome}
+-- The rule of a table that may be opened again and again. An era is the time from one opening to the next. A table may have room for several openings: in
+-- each era one part of it is at work, and who hands lanes out knows all words beside that part, where the next era is laid out meanwhile. `Kept` holds of
+-- the part at work with the members of this era, where a view of an earlier era counts as one that was joined; whoever holds a lane or hands lanes out is
+-- of this era. A view knows the eras before its own too (`Remembers`). In the example, once the one pass was joined, the lead may begin era 1.
+use Rattle.std.specs.Prelude.{◌≡◌, ◌⊎◌, ℕ, ◌+◌, ◌<◌, ◌≤◌, ◌==◌, if◌then◌else◌, true, List, length, map, take, drop, slice_index, Some, IfSome}
 use mathlib.Core.Option.{some}
 use lib.ListN.{get_elem?}
 use Rattle.atomic_table.specs.Table.{State}
 use Rattle.aug_core.specs.Places.{Shape, word_count}
 use Rattle.aug_core.specs.Opening.{Opening}
-use Rattle.aug_core.specs.Rule.{Kept}
+use Rattle.aug_core.specs.Rule.{Lists, Kept}
 use Rattle.aug_core.specs.Effects.{spent}
+use Rattle.aug_core.specs.Readers.{AreLent, ReadsOn}
 use Rattle.aug_core.specs.Pasts.{IsEarlier, IsLearnt}
 use Rattle.aug_core.specs.declared.view.Held.{Held}
 use Rattle.aug_core.specs.declared.view.PastEra.{PastEra}
@@ -20,6 +19,10 @@ use Rattle.aug_core.specs.declared.view.SeatView.{SeatView}
 -- the view holds a lane, or hands lanes out
 abbrev pub IsAtWork : SeatView → Type 0
 IsAtWork v = ((a : ℕ) × (h : Held) × (get_elem? v.held a ≡ some h)) ⊎ ((n : ℕ) × (v.spare ≡ Some n))
+
+-- who answers for a reader is at work, and the reader is of the part where it works, unless it hands lanes out
+abbrev pub LendsIn : ℕ → SeatView → Type 0
+LendsIn base v = (b : ℕ) → Lists v.lent b → IsAtWork v × ((b ≡ base) ⊎ ((n : ℕ) × (v.spare ≡ Some n)))
 
 -- how a view counts in an era: one of another era counts as one that was joined
 abbrev pub seen_in : ℕ → SeatView → SeatView
@@ -50,8 +53,8 @@ pub record Remembers (shape : Shape) (era : ℕ) (past : List PastEra) (v : Seat
   pub learnt : v.era ≡ era → IfSome v.told (IsLearnt v.shape v.era v.past v.members)
   pub earlier : v.era < era → IsEarlier v.past v.members v.seen past
 
--- the table is at work
-pub record Works (face : ℕ → ℕ → List (ℕ × ℕ) → List ℕ) (shape : Shape) (s : State (Unit {0}) SeatView) : Type 0 where
+-- the rule of a table of this shape, which stays in all eras
+pub record Ruled (face : ℕ → ℕ → List (ℕ × ℕ) → List ℕ) (shape : Shape) (s : State (Unit {0}) SeatView) : Type 0 where
   -- in an era, which it opened with these members
   pub era : ℕ
   pub members : List (ℕ × ℕ)
@@ -70,28 +73,8 @@ pub record Works (face : ℕ → ℕ → List (ℕ × ℕ) → List ℕ) (shape 
   pub beside : (j n : ℕ) (v : SeatView) → get_elem? s.views j ≡ some v → v.spare ≡ Some n → IsBeside base (word_count shape) v.whole s.words
   -- no view is of a later one
   pub none_later : (j : ℕ) (v : SeatView) → get_elem? s.views j ≡ some v → v.era ≤ era
-  -- and none renews the table
-  pub none_renews : (j : ℕ) (v : SeatView) → get_elem? s.views j ≡ some v → v.renews ≡ false
-
--- a view that has no part in what another one does alone: it holds no lane, hands none out, and is of an earlier era
-pub record IsPast (shape : Shape) (era : ℕ) (past : List PastEra) (v : SeatView) : Type 0 where
-  pub no_work : IsAtWork v → ⊥
-  pub no_renewal : v.renews ≡ false
-  pub earlier : v.era < era
-  pub remembers : v.live ≡ true → Remembers shape era past v
-
--- one seat renews the table: it knows all words, and nobody else is at work
-pub record Renews (shape : Shape) (s : State (Unit {0}) SeatView) : Type 0 where
-  pub seat : ℕ
-  pub view : SeatView
-  pub sits : get_elem? s.views seat ≡ some view
-  pub renews : view.renews ≡ true
-  pub no_work : IsAtWork view → ⊥
-  pub shaped : view.shape ≡ shape
-  pub words_are : s.words ≡ view.whole
-  pub counted : length view.past ≡ view.era
-  pub others : (j : ℕ) (v : SeatView) → j ≢ seat → get_elem? s.views j ≡ some v → IsPast shape view.era view.past v
-
--- the rule of a table of this shape, which stays in all eras
-abbrev pub Ruled : (ℕ → ℕ → List (ℕ × ℕ) → List ℕ) → Shape → State (Unit {0}) SeatView → Type 0
-Ruled face shape s = Works face shape s ⊎ Renews shape s
+  -- readers are lent by those who are at work
+  pub lent : AreLent s.views
+  pub lends : (j : ℕ) (v : SeatView) → get_elem? s.views j ≡ some v → LendsIn base v
+  -- and find their records
+  pub reads : (j : ℕ) (v : SeatView) → get_elem? s.views j ≡ some v → v.reads ≡ true → ReadsOn shape era base s.words v

@@ -12,6 +12,7 @@ pub mod Kinds
 pub mod Counts
 pub mod Rule
 pub mod Effects
+pub mod Readers
 pub mod Pasts
 pub mod Eras
 pub mod Learning

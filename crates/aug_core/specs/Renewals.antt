@@ -1,6 +1,6 @@
--- What the steps show by which one seat renews a table, and what its view is after them. A lead that holds all lanes which it handed out (`HoldsAll`)
--- begins with a load of the root, which shows it the era's last book, and then knows all words (`BeginsRenewal`). It stores and loads any word
--- (`rewrote`, `reread`). A load opens the table over any members for which its words are those of an opening (`IsOpened`, `reopened`).
+-- What the steps show by which a table is renewed, and what the view is after them. A lead stores and loads any words beside the part at work (`rewrote`,
+-- `reread`). If it holds all lanes which it handed out (`HoldsAll`), and the words of another part are those of an opening (`IsOpened`), a load opens the
+-- table there, over the members of that opening, and shows the era's last book (`reopened`). A survey shows what a table comes to that stays at work.
 use Rattle.std.specs.Prelude.{◌≡◌, ℕ, ◌+◌, ◌<◌, ◌≤◌, true, false, List, [], ◌∷◌, ◌++◌, length, slice_index, slice_set, All, Some, None}
 use mathlib.Core.Option.{some}
 use lib.ListN.{get_elem?}
@@ -8,7 +8,7 @@ use Rattle.atomic_table.specs.Table.{State, Step}
 use Rattle.aug_model.specs.Keys.{IsKeySet, keys_of}
 use Rattle.aug_monoid.specs.Weighted.{FitsPair}
 use Rattle.aug_core.specs.Places.{lane_place, record_start, word_count, record_words}
-use Rattle.aug_core.specs.Addresses.{place_count, IsInner}
+use Rattle.aug_core.specs.Addresses.{place_count, IsInner, root_place}
 use Rattle.aug_core.specs.Lanes.{word_of_state}
 use Rattle.aug_core.specs.Opening.{Opening, IsIdle, opening_number, opening_words, shared_words, opening_book}
 use Rattle.aug_core.specs.Rule.{Kept, no_beginning}
@@ -23,7 +23,7 @@ pub record HoldsAll (v : SeatView) : Type 0 where
   pub hands_out : v.spare ≡ Some next
   pub all : length v.held ≡ next
 
--- the view of a lead that begins to renew its table, whose words are these. The era that is over has the book that the view saw last
+-- what the view of a lead is whose era is over, and whose table has these words. That era has the book that the view saw last
 abbrev pub renewing : SeatView → List ℕ → SeatView
 renewing v whole = record v {
   era = v.era + 1;
@@ -33,7 +33,7 @@ renewing v whole = record v {
   told = None;
   held = [];
   spare = None;
-  renews = true;
+  reads = false;
   whole = whole;
   began = no_beginning;
   steps = [];
@@ -59,14 +59,6 @@ module _ (face : ℕ → ℕ → List (ℕ × ℕ) → List ℕ) where
     pub seat : ℕ
     pub view_is : get_elem? state.views seat ≡ some v
 
-  -- a load of a node's word shows the last book of the era. From then on the seat knows all words: those of the part are the ones with which its era ended, and those beside it are as it knew them
-  pub record BeginsRenewal (v : SeatView) (q r : ℕ) (w : SeatView) : Type 0 where
-    pub last : SeatView
-    pub loaded : LoadsNode face v q r last
-    pub stepped : w ≡ renewing last w.whole
-    pub beside : IsBeside v.base (word_count v.shape) v.whole w.whole
-    pub ends : EndWith (opening_of v) last (table_part v.base (word_count v.shape) w.whole)
-
   -- a load of a node's word by a seat that stays at work shows it the book, and the table met the rule then, with its view and these words. If the seat
   -- is a lead that holds all lanes which it handed out, this is the last book of the round, and its account can be closed while its table is still there
   pub record Surveys (v : SeatView) (q r : ℕ) (w : SeatView) : Type 0 where
@@ -77,9 +69,6 @@ module _ (face : ℕ → ℕ → List (ℕ × ℕ) → List ℕ) where
 
   abbrev pub surveyed : Step (Unit {0}) → Sat → ℕ → Sat → Type 0
   surveyed st m r m' = (m'.1 ≡ []) × (IsInner m.0.shape st.word → Surveys m.0 st.word r m'.0)
-
-  abbrev pub began_renewal : Step (Unit {0}) → Sat → ℕ → Sat → Type 0
-  began_renewal st m r m' = (m'.1 ≡ []) × (IsInner m.0.shape st.word → BeginsRenewal m.0 st.word r m'.0)
 
   -- the words are those of a table that opens so, whatever the records of its lanes hold
   pub record IsOpened (o : Opening) (words : List ℕ) : Type 0 where
@@ -107,13 +96,24 @@ module _ (face : ℕ → ℕ → List (ℕ × ℕ) → List ℕ) where
     told = None;
     held = [];
     spare = Some 0;
-    renews = false;
+    reads = false;
+    lent = v.lent;
     words = table_part base (word_count v.shape) v.whole;
     whole = v.whole;
     began = no_beginning;
     steps = [];
   }
 
-  -- where the words from the one that is loaded on are those of a table that opens over some members, it is open there, over them
+  -- the era is over, with the last book, as a load of the root would show it; the words of the part at work are the ones with which it ended, and those
+  -- beside it are as the seat knew them; and the table is open over these members, in the part that begins at this word
+  pub record Reopens (members : List (ℕ × ℕ)) (base : ℕ) (v w : SeatView) : Type 0 where
+    pub root : ℕ
+    pub last : SeatView
+    pub loaded : LoadsNode face v (root_place v.shape) root last
+    pub whole : List ℕ
+    pub beside : IsBeside v.base (word_count v.shape) v.whole whole
+    pub ends : EndWith (opening_of v) last (table_part v.base (word_count v.shape) whole)
+    pub stepped : w ≡ reopening members base (renewing last whole)
+
   abbrev pub reopened : Step (Unit {0}) → Sat → ℕ → Sat → Type 0
-  reopened st m r m' = (m'.1 ≡ []) × ((members : List (ℕ × ℕ)) → IsOpened (opening_with m.0.shape members) (table_part st.word (word_count m.0.shape) m.0.whole) → m'.0 ≡ reopening members st.word m.0)
+  reopened st m r m' = (m'.1 ≡ []) × ((members : List (ℕ × ℕ)) → IsOpened (opening_with m.0.shape members) (table_part st.word (word_count m.0.shape) m.0.whole) → Reopens members st.word m.0 m'.0)

@@ -1,4 +1,5 @@
 -- What no promise rests on: what private fields keep, what private calls leave, how views come of fields, and lemmas.
+pub mod ClearParts
 pub mod EntryCuts
 pub mod EraSteps
 pub mod LaneStates

@@ -1,7 +1,8 @@
 //! What each step shows. These types are only for the proofs.
 ghost use Rattle.aug_core.specs.Effects.{in_part, read_record, stored_record, took_lane, finished_lane, handing_out, handed_out, taking_back, noting, noted, spent, loaded_leaf, began_at_leaf, tried_leaf, loaded_node, tried_node};
+ghost use Rattle.aug_core.specs.Readers.{lending, reader_of, taking_reader};
 ghost use Rattle.aug_core.specs.Learning.{learning, loaded_after_note};
-ghost use Rattle.aug_core.specs.Renewals.{rewrote, reread, surveyed, began_renewal, reopened};
+ghost use Rattle.aug_core.specs.Renewals.{rewrote, reread, surveyed, reopened};
 ghost use Rattle.aug_core.specs.Faces.{face};
 
 use crate::view::SeatView;
@@ -51,6 +52,24 @@ pub struct TakeBack;
 
 impl Join<SeatView> for TakeBack {
     ghost both = { taking_back };
+
+    ghost spent = { spent };
+}
+
+/// A view lends a reader: a new view that holds no lane.
+pub struct Lend;
+
+impl Split<SeatView> for Lend {
+    ghost left = { lending };
+
+    ghost right = { reader_of };
+}
+
+/// A view takes a reader back.
+pub struct TakeReader;
+
+impl Join<SeatView> for TakeReader {
+    ghost both = { taking_reader };
 
     ghost spent = { spent };
 }
@@ -136,30 +155,21 @@ impl<A: Monoid, B: Monoid> Play<(), SeatView> for Survey<A, B> {
     ghost then = { in_part (surveyed (face A.parts B.parts)) };
 }
 
-/// A load of a node's word, by which a lead that holds all lanes begins to renew its table.
-pub struct BeginRenewal<A, B> {
-    sums: PhantomData<(A, B)>,
-}
-
-impl<A: Monoid, B: Monoid> Play<(), SeatView> for BeginRenewal<A, B> {
-    ghost then = { in_part (began_renewal (face A.parts B.parts)) };
-}
-
-/// A store of any word by the seat that renews the table.
+/// A store of any word beside the part of the table that is at work, by the seat that hands lanes out.
 pub struct StoreAnyWord;
 
 impl Play<(), SeatView> for StoreAnyWord {
     ghost then = { rewrote };
 }
 
-/// A load of any word by that seat.
+/// A load of such a word by that seat.
 pub struct LoadAnyWord;
 
 impl Play<(), SeatView> for LoadAnyWord {
     ghost then = { reread };
 }
 
-/// A load of any word, by which that seat opens the table again.
+/// A load of the first word of another part, by which that seat ends the era, and opens the table again there.
 pub struct OpenAgain<A, B> {
     sums: PhantomData<(A, B)>,
 }

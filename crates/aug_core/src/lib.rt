@@ -11,9 +11,9 @@ mod step;
 mod view;
 
 pub use effects::{
-    BeginAtLeaf, BeginRenewal, FinishOwnLane, HandOut, LoadAfterNote, LoadAnyLeaf, LoadAnyNode,
+    BeginAtLeaf, FinishOwnLane, HandOut, Lend, LoadAfterNote, LoadAnyLeaf, LoadAnyNode,
     LoadAnyRecord, LoadAnyWord, MakeNote, OpenAgain, StoreAnyWord, StoreOwnRecord, Survey,
-    TakeBack, TakeNote, TakeOwnLane, TryAnyLeaf, TryAnyNode,
+    TakeBack, TakeNote, TakeOwnLane, TakeReader, TryAnyLeaf, TryAnyNode,
 };
 pub use field::{RECORD_WORDS, RecordField};
 pub use lane::{LANE_ENDED, LANE_FREE, LANE_TAKEN};

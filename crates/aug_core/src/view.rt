@@ -124,11 +124,13 @@ pub struct SeatView {
     pub held: LinkedList<Held>,
     /// The first lane that was not handed out, if the seat is the one that hands lanes out.
     pub spare: Option<u64>,
-    /// Whether the seat alone renews the table.
-    pub renews: bool,
+    /// Whether the seat is a reader: it holds no lane, and may load words of the records that it has seen for as long as it lives.
+    pub reads: bool,
+    /// For each reader that the seat answers for, the first word of the part where that one reads.
+    pub lent: LinkedList<u64>,
     /// The words of that part as they were when the seat opened it. None, if the table was not renewed: then the records of its lanes were blank.
     pub words: LinkedList<u64>,
-    /// The words of the whole table: all of them as they are now while the seat renews it, and all but those of the part at work while it hands lanes out.
+    /// The words of the whole table, as they are now but for those of the part at work, while the seat hands lanes out.
     pub whole: LinkedList<u64>,
     /// The beginning of the update that the seat is in, or was in last.
     pub began: Beginning,

@@ -6,11 +6,14 @@ use Rattle.std.proofs.lemmas.Nat.{mul-le}
 use Rattle.aug_core.specs.Layout.{IsRefused, IsWithin}
 use Rattle.aug_core.specs.Places.{own_records, shape_of, word_count}
 use Rattle.aug_core.specs.declared.layout.LayoutError.TheVariants as layout
-use Rattle.aug_live.specs.Plans.{Fits, IsGreatest, least_plan}
+use Rattle.aug_live.specs.Plans.{Fits, IsGreatest, Suits, least_plan}
 use Rattle.aug_live.specs.declared.plan.Plan.{Plan}
 
 pub same_bits : (bits bits' memory : ℕ) (plan : Plan) → bits' ≡ bits → Fits bits' memory plan → Fits bits memory plan
 same_bits bits bits' memory plan same fits = subst (λ (z : ℕ). Fits z memory plan) same fits
+
+pub suits_alike : (bits bits' handles memory : ℕ) → bits' ≡ bits → Suits bits' handles memory → Suits bits handles memory
+suits_alike bits bits' handles memory same suits = subst (λ (z : ℕ). Suits z handles memory) same suits
 
 pub not_large : (bits bits' memory : ℕ) (plan : Plan) → bits' ≡ bits → Fits bits' memory plan → IsRefused layout.TooLarge bits plan.lanes plan.updates (2 ^ bits) → ⊥
 not_large bits bits' memory plan same fits large = let words = (same_bits bits bits' memory plan same fits).laid_out.words in omega (arith, words, large.3)
@@ -18,6 +21,7 @@ not_large bits bits' memory plan same fits large = let words = (same_bits bits b
 -- the numbers of a plan: so many lanes, and so many updates of each, for which there is room, where a lane takes a word, and `update` for each update
 record IsMost (update room handles lanes updates : ℕ) : Type 0 where
   enough : handles ≤ lanes
+  least : 64 ≤ updates
   lanes_fit : IsWithin 1 64 lanes
   updates_fit : IsWithin 1 65536 updates
   fits : lanes * (1 + update * updates) ≤ room
@@ -43,9 +47,10 @@ most_lanes update room lanes updates fits = (le-div_iff_mul-le {k = 1 + update *
 lanes_most : (update room lanes updates : ℕ) → lanes ≤ room / (1 + update * updates) → lanes * (1 + update * updates) ≤ room
 lanes_most update room lanes updates le = (le-div_iff_mul-le {k = 1 + update * updates} {x = lanes} {y = room} (omega arith)).0 le
 
-most : (update room handles lanes updates : ℕ) → 1 ≤ update → 1 ≤ handles → handles ≤ 64 → handles * (1 + update) ≤ room → lanes ≡ max (min (room / (1 + 256 * update)) 64) handles → updates ≡ min ((room / lanes - 1) / update) 65536 → IsMost update room handles lanes updates
+most : (update room handles lanes updates : ℕ) → 1 ≤ update → 1 ≤ handles → handles ≤ 64 → handles * (1 + 64 * update) ≤ room → lanes ≡ max (min (room / (1 + 256 * update)) 64) handles → updates ≡ min ((room / lanes - 1) / update) 65536 → IsMost update room handles lanes updates
 most update room handles lanes updates some some_handle few least lanes_are updates_are = record {
   enough = enough;
+  least = omega (arith, updates_are, one);
   lanes_fit = (omega (arith, enough, some_handle), omega (arith, lanes_are, few));
   updates_fit = (omega (arith, updates_are, one), omega (arith, updates_are));
   fits = updates_most update room lanes updates some some_lane (omega (arith, updates_are)) one_word;
@@ -64,17 +69,17 @@ most update room handles lanes updates some some_handle few least lanes_are upda
     some_lane : 1 ≤ lanes
     some_lane = omega (arith, enough, some_handle)
 
-    first_update : lanes * (1 + update * 1) ≤ room
-    first_update = ⊎_elim (λ (lt : handles < lanes). let all = lanes_most update room lanes 256 (omega (arith, lt, lanes_are, same)) in
-        let le : lanes * (1 + update * 1) ≤ lanes * (1 + update * 256) = mul-le lanes (1 + update * 1) lanes (1 + update * 256) (omega arith) (omega arith) in omega (arith, all, le))
-        (λ (ge : lanes ≤ handles). let e : lanes ≡ handles = omega (arith, ge, enough) in let f : 1 + update ≡ 1 + update * 1 = omega arith in
-        subst (λ (z : ℕ). z * (1 + update * 1) ≤ room) (sym e) (subst (λ (z : ℕ). handles * z ≤ room) f least)) (cases_lt handles lanes)
+    first_updates : lanes * (1 + update * 64) ≤ room
+    first_updates = ⊎_elim (λ (lt : handles < lanes). let all = lanes_most update room lanes 256 (omega (arith, lt, lanes_are, same)) in
+        let le : lanes * (1 + update * 64) ≤ lanes * (1 + update * 256) = mul-le lanes (1 + update * 64) lanes (1 + update * 256) (omega arith) (omega arith) in omega (arith, all, le))
+        (λ (ge : lanes ≤ handles). let e : lanes ≡ handles = omega (arith, ge, enough) in let f : 1 + 64 * update ≡ 1 + update * 64 = omega arith in
+        subst (λ (z : ℕ). z * (1 + update * 64) ≤ room) (sym e) (subst (λ (z : ℕ). handles * z ≤ room) f least)) (cases_lt handles lanes)
 
-    one : 1 ≤ (room / lanes - 1) / update
-    one = most_updates update room lanes 1 some some_lane first_update
+    one : 64 ≤ (room / lanes - 1) / update
+    one = most_updates update room lanes 64 some some_lane first_updates
 
     one_word : 1 ≤ room / lanes
-    one_word = (le-div_iff_mul-le {k = lanes} {x = 1} {y = room} (omega (arith, some_lane))).1 (let le = first_update in let le' : lanes * 1 ≤ lanes * (1 + update * 1) = mul-le lanes 1 lanes (1 + update * 1) (omega arith) (omega arith) in omega (arith, le, le'))
+    one_word = (le-div_iff_mul-le {k = lanes} {x = 1} {y = room} (omega (arith, some_lane))).1 (let le = first_updates in let le' : lanes * 1 ≤ lanes * (1 + update * 64) = mul-le lanes 1 lanes (1 + update * 64) (omega arith) (omega arith) in omega (arith, le, le'))
 
 -- the words of a table, of which those of lanes are apart
 words_are : (bits lanes updates members : ℕ) → word_count (shape_of bits lanes updates members) ≡ 2 ^ (bits + 1) - 1 + 5 * (bits + own_records bits members bits) + lanes * (1 + 5 * bits * updates)
@@ -90,11 +95,12 @@ abbrev bare_words : ℕ → ℕ
 bare_words bits = 2 ^ (bits + 1) - 1 + 5 * (bits + own_records bits (2 ^ bits) bits)
 
 -- the plan of these numbers is the greatest
-pub is_greatest : (bits handles memory words room lanes updates : ℕ) → Fits bits memory (least_plan handles) → words ≡ word_count (shape_of bits handles 1 (2 ^ bits)) → room ≡ min (memory / 16) 67108864 - words + handles * (1 + 5 * bits)
+pub is_greatest : (bits handles memory words room lanes updates : ℕ) → Fits bits memory (least_plan handles) → memory ≤ 2 ^ 30 → words ≡ word_count (shape_of bits handles 64 (2 ^ bits)) → room ≡ memory / 16 - words + handles * (1 + 64 * (5 * bits))
     → lanes ≡ max (min (room / (1 + 256 * (5 * bits))) 64) handles → updates ≡ min ((room / lanes - 1) / (5 * bits)) 65536 → IsGreatest bits handles memory (record { lanes = lanes; updates = updates })
-is_greatest bits handles memory words room lanes updates least words_is room_is lanes_are updates_are = record {
+is_greatest bits handles memory words room lanes updates least not_more words_is room_is lanes_are updates_are = record {
   enough = m.enough;
-  fits = record { laid_out = record { bits = within; workers = m.lanes_fit; updates = m.updates_fit; words = (let a = all lanes updates in let b = m.fits in omega (arith, a, b, is)) }; bytes = (let a = all lanes updates in let b = m.fits in omega (arith, a, b, is)) };
+  least = m.least;
+  fits = record { laid_out = record { bits = within; workers = m.lanes_fit; updates = m.updates_fit; words = (let a = all lanes updates in let b = m.fits in omega (arith, a, b, is, few)) }; bytes = (let a = all lanes updates in let b = m.fits in omega (arith, a, b, is)) };
   no_lane = λ f. let l = f.laid_out in m.no_lane l.workers.1 (fitting (lanes + 1) 256 f);
   no_update = λ f. let l = f.laid_out in m.no_update l.updates.1 (fitting lanes (updates + 1) f);
   spare = m.spare;
@@ -106,11 +112,14 @@ is_greatest bits handles memory words room lanes updates least words_is room_is 
     all : (l u : ℕ) → word_count (shape_of bits l u (2 ^ bits)) ≡ bare_words bits + l * (1 + 5 * bits * u)
     all l u = words_are bits l u (2 ^ bits)
 
-    least_are : words ≡ bare_words bits + handles * (1 + 5 * bits)
-    least_are = let e : 1 + 5 * bits * 1 ≡ 1 + 5 * bits = omega arith in words_is ∙ all handles 1 ∙ ap (λ (z : ℕ). bare_words bits + handles * z) e
+    least_are : words ≡ bare_words bits + handles * (1 + 64 * (5 * bits))
+    least_are = let e : 1 + 5 * bits * 64 ≡ 1 + 64 * (5 * bits) = omega arith in words_is ∙ all handles 64 ∙ ap (λ (z : ℕ). bare_words bits + handles * z) e
 
-    is : (bare_words bits + room ≡ min (memory / 16) 67108864)
-    is = let a = least_are in let b = least.bytes in let c = least.laid_out.words in omega (arith, a, b, c, words_is, room_is)
+    is : bare_words bits + room ≡ memory / 16
+    is = let a = least_are in let b = least.bytes in omega (arith, a, b, words_is, room_is)
+
+    few : memory / 16 ≤ 2 ^ 26
+    few = omega (arith, not_more)
 
     fitting : (l u : ℕ) → Fits bits memory (record { lanes = l; updates = u }) → l * (1 + 5 * bits * u) ≤ room
     fitting l u f = let a = all l u in let b = f.bytes in let c = f.laid_out.words in omega (arith, a, b, c, is)

@@ -1,6 +1,6 @@
 -- What contracts see of a handle and of a look, and what their calls do. An update or a look is one of a pass, made from a state that follows on what
 -- the handle knew (`Follows`).
-use Rattle.std.specs.Prelude.{◌≡◌, ◌⊎◌, ℕ, ◌<◌, ◌≤◌, List, [], ◌++◌, length, drop, Bool, true}
+use Rattle.std.specs.Prelude.{◌≡◌, ◌⊎◌, ℕ, ◌+◌, ◌<◌, ◌≤◌, List, [], ◌++◌, length, drop, Bool, true}
 use mathlib.Core.Option.{some}
 use lib.ListN.{get_elem?}
 use Rattle.aug_model.specs.Keys.{SetFacts}
@@ -92,6 +92,10 @@ IsSomeOf all count = (count ≤ all) × (0 < all → 0 < count)
 -- all of them, or so many that the pass has no update left
 abbrev pub AllOrSpent : ℕ → ℕ → PassFacts → Type 0
 AllOrSpent all count pass = (count ≡ all) ⊎ (pass.spent ≡ pass.round.updates)
+
+-- so many of the updates of its round are left to a pass
+abbrev pub IsRoom : ℕ → PassFacts → Type 0
+IsRoom left pass = left + pass.spent ≡ pass.round.updates
 
 -- the first handle of a trie's lane, in the first round over this set, which has this plan; it knows no update
 pub record IsNew (trie : TrieFacts) (set : SetFacts) (plan : Plan) (handle : HandleFacts) : Type 0 where

@@ -17,7 +17,7 @@ pub enum OpenError {
     /// Refusal 3: the updates of a lane are outside 1 to 65,536.
     BadUpdates,
 
-    /// Refusal 4: the table would have more than 2^26 words, or more bytes than it may take.
+    /// Refusal 4: the table would have more than 2^26 words, or more bytes than it may take; or it may take more than 2^30.
     TooLarge,
 
     /// Refusal 5: a request for memory was refused.

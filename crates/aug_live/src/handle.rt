@@ -14,7 +14,7 @@ ghost use Rattle.aug_model.specs.Folds.{summary_of};
 ghost use Rattle.aug_monoid.specs.Extent.{extent_parts};
 ghost use Rattle.aug_live.specs.LiveErrors.{IfRefused, RefusesCall};
 ghost use Rattle.aug_live.specs.inside.LaneKnowledge.{Seen};
-ghost use Rattle.aug_live.specs.LiveHandles.{AllOrSpent, Follows, IsSomeOf, Makes, Runs, handle_of, note_at};
+ghost use Rattle.aug_live.specs.LiveHandles.{AllOrSpent, Follows, IsRoom, IsSomeOf, Makes, Runs, handle_of, note_at};
 
 use crate::ahead::{NODES, PIECE, Pace};
 use crate::desk_end::DeskEnd;
@@ -22,7 +22,7 @@ use crate::end::End;
 use crate::error::{Busy, LiveError, TryError};
 use crate::lane::{Lane, Obstacle};
 use crate::look::Look;
-use crate::operation::{Batch, LearnNote, MakeNote, OneUpdate, Operation, PopAt};
+use crate::operation::{Batch, LearnNote, MakeNote, OneUpdate, Operation, PopAt, TellRoom};
 use crate::work::SharedRound;
 use aug_monoid::{Extent, Monoid};
 use aug_trie::{Note, Outcome, Pop, Request, Side, Told};
@@ -307,6 +307,25 @@ impl<A: Monoid, B: Monoid> Handle<A, B> {
                 None => unreachable!(),
             },
         }
+    }
+
+    /// How many updates are left to the lane of the handle in this round: the one after them takes a spare lane, or rolls the round over. It makes none of
+    /// them, and waits as an update does while a roll-over has the lane.
+    pub fn room<R: Wait>(&mut self, rt: &R) -> Result<u32, LiveError>
+        ensures left { IfOk result (λ left. IsRoom left self.new.half) }
+        ensures follows { Follows self.old self.new }
+        ensures refused { IfErr result (RefusesCall self.new) }
+    {
+        self.make(rt, &mut TellRoom)
+    }
+
+    /// The same, and waits for nobody, as `try_update`.
+    pub fn try_room(&mut self) -> Result<u32, TryError<Busy>>
+        ensures left { IfOk result (λ left. IsRoom left self.new.half) }
+        ensures follows { Follows self.old self.new }
+        ensures refused { IfErr result (IfRefused (RefusesCall self.new)) }
+    {
+        self.try_make(&mut TellRoom)
     }
 
     /// How many keys there are: `2^bits`. The keys are the numbers below it.

@@ -11,7 +11,7 @@ ghost use lib.ListN.{get_elem?};
 ghost use Rattle.aug_live.specs.LiveErrors.{IfRefused, RefusesBack, RefusesCall, RefusesHandle, RefusesRoll};
 ghost use Rattle.aug_live.specs.LiveHandles.{Follows, HandleFacts, IsHandleOf, IsNew};
 ghost use Rattle.aug_live.specs.LiveTries.{CameBack, Closes, IsOpenedTrie, KeepsHandles, KnowsMore, ids_of};
-ghost use Rattle.aug_live.specs.Plans.{Fits, IsGreatest, least_plan};
+ghost use Rattle.aug_live.specs.Plans.{IsGreatest, Suits};
 ghost use Rattle.aug_live.specs.inside.DeskKnowledge.{IsOwner};
 ghost use Rattle.aug_live.specs.inside.Desks.{IsNewBerth};
 ghost use Rattle.aug_live.specs.inside.Rolls.{IsHandleEnd, IsOf, IsOpenedLane, Starts, handles_from, rounds_in};
@@ -158,8 +158,8 @@ impl<A: Monoid, B: Monoid> Live<A, B> {
     /// Opens a trie over a set, for `handles` handles, whose rounds have a table of at most `memory` bytes: `Plan::new` computes their
     /// lanes and updates. While the trie is opened, a list of the table's words takes as much again; all later rounds are in this table.
     ///
-    /// Refused with `BadHandles` for no handle and for more than 64, with `TooLarge` if a table with one update of each handle takes more
-    /// bytes, and with `OutOfMemory`. After a refusal the same set comes back.
+    /// Refused with `BadHandles` for no handle and for more than 64, with `TooLarge` if a table with 64 updates of each handle takes more
+    /// bytes or if no table takes that many, 2^30 and no more, and with `OutOfMemory`. After a refusal the same set comes back.
     pub fn open(
         alloc: Global,
         set: Members,
@@ -172,7 +172,7 @@ impl<A: Monoid, B: Monoid> Live<A, B> {
         ensures lanes { IfOk result (λ t. (lane : ℕ) (h : HandleFacts) → get_elem? t.1.items lane ≡ some h → h.who.lane ≡ lane) }
         ensures same { IfErr result (λ e. e.0 ≡ set) }
         ensures bad_handles { IsErrOf result (set, OpenError.BadHandles) ↔ IsOutside 1 64 handles }
-        ensures too_large { IsErrOf result (set, OpenError.TooLarge) ↔ (IsWithin 1 64 handles × (Fits set.bits memory (least_plan handles) → ⊥)) }
+        ensures too_large { IsErrOf result (set, OpenError.TooLarge) ↔ (IsWithin 1 64 handles × (Suits set.bits handles memory → ⊥)) }
         ensures others { IfErr result (λ e. (e.1 ≢ OpenError.BadLanes) × (e.1 ≢ OpenError.BadUpdates)) }
     {
         if !(1..=64).contains(&handles) {

@@ -10,7 +10,7 @@ ghost use Rattle.aug_trie.specs.Pass.{PassFacts, chain_of};
 ghost use Rattle.aug_trie.specs.Pops.{pop_updates, Pops};
 ghost use Rattle.aug_trie.specs.UpdateBatches.{DoesBatch};
 ghost use Rattle.aug_trie.specs.Updates.{Updates};
-ghost use Rattle.aug_live.specs.LiveHandles.{AllOrSpent, IsSomeOf, Spends, note_at};
+ghost use Rattle.aug_live.specs.LiveHandles.{AllOrSpent, IsRoom, IsSomeOf, Spends, note_at};
 ghost use Rattle.aug_live.specs.inside.LaneKnowledge.{MakesNothing, rounds_at};
 
 use aug_monoid::{Extent, Monoid};
@@ -192,6 +192,34 @@ impl<A: Monoid, B: Monoid> Operation<A, B> for LearnNote<A, B> {
 
     #[inline(always)]
     fn updates(&self, _answer: &()) -> i32 {
+        0
+    }
+}
+
+/// Tells how many updates the pass has left.
+#[derive(Drop)]
+pub(crate) struct TellRoom;
+
+impl<A: Monoid, B: Monoid> Operation<A, B> for TellRoom {
+    type Answer = u32;
+
+    ghost least = { 0 };
+
+    ghost Needs = { λ o table bits. Unit {0} };
+
+    ghost Does = { λ o after left a b. IsRoom left b × (b ≡ a) };
+
+    #[inline(always)]
+    fn least(&self) -> u32 {
+        0
+    }
+
+    fn run(&mut self, pass: &mut Pass<'_, A, B>) -> u32 {
+        pass.budget()
+    }
+
+    #[inline(always)]
+    fn updates(&self, _answer: &u32) -> i32 {
         0
     }
 }

@@ -1,20 +1,24 @@
 //! How the rounds of a trie are laid out.
-ghost use Rattle.std.specs.Prelude.{◌≡◌, ◌≢◌, ◌↔◌, ◌*◌, ◌^◌, ◌≤◌, IfSome, IfNone, IfErr, IfOk, IsErrOf};
+ghost use Rattle.std.specs.Prelude.{◌≡◌, ◌≢◌, ◌↔◌, ◌^◌, IfSome, IfNone, IfErr, IfOk, IsErrOf};
 ghost use Rattle.aug_core.specs.Layout.{IsLayout, IsRefused, IsWithin};
 ghost use Rattle.aug_core.specs.Places.{shape_of, word_count};
-ghost use Rattle.aug_live.specs.Plans.{Fits, IsGreatest, least_plan};
+ghost use Rattle.aug_live.specs.Plans.{Fits, IsGreatest, Suits};
 
 use crate::error::OpenError;
 use aug_core::{Layout, LayoutError, RECORD_WORDS};
 
-// If there are more lanes than handles, each lane has at least this many updates.
-const LEAST_UPDATES: u64 = 256;
+// Each lane has at least this many updates: with fewer, a trie would do little else than roll over.
+const LEAST_UPDATES: u32 = 64;
+
+// And so many if there are more lanes than handles.
+const SPARE_UPDATES: u64 = 256;
 
 const MOST_LANES: u64 = 64;
 
 const MOST_UPDATES: u64 = 65_536;
 
-const MOST_WORDS: u64 = 1 << 26;
+// As many bytes as 2^26 words of a round take.
+const MOST_BYTES: u64 = 1 << 30;
 
 // How many bytes a word of a round takes: the table has two parts, so that the next round can be laid out beside the one at work.
 const PART_WORD: u64 = 16;
@@ -34,21 +38,25 @@ impl Plan {
     /// The greatest plan of a round for `handles` handles, whose table for the full set of `bits` bits takes at most `memory` bytes,
     /// half of them for the round at work and half for the next one: up to
     /// 64 lanes, of 256 updates or more, and fewer lanes only if that many do not fit; then as many updates as fit, up to 65,536. None if
-    /// not even one update of each handle fits, or if no table has these numbers.
+    /// not even 64 updates of each handle fit, if no table has these numbers, or for more than 2^30 bytes, which no table takes.
     pub fn new(bits: u32, handles: u32, memory: u64) -> Option<Plan>
         ensures greatest { IfSome result (IsGreatest bits handles memory) }
-        ensures fits { IfSome result (λ _. Fits bits memory (least_plan handles)) }
-        ensures none { IfNone result (Fits bits memory (least_plan handles) → ⊥) }
+        ensures fits { IfSome result (λ _. Suits bits handles memory) }
+        ensures none { IfNone result (Suits bits handles memory → ⊥) }
     {
+        if memory > MOST_BYTES {
+            return None;
+        }
         let least = Plan {
             lanes: handles,
-            updates: 1,
+            updates: LEAST_UPDATES,
         };
         let words = least.words_within(bits, memory)?;
         // A lane takes a word, and so many for each of its updates.
         let update = RECORD_WORDS as u64 * u64::from(bits);
-        let room = (memory / PART_WORD).min(MOST_WORDS) - words + u64::from(handles) * (1 + update);
-        let lanes = ((room / (1 + LEAST_UPDATES * update)).min(MOST_LANES) as u32).max(handles);
+        let given = u64::from(handles) * (1 + LEAST_UPDATES as u64 * update);
+        let room = memory / PART_WORD - words + given;
+        let lanes = ((room / (1 + SPARE_UPDATES * update)).min(MOST_LANES) as u32).max(handles);
         let updates = ((room / u64::from(lanes) - 1) / update).min(MOST_UPDATES) as u32;
         Some(Plan { lanes, updates })
     }

@@ -10,16 +10,20 @@ use std::alloc::Global;
 use std::process::Abort;
 
 // The bits of the keys, the handles, the bytes of a table, and the lanes and the updates of the greatest plan that fits. The plans grow where there is room
-// for one more update of each lane, or for one more lane.
-const PLANS: [(u32, u32, u64, Option<(u32, u32)>); 8] = [
-    (6, 2, 8_543, None),
-    (6, 2, 8_544, Some((2, 1))),
-    (6, 2, 10_463, Some((2, 2))),
-    (6, 2, 10_464, Some((2, 3))),
+// for one more update of each lane, or for one more lane. Too few bytes are refused, and too many.
+const PLANS: [(u32, u32, u64, Option<(u32, u32)>); 12] = [
+    (6, 2, 69_023, None),
+    (6, 2, 69_024, Some((2, 64))),
+    (6, 2, 69_983, Some((2, 64))),
+    (6, 2, 69_984, Some((2, 65))),
     (6, 2, 376_239, Some((2, 384))),
     (6, 2, 376_240, Some((3, 256))),
     (16, 4, 128 << 20, Some((64, 1_548))),
-    (1, 1, u64::MAX, Some((64, 65_536))),
+    (16, 4, 1 << 30, Some((64, 13_017))),
+    (1, 1, 1 << 30, Some((64, 65_536))),
+    (1, 1, (1 << 30) + 1, None),
+    (1, 1, u64::MAX, None),
+    (6, 65, 1 << 30, None),
 ];
 
 #[test]
@@ -42,8 +46,8 @@ fn words_of(bits: u32, plan: Plan) -> u64 {
         .saturating_add(records.saturating_mul(5))
 }
 
-// A trie is opened over a set with a plan, or within as many bytes as that takes, and closed once its last handle has put so many keys in, from the first one
-// on that the set does not have: the set after it.
+// A trie is opened over a set with a plan, or within as many bytes as that or 64 updates of each lane take, and closed once its last handle has put so many
+// keys in, from the first one on that the set does not have: the set after it.
 fn opens<R: Host + Abort>(
     rt: &R,
     set: Members,
@@ -51,7 +55,8 @@ fn opens<R: Host + Abort>(
     plan: Plan,
     count: u32,
 ) -> Result<Members, OpenError> {
-    let (from, memory) = (set.size(), words_of(set.bits(), plan).saturating_mul(16));
+    let (from, lanes, updates) = (set.size(), plan.lanes, plan.updates.max(64));
+    let memory = words_of(set.bits(), Plan { lanes, updates }).saturating_mul(16);
     let opened = if by_plan && handles <= plan.lanes {
         Live::<Sum, Extent>::open_with(rt.alloc(), set, handles, plan)
     } else {

@@ -9,7 +9,7 @@ use aug_live_testing::opening::{
 };
 use aug_trie::Outcome::{Accepted, Replaced};
 use aug_trie::{Outcome, Pop};
-use aug_trie_testing::rows::Act::{Note, Now, Size};
+use aug_trie_testing::rows::Act::{Note, Now, Room, Size};
 use aug_trie_testing::rows::Change::{Insert, PopFirst, PopLast, Put, Remove};
 use aug_trie_testing::rows::Reply::{Came, Done, IsReplaced, NoLane, Number, Popped};
 use aug_trie_testing::sweeps::EACH;
@@ -48,13 +48,25 @@ fn puts_all<R: Wait>(
     right
 }
 
+// How many updates are left to a handle that made so many, of so many in each lane.
+fn left_of(updates: u32, made: u32) -> u32 {
+    let spent = made % updates.max(1);
+    if spent == 0 {
+        0
+    } else {
+        updates.saturating_sub(spent)
+    }
+}
+
 // Each handle gives each key a weight of its own, and sees them all.
-fn each_puts<R: Host + Abort>(rt: &R, hands: Vec<HandleOf>, keys: Keys) {
+fn each_puts<R: Host + Abort>(rt: &R, hands: Vec<HandleOf>, keys: Keys, updates: u32) {
     let mut weight = 0u32;
     for hand in hands {
         let mut hand = hand;
         let outcome = if weight == 0 { Accepted } else { Replaced };
         holds(rt, puts_all(rt, &mut hand, keys, weight, outcome));
+        let (hand, left) = does(rt, hand, weight % 2 == 1, Room);
+        equal(rt, left, Number(left_of(updates, keys.count)));
         let (_, members) = does(rt, hand, weight % 2 == 0, Size);
         equal(rt, members, Number(keys.count));
         weight = weight.saturating_add(1);
@@ -119,7 +131,7 @@ fn assert_made<R: Host + Abort>(
     let keys = keys_of(bits);
     let spare = (bits % 3).min(64u32.saturating_sub(handles));
     let (mut live, hands) = opened(rt.alloc(), bits, handles, spare, updates)?;
-    each_puts(rt, hands, keys);
+    each_puts(rt, hands, keys, updates);
     equal(rt, rolled(rt, &mut live, false), Done);
     equal(rt, rolled(rt, &mut live, true), Done);
     each_lane_takes_out(rt, &mut live, handles, keys);

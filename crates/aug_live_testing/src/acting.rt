@@ -2,7 +2,8 @@
 //! once, in functions that promise nothing, so that the proof of a test is that of its data.
 
 use crate::opening::{
-    HandleOf, Host, LiveOf, LookOf, changed, closed, fill, looked, refused, renewed, rolled, told,
+    HandleOf, Host, LiveOf, LookOf, changed, closed, fill, looked, refused, renewed, rolled, room,
+    told,
 };
 use aug_query::descent::{
     After, Before, Has, Keys, Pairs, Range, Rank, Select, SelectByWeight, Size, Weight,
@@ -87,6 +88,7 @@ pub fn does<R: Host>(rt: &R, hand: HandleOf, waits: bool, act: Act) -> (HandleOf
         Act::Tell(change) => told(rt, &mut hand, waits, change),
         Act::Fill(from, count) => Reply::Number(fill(rt, &mut hand, waits, from, count)),
         Act::Note => hand.note(rt).map_or_else(refused, |_| Reply::Done),
+        Act::Room => room(rt, &mut hand, waits),
         _ => return shown_to(rt, hand, waits, act),
     };
     (hand, reply)

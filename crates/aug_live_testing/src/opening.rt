@@ -174,6 +174,15 @@ pub fn changed_all<R: Wait>(
     (count.unwrap_or(0), outcomes)
 }
 
+/// How many updates are left to the lane of a handle.
+pub fn room<R: Wait>(rt: &R, hand: &mut HandleOf, waits: bool) -> Reply {
+    if waits {
+        hand.room(rt).map_or_else(refused, Reply::Number)
+    } else {
+        hand.try_room().map_or_else(missed, Reply::Number)
+    }
+}
+
 /// A new handle for a lane, or why there is none.
 pub fn renewed<R: Wait>(
     rt: &R,

@@ -12,8 +12,6 @@ pub mod Changing
 pub mod Boundaries
 pub mod Merging
 pub mod Inside
-pub mod Together
-pub mod Batches
 pub mod Paths
 pub mod Placed
 pub mod Cover

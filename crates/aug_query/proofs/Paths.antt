@@ -15,7 +15,7 @@ use Rattle.aug_query.specs.Tree.{IsTreeSet, IsNodeOf}
 use Rattle.aug_query.specs.Yields.{members_from, members_below, YieldsNext, YieldsPrevious}
 use Rattle.aug_query.specs.inside.Paths.{IsNameOf, IsPath, IsCursor}
 use Rattle.aug_query.specs.declared.descent.cursor.Cursor.{Cursor}
-use Rattle.aug_query.proofs.Batches.{has_weight}
+use Rattle.aug_query.proofs.Listed.{has_weight}
 use Rattle.aug_query.proofs.Choosing.{set_rises, child_fits}
 use Rattle.aug_query.proofs.Descending.{half_place, low_half, high_half, rank_before_right, rank_after_left}
 use Rattle.aug_query.proofs.Descents.{weight_is}

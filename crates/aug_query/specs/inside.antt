@@ -1,5 +1,4 @@
 -- What no promise rests on: what private fields keep, what private calls leave, how views come of fields, and lemmas.
-pub mod Together
 pub mod FirstOver
 pub mod NodePlaces
 pub mod NodeWalkLaws

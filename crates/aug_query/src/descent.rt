@@ -5,12 +5,11 @@
 //! `bits + 1` counts; `SelectByWeight` as many nodes, and `bits + 1` summaries; `First` and `Last` the top and its summary; `Before` and
 //! `After` `3 * bits` nodes, `bits` of them beside a counted one, and `bits + 1` counts; `Range`, `Least` and `Greatest` `4 * bits - 1`
 //! nodes and `2 * bits` summaries; `MembersFrom` and `MembersBelow` `66 * bits + 1` nodes and `33 * bits + 1` counts; `Keys` and `Pairs`,
-//! for `n` members, `2 * bits * n + 1` nodes and `bits * n + 1` counts. `Four` queries of a kind load what each of them does, and so do
-//! `Ranks`, `Memberships` and `Weights` of `n` keys. `ChangesSince`, for `n` members from its key on that the list and the tree have
-//! together, loads `2 * bits * (n + 1) + 1` nodes and `bits * (n + 1) + 1` counts. `next_changes` descends two trees at once, and loads at most
-//! both children, of both trees, for each node that differs.
+//! for `n` members, `2 * bits * n + 1` nodes and `bits * n + 1` counts. `ChangesSince`, for `n` members from its key on that the list and
+//! the tree have together, loads `2 * bits * (n + 1) + 1` nodes and `bits * (n + 1) + 1` counts. `next_changes` descends two trees at once,
+//! and loads at most both children, of both trees, for each node that differs.
 
-mod batches;
+mod by_key;
 mod by_weight;
 mod changes;
 mod counts;
@@ -23,9 +22,8 @@ mod neighbours;
 mod pages;
 mod positions;
 mod since;
-mod together;
 
-pub use batches::{Memberships, Ranks, Weights};
+pub use by_key::ByKey;
 pub use by_weight::SelectByWeight;
 pub use changes::{Changes, next_changes};
 pub use counts::{Rank, Size};
@@ -38,4 +36,3 @@ pub use neighbours::{After, Before};
 pub use pages::{MembersBelow, MembersFrom, Page};
 pub use positions::Select;
 pub use since::ChangesSince;
-pub use together::{ByKey, Four};

@@ -1,7 +1,7 @@
 //! Queries and their answers as data, so that each call is proved once.
-use crate::assertions::{equal, holds};
+use crate::assertions::equal;
 use aug_monoid::{Extent, Monoid};
-use aug_query::descent::{self, First, Greatest, Least, Memberships, Ranks, Weights};
+use aug_query::descent::{self, First, Greatest, Least};
 use aug_query::{
     after, ask as ask_tree, before, has, keys, pairs, range, rank, select, size, weight,
 };
@@ -87,10 +87,6 @@ pub(super) enum Step<'a> {
     Spans(u32, u32, Spanned),
     Keys(&'a [u32]),
     Pairs(&'a [(u32, u32)]),
-    // Batches of keys. Ranks stand behind the numbers that come first.
-    Ranks(&'a [u32], &'a [u32], &'a [u32]),
-    Memberships(&'a [u32], &'a [bool]),
-    Weights(&'a [u32], &'a [Option<u32>]),
 }
 
 // Makes one call, and compares its answer.
@@ -105,32 +101,6 @@ pub(super) fn take(rt: &impl Host, tree: &mut Small, step: &Step<'_>) -> Result<
         Step::Pairs(expected) => {
             let found = pairs_of(rt.alloc(), tree)?;
             equal(rt, found.as_slice(), *expected);
-        }
-        Step::Ranks(first, keys, expected) => {
-            let mut out = Vec::with_capacity(rt.alloc(), first.len() + keys.len())?;
-            out.extend_from_slice(first)?;
-            holds(rt, out.len() + keys.len() <= out.capacity());
-            equal(
-                rt,
-                ask_tree(tree, Ranks { keys, out }).as_slice(),
-                *expected,
-            );
-        }
-        Step::Memberships(keys, expected) => {
-            let out = Vec::with_capacity(rt.alloc(), keys.len())?;
-            equal(
-                rt,
-                ask_tree(tree, Memberships { keys, out }).as_slice(),
-                *expected,
-            );
-        }
-        Step::Weights(keys, expected) => {
-            let out = Vec::with_capacity(rt.alloc(), keys.len())?;
-            equal(
-                rt,
-                ask_tree(tree, Weights { keys, out }).as_slice(),
-                *expected,
-            );
         }
     }
     Ok(())

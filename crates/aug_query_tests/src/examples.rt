@@ -8,8 +8,6 @@ use aug_query_testing::FakeTree;
 use aug_testing::Host;
 use std::alloc::AllocError;
 
-const KEYS: &[u32] = &[9, 4, 5, 5, 16, 10];
-
 const EACH: &[Step<'static>] = &[
     // A range joins in rising order, and leaves its end out.
     Step::Spans(0, 16, (2, Some(9), Some((5, 9)))),
@@ -36,16 +34,10 @@ const EACH: &[Step<'static>] = &[
     Step::Asks(Query::Greatest(9, 5), Answer::Found(None)),
     Step::Keys(&[5, 9]),
     Step::Pairs(&[(5, 70), (9, 30)]),
-
-    // Batches. Ranks stand behind what was there.
-    Step::Ranks(&[], KEYS, &[1, 0, 0, 0, 2, 2]),
-    Step::Ranks(&[7], &[5, 16, 6, 10], &[7, 0, 2, 1, 2]),
-    Step::Memberships(KEYS, &[true, false, true, true, false, false]),
-    Step::Weights(KEYS, &[Some(30), None, Some(70), Some(70), None, None]),
 ];
 
 #[test]
-fn each_query_and_each_batch_answers(rt: HostRuntime) -> Result<(), AllocError> {
+fn each_query_answers(rt: HostRuntime) -> Result<(), AllocError> {
     play(&rt, EACH)
 }
 

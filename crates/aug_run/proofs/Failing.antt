@@ -8,9 +8,10 @@ use Rattle.aug_script.specs.Script.{rounds_of}
 use Rattle.aug_script.specs.declared.report.Report.{Report}
 use Rattle.aug_script.specs.declared.script_round.ScriptRound.{ScriptRound}
 use Rattle.aug_run.specs.Program.{FailsBy}
-use Rattle.aug_run.specs.Runs.{Prints, script_limit}
-use Rattle.aug_run.specs.declared.scripts.run_error.RunError.{RunError}
-use Rattle.aug_run.specs.declared.scripts.run_error.RunError.TheVariants as run
+use Rattle.aug_command.specs.Reading.{script_limit}
+use Rattle.aug_run.specs.Runs.{Prints}
+use Rattle.aug_command.specs.declared.run_error.RunError.{RunError}
+use Rattle.aug_command.specs.declared.run_error.RunError.TheVariants as run
 
 module _ (limits : Bounds) (old new : SinkState) (bytes : List ℕ) where
   -- the bytes that were read are those that were to come, where these are known

@@ -1,5 +1,3 @@
-pub mod CommandLineLemmas
-pub mod OptionReads
 pub mod Failing
 pub mod Printing
 pub mod Rounds

@@ -5,9 +5,10 @@ use Rattle.aug_script.specs.Devices.{SinkState, Writes, WritesBeginning}
 use Rattle.aug_script.specs.Limits.{Bounds}
 use Rattle.aug_script.specs.declared.report.Report.{Report}
 use Rattle.aug_script.specs.declared.script_round.ScriptRound.{ScriptRound}
-use Rattle.aug_run.specs.Runs.{Prints, ReadsAs, RunsInPart, script_limit}
-use Rattle.aug_run.specs.declared.scripts.run_error.RunError.{RunError}
-use Rattle.aug_run.specs.declared.scripts.run_error.RunError.TheVariants as run
+use Rattle.aug_command.specs.Reading.{script_limit}
+use Rattle.aug_run.specs.Runs.{Prints, ReadsAs, RunsInPart}
+use Rattle.aug_command.specs.declared.run_error.RunError.{RunError}
+use Rattle.aug_command.specs.declared.run_error.RunError.TheVariants as run
 
 -- a text was given to a sink: all of it went out and then `finish` was called, or the sink failed after a prefix of it went out
 abbrev pub ShowsText : SinkState → SinkState → List ℕ → Type 0

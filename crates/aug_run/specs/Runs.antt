@@ -10,11 +10,8 @@ use Rattle.aug_script.specs.Script.{rounds_of}
 use Rattle.aug_script.specs.declared.report.Report.{Report}
 use Rattle.aug_script.specs.declared.script_round.ScriptRound.{ScriptRound}
 use Rattle.aug_script.specs.declared.script_error.ScriptError.{ScriptError}
+use Rattle.aug_command.specs.Reading.{script_limit}
 use Rattle.aug_report.specs.AllowedReport.{AllowedReports}
-
--- how many bytes a script may have
-abbrev pub script_limit : ℕ
-script_limit = 16777216
 
 -- what reports print, one after another
 abbrev pub texts_of : List Report → List ℕ

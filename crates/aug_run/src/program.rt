@@ -1,16 +1,13 @@
 //! The program over devices: which stream each text goes to, and the status that the program ends with.
 ghost use Rattle.std.specs.Prelude.{◌≡◌, ◌≢◌, ◌==◌, ◌-◌, ◌^◌, ◌<◌, ◌↔◌, Err, IfErr, IfOk, IfSome, MatchBool, OnOk, string_bytes};
 ghost use Rattle.std.specs.Option.{option_map_or};
-ghost use Rattle.aug_run.specs.Faults.{fault_line, run_ending, stop_ending};
+ghost use Rattle.aug_command.specs.Faults.{fault_line, run_ending, stop_ending};
 ghost use Rattle.aug_run.specs.Program.{FailsBy, ShowsText};
 ghost use Rattle.aug_run.specs.Runs.{RunsWhole};
-ghost use Rattle.aug_run.specs.declared.scripts.run_error.RunError.{RunError};
+ghost use Rattle.aug_command.specs.declared.run_error.RunError.{RunError};
 
-use crate::command_line::options::Options;
-use crate::command_line::stop::Stop;
-use crate::input::Input;
-use crate::scripts::run::run;
-use crate::scripts::run_error::RunError;
+use crate::script::run;
+use aug_command::{Input, Options, RunError, Stop};
 use aug_script::Sink;
 use std::alloc::Global;
 use std::sync::Wait;

@@ -9,14 +9,14 @@ ghost use Rattle.aug_run.specs.inside.Returns.{IsFreshCrew, RanLanes};
 ghost use Rattle.aug_script.specs.Limits.{IsBounds, bounds_at};
 ghost use Rattle.aug_script.specs.Script.{KeepsLimits};
 ghost use Rattle.aug_run.specs.inside.Workers.{limits_of};
-ghost use Rattle.aug_run.specs.declared.scripts.run_error.RunError.{RunError};
+ghost use Rattle.aug_command.specs.declared.run_error.RunError.{RunError};
 
 use crate::gate::Gate;
 use crate::lanes::jobs::jobs;
 use crate::lanes::returning::{in_order, take_back};
 use crate::lanes::threads::in_threads;
-use crate::scripts::run_error::RunError;
 use crate::trie::{CrewOf, SharedRound, Trie};
+use aug_command::RunError;
 use aug_script::{Limits, Listed, Reply, Report, Row, ScriptRound};
 use aug_trie::{BeginError, Round};
 use std::alloc::{AllocError, Global};

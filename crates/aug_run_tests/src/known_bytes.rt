@@ -3,8 +3,9 @@ ghost use Rattle.std.specs.Prelude.{◌≡◌, IfSome, codes};
 
 use crate::assertions::equal;
 use crate::test_input::TestInput;
+use aug_command::Options;
 use aug_report::one_list;
-use aug_run::{Options, carry_out};
+use aug_run::carry_out;
 use aug_script::{Limits, MemorySink};
 use std::alloc::Global;
 use std::sync::Wait;

@@ -1,4 +1,4 @@
-//! The tests of `aug_run`: scripts, rounds and words with their results, and what happens if a device or memory fails.
+//! The tests of `aug_run`: scripts, rounds and the program with their results, and what happens if a device or memory fails.
 #![tactic(auto)]
 
 #[cfg(test)]
@@ -10,14 +10,8 @@ mod known_bytes;
 #[cfg(test)]
 mod programs;
 #[cfg(test)]
-mod reading;
-#[cfg(test)]
 mod rounds;
-#[cfg(test)]
-mod run_errors;
 #[cfg(test)]
 mod scripts;
 #[cfg(test)]
 mod test_input;
-#[cfg(test)]
-mod words;

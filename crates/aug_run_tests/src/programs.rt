@@ -1,7 +1,8 @@
 //! The program over devices that are in memory: its words, its statuses and its texts.
 use crate::assertions::equal;
 use crate::test_input::TestInput;
-use aug_run::{carry_out, options};
+use aug_command::options;
+use aug_run::carry_out;
 use aug_script::MemorySink;
 use aug_testing::Host;
 use std::alloc::{AllocError, Global};
@@ -10,7 +11,7 @@ use std::test::Fail;
 use std::thread::Threads;
 
 // The words of a line, parted by blanks.
-pub(crate) fn words_of(alloc: Global, line: &str) -> Result<Vec<String>, AllocError> {
+fn words_of(alloc: Global, line: &str) -> Result<Vec<String>, AllocError> {
     let mut words = Vec::new(alloc);
     for word in line.split_whitespace() {
         words.push(String::from_str(alloc, word)?)?;

@@ -1,6 +1,7 @@
 //! Whole scripts, with what they print.
 use crate::assertions::{equal, holds};
-use aug_run::{RunError, run};
+use aug_command::RunError;
+use aug_run::run;
 use aug_script::ScriptError::*;
 use aug_script::{Limits, MemorySink, MemorySource, ScriptError};
 use aug_testing::Host;

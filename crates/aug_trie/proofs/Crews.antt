@@ -46,10 +46,10 @@ use Rattle.aug_trie.proofs.RoundLemmas.{of_round}
 module _ (face : ℕ → ℕ → List (ℕ × ℕ) → List ℕ) where
   -- the lead of a table that was just opened
   module _ (o : Opening) (laid_out : IsLayout o.shape) (set : IsKeySet o.shape.bits (keys_of o.members)) (fit : All FitsPair o.members) (few : length o.members ≤ o.shape.members) where
-    pub begins_crew : (past : List PastEra) (era base : ℕ) (words whole : List ℕ) → HoldsCrew face (opener face o past era base words whole) 0 0 0
-    begins_crew past era base words whole = record {
+    pub begins_crew : (past : List PastEra) (era base : ℕ) (lent words whole : List ℕ) → HoldsCrew face (opener face o past era base lent words whole) 0 0 0
+    begins_crew past era base lent words whole = record {
       handed = 0;
-      is_crew = crew_begins face (opener face o past era base words whole) (opener_knows face o past era base words whole laid_out set fit (let long = length-keys_of o.members in omega arith)) refl refl;
+      is_crew = crew_begins face (opener face o past era base lent words whole) (opener_knows face o past era base lent words whole laid_out set fit (let long = length-keys_of o.members in omega arith)) refl refl;
       few = omega arith;
       back_is = refl;
       inserts_are = refl;

@@ -11,7 +11,7 @@ use Rattle.aug_core.specs.declared.view.Change.{Change}
 use Rattle.aug_core.specs.declared.view.Held.{Held}
 use Rattle.aug_core.specs.declared.view.LaneState.TheVariants.{Taken, Ended}
 use Rattle.aug_core.specs.declared.view.SeatView.{SeatView}
-use Rattle.aug_core.proofs.Fits.{knows_shown, knows_same, knows_taken}
+use Rattle.aug_core.proofs.Fits.{knows_lent, knows_shown, knows_same, knows_taken}
 use Rattle.aug_core.proofs.Splits.{block_long}
 use Rattle.aug_trie.specs.inside.Goes.{HasRoom, HasLeaves}
 use Rattle.aug_trie.specs.History.{last_cut}
@@ -109,7 +109,7 @@ module _ (face : ℕ → ℕ → List (ℕ × ℕ) → List ℕ) where
 
     pub back_table : KnowsTable face w
     back_table = let u : SeatView = taking_back v (finishing p place) in
-        knows_shown face u w (knows_same face v u.live u.also u.held u.spare u.began u.steps kv) t.sees back_shape (ap (λ (z : SeatView). z.members) t.stepped)
+        knows_shown face u w (knows_lent face record v { live = u.live; also = u.also; held = u.held; spare = u.spare; began = u.began; steps = u.steps } u.lent (knows_same face v u.live u.also u.held u.spare u.began u.steps kv)) t.sees back_shape (ap (λ (z : SeatView). z.members) t.stepped)
 
     all_changes : changes_of w.held ≡ changes_of v.held ++ changes_of p.held
     all_changes = ap (λ (z : SeatView). changes_of z.held) t.stepped ∙ changes-append v.held (on_first (in_state Ended) p.held) ∙ ap (λ (z : List Change). changes_of v.held ++ z) (finished_changes p lane only)

@@ -86,6 +86,8 @@ pub enum Act {
     Fill(u32, u32),
     /// The pass, the crew in the place of a pass that is not out, or the handle makes a note. That of a handle is dropped.
     Note,
+    /// How many updates are left to the lane of the handle.
+    Room,
     /// The handle takes a look, the look takes a newer snapshot, and it is over.
     Look,
     Again,

@@ -1,12 +1,11 @@
 -- What the words of a table at rest are.
-use Rattle.std.proofs.Common.{true, ⊎_elim, ◌≡◌, ℕ, zero, suc, ◌+◌, ◌-◌, ◌*◌, List, [], ◌∷◌, get_or, refl, sym, ap, ◌∙◌, subst}
+use Rattle.std.proofs.Common.{true, ◌≡◌, ℕ, zero, suc, ◌+◌, ◌-◌, ◌*◌, List, [], ◌∷◌, get_or, refl, sym, ap, ◌∙◌, subst}
 use mathlib.Core.Option.{some, some-injective, some-ne-none}
 use lib.ListN.{get_elem?}
 use Rattle.atomic_table.specs.Table.{Final, Seen}
-use Rattle.aug_core.specs.Eras.{IsAtWork, table_part, Works, Renews, Ruled}
+use Rattle.aug_core.specs.Eras.{IsAtWork, table_part, Ruled}
 use Rattle.aug_core.specs.Renewals.{EndWith}
 use Rattle.aug_core.specs.Effects.{opening_of}
-use Rattle.aug_core.proofs.Eras.{none_renews}
 use Rattle.aug_core.proofs.Renewals.{met_rule}
 use Rattle.aug_core.specs.Addresses.{IsInner}
 use Rattle.aug_core.specs.Lanes.{first_record}
@@ -45,9 +44,8 @@ module _ (face : ℕ → ℕ → List (ℕ × ℕ) → List ℕ) (o : Opening) w
 
 -- a table that a lead closes met the rule of the opening that the lead knows
 pub ends_with : (face : ℕ → ℕ → List (ℕ × ℕ) → List ℕ) (made : Shape) (id : ℕ) (v : SeatView) (words : List ℕ) (slots : List (Unit {0})) → Final (Seen (Ruled face made) id v) words slots → v.live ≡ true → IsAtWork v → EndWith face (opening_of v) v (table_part v.base (word_count v.shape) words)
-ends_with face made id v words slots end live work = ⊎_elim
-    (λ (w : Works face made end.0). subst (λ (z : List ℕ). EndWith face (opening_of v) v (table_part v.base (word_count v.shape) z)) end.2 (met_rule face made end.0 w id v end.1.1 live (w.present id v end.1.1 work) work))
-    (λ (r : Renews made end.0). absurd (none_renews face made end.0 id v end.1.1 work r)) end.1.0
+ends_with face made id v words slots end live work = let w : Ruled face made end.0 = end.1.0 in
+    subst (λ (z : List ℕ). EndWith face (opening_of v) v (table_part v.base (word_count v.shape) z)) end.2 (met_rule face made end.0 w id v end.1.1 live (w.present id v end.1.1 work) work)
 
 -- a word that was found is the word there
 pub found_at : (words : List ℕ) (i x : ℕ) → get_elem? words i ≡ some x → x ≡ get_or words i 0

@@ -24,6 +24,7 @@ use Rattle.aug_core.specs.declared.step.StepTaken.{StepTaken}
 use Rattle.aug_core.specs.declared.view.LaneState.TheVariants.{Free}
 use Rattle.aug_core.specs.Lanes.{word_of_state}
 use Rattle.aug_core.specs.Effects.{Sat, Says, KnowsTable}
+use Rattle.aug_core.specs.inside.ClearParts.{IsClear}
 use Rattle.aug_core.specs.Eras.{table_part, Ruled}
 use Rattle.aug_core.proofs.Eras.{part_set, part_long, beside_set}
 use Rattle.aug_core.proofs.Renewals.{looks_beside, lays}
@@ -138,7 +139,7 @@ module _ (base : ℕ) (s : Shape) where
       long = sym c.beside.long ∙ m.long;
       inside = m.inside;
       few = m.few;
-      leads = let l = m.leads in record { next = l.next; leads = l.leads; live = l.live; apart = l.apart };
+      leads = let l = m.leads in record { next = l.next; leads = l.leads; live = l.live; apart = l.apart; clear = l.clear };
     }
 
   module _ (a t : TableId) (me : Sat) (m : MayLay a t base s me) where
@@ -154,6 +155,7 @@ module _ (base : ℕ) (s : Shape) where
       -- and stored
       pub lay_stores : Allows (Ruled face shape) n id me i (λ _. x) (λ _ m. rewrote (step n i x 0 none) me x m)
       lay_stores = let l = m.leads in lays face shape n id l.next i x me l.leads m.no_slot l.live (⊎_elim (λ below. inl (omega (arith, below, at, inside))) (λ above. inr (omega (arith, above, at))) l.apart)
+          (subst (λ (z : ℕ). IsClear (word_count me.0.shape) me.0.lent z) (sym at) (l.clear place inside))
 
 -- ---- a lead that brings it up to what it has seen
 
@@ -200,7 +202,7 @@ module _ (base : ℕ) (s : Shape) where
         long = sym c.beside.long ∙ m.may.long;
         inside = m.may.inside;
         few = m.may.few;
-        leads = let l = m.may.leads in record { next = l.next; leads = l.leads; live = l.live; apart = l.apart };
+        leads = let l = m.may.leads in record { next = l.next; leads = l.leads; live = l.live; apart = l.apart; clear = l.clear };
       };
       shaped = m.shaped;
       wide = m.wide;

@@ -1,5 +1,5 @@
 -- The seat of a lead, and the table that it sits at.
-use Rattle.std.proofs.Common.{◌≡◌, ℕ, ◌+◌, ◌^◌, ◌<◌, ◌≤◌, List, [], ◌∷◌, ◌++◌, length, All, Option, Some, option_map, sym, refl, ap, ◌∙◌, subst, arith}
+use Rattle.std.proofs.Common.{◌≡◌, ℕ, ◌+◌, ◌^◌, ◌<◌, ◌≤◌, List, [], ◌∷◌, ◌++◌, length, All, Option, Some, option_map, sym, refl, ap, ◌∙◌, subst, arith, ⊎_elim, inl, inr}
 use Rattle.std.specs.Prelude.{unwrap_or}
 use Rattle.aug_core.specs.Lanes.{IsOfLane}
 use Rattle.aug_core.specs.Addresses.{IsInner, root_place, level_of, place_on}
@@ -19,7 +19,7 @@ use Rattle.aug_core.proofs.Splits.{block_long}
 use Rattle.aug_core.proofs.Clients.{new_pass_may_store, new_pass_may_change}
 use Rattle.aug_core.specs.Eras.{seen_in}
 use Rattle.aug_core.proofs.Eras.{seen_now}
-use Rattle.aug_core.proofs.Fits.{knows_shown, knows_same, knows_told, knows_taken}
+use Rattle.aug_core.proofs.Fits.{knows_shown, knows_lent, knows_same, knows_told, knows_taken}
 use Rattle.atomic_table.specs.Seated.{TableId}
 use Rattle.aug_core.specs.Places.{Shape}
 use Rattle.aug_core.specs.Opening.{Opening, opening_number, opening_entry}
@@ -28,13 +28,14 @@ use Rattle.aug_core.specs.Layout.{IsLayout}
 use Rattle.aug_core.proofs.Openings.{inner_history, opener, opener_knows}
 use Rattle.aug_model.specs.Keys.{IsKeySet, keys_of}
 use Rattle.aug_monoid.specs.Weighted.{FitsPair}
-use mathlib.Core.Option.{some}
+use mathlib.Core.Option.{some, some-ne-none}
 use lib.ListN.{get_elem?}
 use Rattle.aug_words.specs.Leads.{HandsLaneOut}
 use Rattle.aug_words.specs.Notes.{LearnsNote}
 use Rattle.aug_words.specs.inside.SeatState.{SitsAt, IsPassSeat, IsLeadSeat, IsLead, IsStore}
 use Rattle.aug_words.specs.inside.Laying.{Brings, IsDraft, NamesEntry, MayBring, ShownBelow, StepsBeside, words_in}
 use Rattle.aug_core.proofs.Levels.{level_is, root_word}
+use Rattle.aug_core.specs.inside.ClearParts.{IsClear, IsClearPart}
 use Rattle.aug_words.proofs.Lays.{drafts_on, knows_steps}
 use Rattle.aug_words.proofs.Passes.{placed_on}
 use Rattle.aug_core.proofs.PrefixLemmas.{book_refl}
@@ -57,13 +58,14 @@ pub root_inner : (s : Shape) → 1 ≤ s.bits → s.bits ≤ 16 → IsInner s (r
 root_inner s some_bits few = let b = (keys-within s.bits some_bits few).0 in let t = twice s.bits in record { past_leaves = omega arith; inside = omega arith }
 
 -- the seat that opens a table, which has the number of the root's opening record
-pub opening_seat : (face : ℕ → ℕ → List (ℕ × ℕ) → List ℕ) (o : Opening) (past : List PastEra) (era base : ℕ) (words whole : List ℕ) (number : ℕ) → IsLayout o.shape → IsKeySet o.shape.bits (keys_of o.members) → All FitsPair o.members → length (keys_of o.members) ≤ o.shape.members
-    → number ≡ opening_number o (root_place o.shape) → IsLeadSeat face 0 number (opener face o past era base words whole, [])
-opening_seat face o past era base words whole number laid_out set fit few named = let inner = root_inner o.shape laid_out.bits.0 laid_out.bits.1 in let only = inner_history face o (root_place o.shape) inner in record {
+pub opening_seat : (face : ℕ → ℕ → List (ℕ × ℕ) → List ℕ) (o : Opening) (past : List PastEra) (era base : ℕ) (lent words whole : List ℕ) (number : ℕ) → lent ≡ [] → IsLayout o.shape → IsKeySet o.shape.bits (keys_of o.members) → All FitsPair o.members → length (keys_of o.members) ≤ o.shape.members
+    → number ≡ opening_number o (root_place o.shape) → IsLeadSeat face 0 number (opener face o past era base lent words whole, [])
+opening_seat face o past era base lent words whole number none laid_out set fit few named = let inner = root_inner o.shape laid_out.bits.0 laid_out.bits.1 in let only = inner_history face o (root_place o.shape) inner in record {
   live = refl;
   no_slot = refl;
   hands_out = refl;
-  knows = opener_knows face o past era base words whole laid_out set fit few;
+  none_lent = none;
+  knows = opener_knows face o past era base lent words whole laid_out set fit few;
   names_root = record {
     index = 0;
     entry = opening_entry face o (root_place o.shape);
@@ -91,6 +93,7 @@ module _ (face : ℕ → ℕ → List (ℕ × ℕ) → List ℕ) (a a' : TableId
     live = ap (λ (z : SeatView). z.live) is ∙ seat.live;
     no_slot = empty;
     hands_out = ap (λ (z : SeatView). z.spare) is ∙ seat.hands_out;
+    none_lent = ap (λ (z : SeatView). z.lent) is ∙ seat.none_lent;
     knows = knows_shown face me.0 me'.0 seat.knows did.sees (ap (λ (z : SeatView). z.shape) is) (ap (λ (z : SeatView). z.members) is);
     names_root = record {
       index = did.index;
@@ -106,6 +109,7 @@ module _ (face : ℕ → ℕ → List (ℕ × ℕ) → List ℕ) (a a' : TableId
     live = seat.live;
     no_slot = refl;
     hands_out = seat.hands_out;
+    none_lent = seat.none_lent;
     knows = knows_same face me.0 me.0.live me.0.also me.0.held me.0.spare me.0.began (me.0.steps ++ taken ∷ []) seat.knows;
     names_root = let at = seat.names_root in record { index = at.index; entry = at.entry; newest = at.newest; named = at.named };
   })
@@ -116,17 +120,19 @@ module _ (face : ℕ → ℕ → List (ℕ × ℕ) → List ℕ) (a a' : TableId
     live = seat.live;
     no_slot = seat.no_slot;
     hands_out = ap (option_map (λ n. n + 1)) seat.hands_out;
+    none_lent = seat.none_lent;
     knows = knows_same face me.0 me.0.live me.0.also me.0.held (option_map (λ n. n + 1) me.0.spare) me.0.began me.0.steps seat.knows;
     names_root = let at = seat.names_root in record { index = at.index; entry = at.entry; newest = at.newest; named = at.named };
   })
 
   -- one that took a pass in
-  pub lead_joined : (w : SeatView) → me'.0 ≡ taking_back me.0 w → me'.1 ≡ me.1 → IsLead face a' b next root other shown me'
-  lead_joined w is same = works_still next root (ap (λ (z : SeatView). z.shape) is) (ap (λ (z : SeatView). z.base) is) (ap (λ (z : SeatView). z.whole) is) (ap (λ (z : SeatView). z.seen) is) (subst (IsLeadSeat face next root) (λ i. (sym is i, sym same i)) record {
+  pub lead_joined : (w : SeatView) → w.lent ≡ [] → me'.0 ≡ taking_back me.0 w → me'.1 ≡ me.1 → IsLead face a' b next root other shown me'
+  lead_joined w none is same = works_still next root (ap (λ (z : SeatView). z.shape) is) (ap (λ (z : SeatView). z.base) is) (ap (λ (z : SeatView). z.whole) is) (ap (λ (z : SeatView). z.seen) is) (subst (IsLeadSeat face next root) (λ i. (sym is i, sym same i)) record {
     live = seat.live;
     no_slot = seat.no_slot;
     hands_out = seat.hands_out;
-    knows = knows_same face me.0 me.0.live w.seen (me.0.held ++ w.held) me.0.spare me.0.began me.0.steps seat.knows;
+    none_lent = (λ i. seat.none_lent i ++ none i);
+    knows = knows_lent face record me.0 { also = w.seen; held = me.0.held ++ w.held } (me.0.lent ++ w.lent) (knows_same face me.0 me.0.live w.seen (me.0.held ++ w.held) me.0.spare me.0.began me.0.steps seat.knows);
     names_root = let at = seat.names_root in record { index = at.index; entry = at.entry; newest = at.newest; named = at.named };
   })
 
@@ -136,11 +142,20 @@ module _ (face : ℕ → ℕ → List (ℕ × ℕ) → List ℕ) (a a' : TableId
     live = seat.live;
     no_slot = seat.no_slot;
     hands_out = seat.hands_out;
+    none_lent = seat.none_lent;
     knows = knows_told face me.0 (seen_in me.0.era w).seen (Some (learnt_of w)) seat.knows;
     names_root = let at = seat.names_root in record { index = at.index; entry = at.entry; newest = at.newest; named = at.named };
   })
 
 -- ---- a lead that lays the next opening out
+
+-- a word of a part where nobody reads
+clear_place : (size base place : ℕ) (lent : List ℕ) → IsClearPart size lent base → place < size → IsClear size lent (base + place)
+clear_place size base place lent clear small b has = ⊎_elim (λ low. inr (omega (arith, low))) (λ high. inl (omega (arith, high, small))) (clear b has)
+
+-- where a view answers for nobody
+pub nobody_reads : (v : SeatView) (size base : ℕ) → v.lent ≡ [] → IsClearPart size v.lent base
+nobody_reads v size base none b has = let out : get_elem? [] has.0 ≡ some b = subst (λ (z : List ℕ). get_elem? z has.0 ≡ some b) none has.1 in absurd (some-ne-none b (sym out))
 
 module _ (face : ℕ → ℕ → List (ℕ × ℕ) → List ℕ) (a : TableId) (b next root other : ℕ) (shown : List ℕ) (me : Sat) (lead : IsLead face a b next root other shown me) (room : 2 ^ me.0.shape.bits ≤ me.0.shape.members) where
   seated : IsLeadSeat face next root me
@@ -158,7 +173,7 @@ module _ (face : ℕ → ℕ → List (ℕ × ℕ) → List ℕ) (a : TableId) (
       long = lead.2 ∙ ap (λ (z : TableId). z.words) one;
       inside = subst (λ (z : TableId). other + word_count me.0.shape ≤ z.words) one draft.inside;
       few = subst (λ (z : TableId). z.words < 2 ^ 60) one lead.0.few;
-      leads = record { next = next; leads = seated.hands_out; live = seated.live; apart = draft.apart };
+      leads = record { next = next; leads = seated.hands_out; live = seated.live; apart = draft.apart; clear = λ place small. clear_place (word_count me.0.shape) other place me.0.lent (nobody_reads me.0 (word_count me.0.shape) other seated.none_lent) small };
     };
     shaped = refl;
     wide = subst (λ (z : TableId). me.0.base + word_count me.0.shape ≤ z.words) one lead.0.wide;
@@ -190,6 +205,7 @@ module _ (face : ℕ → ℕ → List (ℕ × ℕ) → List ℕ) (a : TableId) (
         live = seated.live;
         no_slot = refl;
         hands_out = seated.hands_out;
+        none_lent = seated.none_lent;
         knows = knows_steps face me.0 me'.0.whole me'.0.steps seated.knows;
         names_root = let n = seated.names_root in record { index = n.index; entry = n.entry; newest = n.newest; named = n.named };
       } in
@@ -224,6 +240,8 @@ new_pass face next root place lead me seat low empty is =
       taken = refl;
       long = block_long lead.0.shape lead.0.words (unwrap_or lead.0.spare 0);
       exists = low;
+      follows = refl;
+      none_lent = refl;
       knows = knows_taken face lead.0 place seat.knows;
     }
 

@@ -80,6 +80,8 @@ module _ (face : ℕ → ℕ → List (ℕ × ℕ) → List ℕ) (a a' t : Table
       taken = taken;
       long = subst (λ (z : Shape). length h.words ≡ block_size z) (sym same) long;
       exists = subst (λ (z : Shape). lane < z.workers) (sym same) seat.exists;
+      follows = ap (λ (z : SeatView). z.spare) is ∙ seat.follows;
+      none_lent = ap (λ (z : SeatView). z.lent) is ∙ seat.none_lent;
       knows = knows_shown face me.0 me'.0 seat.knows sees same (ap (λ (z : SeatView). z.members) is);
     },
   )
@@ -122,6 +124,8 @@ module _ (face : ℕ → ℕ → List (ℕ × ℕ) → List ℕ) (a a' t : Table
       taken = taken;
       long = long;
       exists = seat.exists;
+      follows = seat.follows;
+      none_lent = seat.none_lent;
       knows = knows_same face me.0 me.0.live me.0.also held me.0.spare me.0.began steps seat.knows;
     },
   )
@@ -139,6 +143,8 @@ module _ (face : ℕ → ℕ → List (ℕ × ℕ) → List ℕ) (a a' t : Table
       taken = seat.taken;
       long = seat.long;
       exists = seat.exists;
+      follows = seat.follows;
+      none_lent = seat.none_lent;
       knows = knows_told face me.0 (seen_in me.0.era w).seen (Some (learnt_of w)) seat.knows;
     },
   )

@@ -38,7 +38,7 @@ module _ (face : ℕ → ℕ → List (ℕ × ℕ) → List ℕ) (o : Opening) (
     pub records : (a number field : ℕ) (h : Held) → get_elem? v.held a ≡ some h → IsOfLane o.shape h.lane number → field < record_words → slice_index words (record_start o.shape number + field) ≡ held_word o.shape h number field
 
 module _ (face : ℕ → ℕ → List (ℕ × ℕ) → List ℕ) where
-  -- a lead that brings its table to rest loads the root, by which it knows the last book of the era; and from then on it knows all words
+  -- a lead that ends an era knows its last book, as a load of the root would show it; and all words
   pub record ComesToRest (v idle : SeatView) : Type 0 where
     pub root : ℕ
     pub last : SeatView
@@ -46,8 +46,7 @@ module _ (face : ℕ → ℕ → List (ℕ × ℕ) → List ℕ) where
     pub idle_is : idle ≡ renewing last idle.whole
     pub rule : EndWith face (opening_of last) last (table_part v.base (word_count v.shape) idle.whole)
 
-  -- a lead opens its table again in another part, over the members below the newest record of the root that it has seen; before that it loads records, and
-  -- then the root
+  -- a lead opens its table again in another part, over the members below the newest record of the root that it has seen; before that it loads records
   pub record OpensAgain (v w : SeatView) : Type 0 where
     pub prepared : SeatView
     pub prepared_is : prepared ≡ record v { whole = prepared.whole; steps = prepared.steps }

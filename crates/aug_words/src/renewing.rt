@@ -2,9 +2,8 @@
 ghost use Rattle.std.specs.Prelude.{◌≡◌, ℕ, ◌+◌, ◌<◌, ◌≤◌, ◌^◌, [], true, List};
 ghost use Rattle.aug_core.specs.Faces.{face};
 ghost use Rattle.aug_core.specs.Eras.{opening_with};
-ghost use Rattle.aug_core.specs.Addresses.{root_place};
 ghost use Rattle.aug_core.specs.Layout.{IsLayout};
-ghost use Rattle.aug_core.specs.Renewals.{HoldsAll, BeginsRenewal, IsOpened, reopening};
+ghost use Rattle.aug_core.specs.Renewals.{HoldsAll, IsOpened, Reopens};
 ghost use Rattle.aug_words.specs.Rests.{OpensAgain};
 ghost use Rattle.aug_words.specs.Seats.{AreTogether};
 ghost use Rattle.aug_words.specs.inside.Laying.{OpensOver, words_in};
@@ -12,30 +11,10 @@ ghost use Rattle.aug_words.specs.inside.Laying.{OpensOver, words_in};
 use crate::lead::Lead;
 use crate::words::Words;
 use atomic_table::Seat;
-use aug_core::{BeginRenewal, OpenAgain, SeatView, SharedWords};
+use aug_core::{OpenAgain, SeatView, SharedWords};
 use aug_monoid::Monoid;
 
-// Begins to renew a table whose lanes are all back: a load of the root's word.
-fn begin_renewal<A: Monoid, B: Monoid>(
-    words: &SharedWords<A, B>,
-    seat: &mut Seat<(), SeatView>,
-    root: usize,
-) -> u64
-    requires table { seat.old.table_id ≡ words.now.table_id }
-    requires inside { root < words.now.table_id.words }
-    requires root { root ≡ seat.old.me.0.base + root_place seat.old.me.0.shape }
-    requires laid_out { IsLayout seat.old.me.0.shape }
-    requires live { seat.old.me.0.live ≡ true }
-    requires no_slot { seat.old.me.1 ≡ [] }
-    requires all { HoldsAll seat.old.me.0 }
-    ensures table { seat.new.table_id ≡ seat.old.table_id }
-    ensures no_slot { seat.new.me.1 ≡ [] }
-    ensures view { BeginsRenewal (face A.parts B.parts) seat.old.me.0 (root_place seat.old.me.0.shape) result seat.new.me.0 }
-{
-    words.load::<BeginRenewal<A, B>>(seat, root)
-}
-
-// Opens a table again in a part whose words the seat has written: a load of the first of them.
+// Ends the era of a table whose lanes are all back, and opens it in a part whose words the seat has written: a load of the first of them.
 fn reopen<A: Monoid, B: Monoid>(
     words: &SharedWords<A, B>,
     seat: &mut Seat<(), SeatView>,
@@ -43,12 +22,14 @@ fn reopen<A: Monoid, B: Monoid>(
 )
     requires table { seat.old.table_id ≡ words.now.table_id }
     requires some { base < words.now.table_id.words }
-    requires renews { seat.old.me.0.renews ≡ true }
+    requires laid_out { IsLayout seat.old.me.0.shape }
+    requires live { seat.old.me.0.live ≡ true }
     requires no_slot { seat.old.me.1 ≡ [] }
+    requires all { HoldsAll seat.old.me.0 }
     requires opened { OpensOver (face A.parts B.parts) base seat.old.me.0 }
     ensures table { seat.new.table_id ≡ seat.old.table_id }
     ensures no_slot { seat.new.me.1 ≡ [] }
-    ensures view { (members : List (ℕ × ℕ)) → IsOpened (face A.parts B.parts) (opening_with seat.old.me.0.shape members) (words_in base seat.old.me.0.shape seat.old.me.0) → seat.new.me.0 ≡ reopening (face A.parts B.parts) members base seat.old.me.0 }
+    ensures view { (members : List (ℕ × ℕ)) → IsOpened (face A.parts B.parts) (opening_with seat.old.me.0.shape members) (words_in base seat.old.me.0.shape seat.old.me.0) → Reopens (face A.parts B.parts) members base seat.old.me.0 seat.new.me.0 }
 {
     words.load::<OpenAgain<A, B>>(seat, base);
 }
@@ -56,7 +37,7 @@ fn reopen<A: Monoid, B: Monoid>(
 impl<A: Monoid, B: Monoid> Words<A, B> {
     /// Ends the era, once all passes that its lead handed out are back, and opens the table again, in its other part, over the set of the last cut that
     /// the lead knows. It has room for all keys. The lead hands out all lanes anew. What [`Lead::prepare`] has left to do is done first, and what is right already
-    /// is not stored. Then the call loads the root, and the first word of that part. It takes no memory.
+    /// is not stored. Then a load of the first word of that part opens it. The call takes no memory.
     pub fn open_again(&self, lead: Lead<A, B>) -> Lead<A, B>
         requires together { AreTogether self.now lead }
         requires room { 2 ^ self.now.shape.bits ≤ self.now.shape.members }
@@ -86,7 +67,6 @@ impl<A: Monoid, B: Monoid> Words<A, B> {
         let next = draft.base;
         self.lay_shared(&mut seat, next);
         self.free_lanes(&mut seat, next);
-        begin_renewal(&self.table.shared, &mut seat, base + top);
         reopen(&self.table.shared, &mut seat, next);
         Lead {
             seat,

@@ -2,7 +2,7 @@
 ghost use Rattle.std.specs.Prelude.{◌≡◌, ℕ, ◌+◌, ◌-◌, ◌^◌, ◌<◌, ◌≤◌, Option, None, List, length, IfOk, OnOk, is_ok, if◌then◌else◌};
 ghost use Rattle.std.specs.Io.KnownBytes.{ReadConsumes};
 
-use aug_run::Input;
+use aug_command::Input;
 use aug_script::{Fault, Source};
 use std::fs::File;
 use std::io::Read;

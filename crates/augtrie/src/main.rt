@@ -3,7 +3,8 @@
 
 mod input;
 
-use aug_run::{Options, Stop, carry_out, options};
+use aug_command::{Options, Stop, options};
+use aug_run::carry_out;
 use aug_script::ToWrite;
 use input::HostInput;
 use std::env;

@@ -1,14 +1,10 @@
--- What a step leaves of its seat's era, and which views may make a note.
-use Rattle.std.specs.Prelude.{◌≡◌, ◌⊎◌, ℕ, false, Some}
+-- What a step leaves of its seat's era.
+use Rattle.std.specs.Prelude.{◌≡◌, ℕ, Some}
 use Rattle.aug_core.specs.Effects.{Sat}
 use Rattle.aug_core.specs.Eras.{IsAtWork}
 use Rattle.aug_core.specs.declared.view.SeatView.{SeatView}
 
--- the view may make a note: it is at work, or it does not renew the table alone
-abbrev pub MayNote : SeatView → Type 0
-MayNote v = IsAtWork v ⊎ (v.renews ≡ false)
-
--- a step leaves the era of its seat and those before it, where it works, what notes told, what it knows beside, and whether it leads or renews the table
+-- a step leaves the era of its seat and those before it, where it works, what notes told, what it knows beside; who leads led
 pub record Remains (v w : SeatView) : Type 0 where
   pub live : w.live ≡ v.live
   pub era : w.era ≡ v.era
@@ -16,11 +12,17 @@ pub record Remains (v w : SeatView) : Type 0 where
   pub shape : w.shape ≡ v.shape
   pub members : w.members ≡ v.members
   pub told : w.told ≡ v.told
-  pub renews : w.renews ≡ v.renews
   pub base : w.base ≡ v.base
   pub whole : w.whole ≡ v.whole
   pub led : (n : ℕ) → w.spare ≡ Some n → (m : ℕ) × (v.spare ≡ Some m)
 
--- what a step shows, and that
+-- and it leaves whether its seat reads, and for which readers it answers; who is at work stays so, and who leads
+pub record LendsAs (v w : SeatView) : Type 0 where
+  pub reads : w.reads ≡ v.reads
+  pub lent : w.lent ≡ v.lent
+  pub leads : (n : ℕ) → v.spare ≡ Some n → (m : ℕ) × (w.spare ≡ Some m)
+  pub works : IsAtWork v → IsAtWork w
+
+-- what a step shows, and these
 abbrev pub WithEra : Sat → (ℕ → Sat → Type 0) → ℕ → Sat → Type 0
-WithEra me told r m = told r m × Remains me.0 m.0
+WithEra me told r m = told r m × Remains me.0 m.0 × LendsAs me.0 m.0

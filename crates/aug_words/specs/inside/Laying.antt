@@ -18,6 +18,8 @@ use Rattle.aug_core.specs.declared.view.LaneState.TheVariants.{Free}
 use Rattle.aug_core.specs.declared.view.SeatView.{SeatView}
 use Rattle.aug_core.specs.Opening.{shared_words}
 use Rattle.aug_core.specs.Renewals.{IsOpened}
+use Rattle.aug_core.specs.Readers.{IsAside}
+use Rattle.aug_core.specs.inside.ClearParts.{IsClear, IsClearPart}
 use Rattle.aug_words.specs.inside.Builds.{AreWords, WritesFive, IsReady}
 
 -- the number of an inner node's own record
@@ -123,6 +125,8 @@ pub record LeadsBeside (base : ℕ) (s : Shape) (v : SeatView) : Type 0 where
   pub leads : v.spare ≡ Some next
   pub live : v.live ≡ true
   pub apart : (base + word_count s ≤ v.base) ⊎ (v.base + word_count v.shape ≤ base)
+  -- where nobody reads for whom it answers
+  pub clear : (place : ℕ) → place < word_count s → IsClear (word_count v.shape) v.lent (base + place)
 
 -- a seat may lay a part out: it leads in another part, and knows all words beside that
 pub record MayLay (seat_table table : TableId) (base : ℕ) (s : Shape) (me : Sat) : Type 0 where
@@ -159,7 +163,10 @@ pub record IsDraft (face : ℕ → ℕ → List (ℕ × ℕ) → List ℕ) (tabl
 abbrev pub Drafts : (ℕ → ℕ → List (ℕ × ℕ) → List ℕ) → TableId → ℕ → List ℕ → SeatView → Type 0
 Drafts face table base shown v = 2 ^ v.shape.bits ≤ v.shape.members → IsDraft face table base shown v
 
--- the part is as it opens over the set of the last cut that this view knew
+-- another part is as it opens over the set of the last cut that this view knew, and nobody reads there
 pub record OpensOver (face : ℕ → ℕ → List (ℕ × ℕ) → List ℕ) (base : ℕ) (v : SeatView) : Type 0 where
   pub members : List (ℕ × ℕ)
   pub opened : IsOpened face (opening_with v.shape members) (words_in base v.shape v)
+  pub aside : IsAside (word_count v.shape) v.base base
+  pub inside : base + word_count v.shape ≤ length v.whole
+  pub clear : IsClearPart (word_count v.shape) v.lent base

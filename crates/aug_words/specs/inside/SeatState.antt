@@ -1,5 +1,5 @@
 -- What the fields of a table, of a lead and of a pass keep.
-use Rattle.std.specs.Prelude.{◌≡◌, ℕ, ◌+◌, ◌^◌, ◌<◌, ◌≤◌, true, false, Some, List, [], length}
+use Rattle.std.specs.Prelude.{◌≡◌, ℕ, ◌+◌, ◌^◌, ◌<◌, ◌≤◌, true, Some, None, List, [], length}
 use Rattle.atomic_table.specs.Seated.{TableId}
 use Rattle.aug_core.specs.Places.{Shape, lane_place, record_start, word_count}
 use Rattle.aug_core.specs.Layout.{IsLayout}
@@ -42,12 +42,12 @@ pub record HasReached (v : SeatView) (key serial : ℕ) : Type 0 where
   pub entry : Entry
   pub at : At v.seen key serial entry
 
--- what holds for the seat of a note: no other took it in, it holds no lane, and it does not renew the table
+-- what holds for the seat of a note: no other took it in, and it holds no lane and hands none out
 pub record IsNoteSeat (me : Sat) : Type 0 where
   pub live : me.0.live ≡ true
   pub no_slot : me.1 ≡ []
   pub no_lane : me.0.held ≡ []
-  pub no_renewal : me.0.renews ≡ false
+  pub follows : me.0.spare ≡ None
 
 module _ (face : ℕ → ℕ → List (ℕ × ℕ) → List ℕ) where
   -- what holds for the seat of a pass: it has one lane, which is taken, and all words of its records, and knows its table
@@ -61,6 +61,8 @@ module _ (face : ℕ → ℕ → List (ℕ × ℕ) → List ℕ) where
     pub long : length held.words ≡ block_size me.0.shape
     pub exists : lane < me.0.shape.workers
     pub knows : KnowsTable face me.0
+    pub follows : me.0.spare ≡ None
+    pub none_lent : me.0.lent ≡ []
 
   -- what holds for the seat of a lead: it hands out the lanes from the next one on, knows its table, and has the number of the root's newest record
   pub record IsLeadSeat (next root : ℕ) (me : Sat) : Type 0 where
@@ -69,6 +71,7 @@ module _ (face : ℕ → ℕ → List (ℕ × ℕ) → List ℕ) where
     pub hands_out : me.0.spare ≡ Some next
     pub knows : KnowsTable face me.0
     pub names_root : NamesRoot me.0 root
+    pub none_lent : me.0.lent ≡ []
 
   -- what holds for a lead: it works in a part of its table, has all words beside that, and has noted what is laid out of the part that begins at `other`
   abbrev pub IsLead : TableId → ℕ → ℕ → ℕ → ℕ → List ℕ → Sat → Type 0

@@ -3,7 +3,7 @@ use Rattle.aug_model.specs.Keys.{SetFacts, list_of}
 use Rattle.aug_model.specs.Queries.{weight_in}
 use Rattle.aug_model.specs.NodeKeys.{keys_below}
 use Rattle.aug_query.proofs.Choosing.{child_fits, count_of, left_few, right_count, leaf_below_one, listed_leaf, listed_left, listed_both, left_descends, both_descend}
-use Rattle.aug_query.proofs.Batches.{no_part}
+use Rattle.aug_query.proofs.Listed.{no_part}
 use Rattle.aug_query.proofs.Descending.{still}
 use Rattle.aug_query.proofs.descent.listing.+list_members.Goals as goal
 

@@ -18,7 +18,7 @@ join_seat-requires g c = let here = c.requires.together.one_table ∙ ap (λ (s 
   ap (λ (k : Known). k.table) c.note.view_is ∙ c.requires.table ∙ here,
   c.note.invariant.no_slot,
   some_words _ _ _ _ _ c.words.invariant,
-  learns_in_its_era _ _ _ _ _ _ (hands_out c.self.inside.seat.me.0 c.self.inside.next c.self.invariant.1.hands_out) c.self.invariant.1.live c.note.invariant.live c.note.invariant.no_lane,
+  learns_in_its_era _ _ _ _ _ _ (hands_out c.self.inside.seat.me.0 c.self.inside.next c.self.invariant.1.hands_out) c.self.invariant.1.live c.note.invariant.live c.note.invariant.no_lane c.note.invariant.follows,
 )
 
 pub invariant_of-self : goal.invariant_of-self

@@ -7,7 +7,7 @@ use Rattle.aug_core.specs.Layout.{IsLayout}
 use Rattle.aug_core.specs.Opening.{Opening, opening_number}
 use Rattle.aug_core.specs.Eras.{opening_with}
 use Rattle.aug_core.specs.Places.{Shape, word_count}
-use Rattle.aug_core.specs.Renewals.{IsOpened, reopening}
+use Rattle.aug_core.specs.Renewals.{HoldsAll, IsOpened, Reopens, renewing}
 use Rattle.aug_core.specs.inside.RootCuts.{root_cut}
 use Rattle.aug_core.specs.declared.view.SeatView.{SeatView}
 use Rattle.aug_core.proofs.Openings.{opener}
@@ -18,8 +18,8 @@ use Rattle.aug_words.specs.inside.Laying.{ChangesPart, FreesLanes, IsDraft, Open
 use Rattle.aug_words.specs.inside.SeatState.{IsLead, IsLeadSeat, IsPlaced}
 use Rattle.aug_words.proofs.Chunks.{room_number}
 use Rattle.aug_words.proofs.Lays.{root_at}
-use Rattle.aug_words.proofs.Leads.{opening_seat, root_below, root_inner, root_named}
-use Rattle.aug_words.proofs.Reopens.{none_below, opened_there, opens_again, Renews, renews_here, shape_there, whole_there}
+use Rattle.aug_words.proofs.Leads.{nobody_reads, opening_seat, root_below, root_inner, root_named}
+use Rattle.aug_words.proofs.Reopens.{lent_there, none_below, opened_by, opened_here, opens_again, opens_over, Renews, renews_here, shape_there, still_all, whole_there}
 use Rattle.aug_words.proofs.words.Words.open_again.Goals as goal
 
 pub bring-requires-clause-named : goal.bring-requires-clause-named
@@ -44,8 +44,8 @@ reopen-requires-clause-opened g c =
     let shape : me.0.shape ≡ s = ap (λ (k : Known). k.view.shape) c.lead.view_is ∙ c.requires.together.one_shape in
     let room = subst (λ (z : Shape). 2 ^ z.bits ≤ z.members) (sym shape) c.requires.room in let stored = ap (λ (z : Store). z.shape) c.self.view_is in let top = root_at _ _ _ s _ _ c.self.invariant stored in
     let other : ℕ = c.lead.inside.draft.base in let shown : List ℕ = c.lead.inside.draft.shown.items in let root : ℕ = c.lead.inside.root in let base : ℕ = c.lead.inside.base in let next : ℕ = c.lead.inside.next in
-    let draft : IsDraft f c.lead.inside.seat.table_id other shown me.0 = lead.3 room in let same : c.bring.new.draft.base ≡ other = c.bring.ensures.base in let v1 : SeatView = c.bring.new.seat.me.0 in let v2 : SeatView = c.lay_shared.new.seat.me.0 in let v3 : SeatView = c.free_lanes.new.seat.me.0 in let w : SeatView = c.begin_renewal.new.seat.me.0 in
-    let r : Renews f other root me.0 v1 v2 v3 w s = record {
+    let draft : IsDraft f c.lead.inside.seat.table_id other shown me.0 = lead.3 room in let same : c.bring.new.draft.base ≡ other = c.bring.ensures.base in let v1 : SeatView = c.bring.new.seat.me.0 in let v2 : SeatView = c.lay_shared.new.seat.me.0 in let v3 : SeatView = c.free_lanes.new.seat.me.0 in
+    let r : Renews f other root me.0 v1 v2 v3 s = record {
       room = c.requires.room;
       brought = c.bring.ensures.view;
       laid = subst (λ (z : ℕ). IsLaidAs f s me.0.seen z root (words_in other s v1)) top.1 (c.bring.ensures.done (c.bring.ensures.all refl).0);
@@ -55,11 +55,30 @@ reopen-requires-clause-opened g c =
       frees = subst (λ (z : ℕ). FreesLanes s s.workers (words_in z s v2) (words_in z s v3)) same c.free_lanes.ensures.frees;
       apart = subst (λ (z : Shape). (other + word_count z ≤ me.0.base) ⊎ (me.0.base + word_count z ≤ other)) shape draft.apart;
       inside = subst (λ (z : ℕ × Shape). other + word_count z.1 ≤ z.0) (λ i. (sym lead.2 i, shape i)) draft.inside;
-      root_word = c.begin_renewal.result;
-      begins = c.begin_renewal.ensures.view;
-    } in let here = renews_here f other root me.0 v1 v2 v3 w s shape r in
-    let opened = opened_there f other root me.0 v1 v2 v3 w lead.1.knows lead.1.names_root here in let members : List (ℕ × ℕ) = pairs_of_cut (root_cut me.0.shape me.0.seen lead.1.names_root.index) in
-    subst (λ (z : ℕ). OpensOver f z w) (sym same) record { members = members; opened = opened }
+    } in let here = renews_here f other root me.0 v1 v2 v3 s shape r in
+    let kn = lead.1.knows in let n = lead.1.names_root in let members : List (ℕ × ℕ) = pairs_of_cut (root_cut me.0.shape me.0.seen n.index) in let over : OpensOver f other v3 = opens_over f other root me.0 v1 v2 v3 kn n here (nobody_reads me.0 _ _ lead.1.none_lent) in
+    subst (λ (z : ℕ). OpensOver f z v3) (sym same) over
+
+pub reopen-requires-clause-all : goal.reopen-requires-clause-all
+reopen-requires-clause-all g c =
+    let f = face g.A.Monoid.parts g.B.Monoid.parts in let s : Shape = c.args.self.now.shape in let me : Sat = c.lead.inside.seat.me in let lead = c.lead.invariant in
+    let shape : me.0.shape ≡ s = ap (λ (k : Known). k.view.shape) c.lead.view_is ∙ c.requires.together.one_shape in
+    let room = subst (λ (z : Shape). 2 ^ z.bits ≤ z.members) (sym shape) c.requires.room in let stored = ap (λ (z : Store). z.shape) c.self.view_is in let top = root_at _ _ _ s _ _ c.self.invariant stored in
+    let other : ℕ = c.lead.inside.draft.base in let shown : List ℕ = c.lead.inside.draft.shown.items in let root : ℕ = c.lead.inside.root in let base : ℕ = c.lead.inside.base in let next : ℕ = c.lead.inside.next in
+    let draft : IsDraft f c.lead.inside.seat.table_id other shown me.0 = lead.3 room in let same : c.bring.new.draft.base ≡ other = c.bring.ensures.base in let v1 : SeatView = c.bring.new.seat.me.0 in let v2 : SeatView = c.lay_shared.new.seat.me.0 in let v3 : SeatView = c.free_lanes.new.seat.me.0 in
+    let r : Renews f other root me.0 v1 v2 v3 s = record {
+      room = c.requires.room;
+      brought = c.bring.ensures.view;
+      laid = subst (λ (z : ℕ). IsLaidAs f s me.0.seen z root (words_in other s v1)) top.1 (c.bring.ensures.done (c.bring.ensures.all refl).0);
+      shared = subst (λ (z : ℕ). ChangesPart z s v1 v2) same c.lay_shared.ensures.changes;
+      shares = subst (λ (z : ℕ). SharesRecords f s s.bits (words_in z s v1) (words_in z s v2)) same c.lay_shared.ensures.shares;
+      freed = subst (λ (z : ℕ). ChangesPart z s v2 v3) same c.free_lanes.ensures.changes;
+      frees = subst (λ (z : ℕ). FreesLanes s s.workers (words_in z s v2) (words_in z s v3)) same c.free_lanes.ensures.frees;
+      apart = subst (λ (z : Shape). (other + word_count z ≤ me.0.base) ⊎ (me.0.base + word_count z ≤ other)) shape draft.apart;
+      inside = subst (λ (z : ℕ × Shape). other + word_count z.1 ≤ z.0) (λ i. (sym lead.2 i, shape i)) draft.inside;
+    } in let here = renews_here f other root me.0 v1 v2 v3 s shape r in
+    let kn = lead.1.knows in let n = lead.1.names_root in let members : List (ℕ × ℕ) = pairs_of_cut (root_cut me.0.shape me.0.seen n.index) in let over : OpensOver f other v3 = opens_over f other root me.0 v1 v2 v3 kn n here (nobody_reads me.0 _ _ lead.1.none_lent) in
+    still_all f other root me.0 v1 v2 v3 kn n here (subst (λ (k : Known). HoldsAll k.view) (sym c.lead.view_is) c.requires.all)
 
 pub own_number-requires : goal.own_number-requires
 own_number-requires g c =
@@ -75,8 +94,8 @@ returns-clause-together g c =
     let shape : me.0.shape ≡ s = ap (λ (k : Known). k.view.shape) c.lead.view_is ∙ c.requires.together.one_shape in
     let room = subst (λ (z : Shape). 2 ^ z.bits ≤ z.members) (sym shape) c.requires.room in let stored = ap (λ (z : Store). z.shape) c.self.view_is in let top = root_at _ _ _ s _ _ c.self.invariant stored in
     let other : ℕ = c.lead.inside.draft.base in let shown : List ℕ = c.lead.inside.draft.shown.items in let root : ℕ = c.lead.inside.root in let base : ℕ = c.lead.inside.base in let next : ℕ = c.lead.inside.next in
-    let draft : IsDraft f c.lead.inside.seat.table_id other shown me.0 = lead.3 room in let same : c.bring.new.draft.base ≡ other = c.bring.ensures.base in let v1 : SeatView = c.bring.new.seat.me.0 in let v2 : SeatView = c.lay_shared.new.seat.me.0 in let v3 : SeatView = c.free_lanes.new.seat.me.0 in let w : SeatView = c.begin_renewal.new.seat.me.0 in
-    let r : Renews f other root me.0 v1 v2 v3 w s = record {
+    let draft : IsDraft f c.lead.inside.seat.table_id other shown me.0 = lead.3 room in let same : c.bring.new.draft.base ≡ other = c.bring.ensures.base in let v1 : SeatView = c.bring.new.seat.me.0 in let v2 : SeatView = c.lay_shared.new.seat.me.0 in let v3 : SeatView = c.free_lanes.new.seat.me.0 in
+    let r : Renews f other root me.0 v1 v2 v3 s = record {
       room = c.requires.room;
       brought = c.bring.ensures.view;
       laid = subst (λ (z : ℕ). IsLaidAs f s me.0.seen z root (words_in other s v1)) top.1 (c.bring.ensures.done (c.bring.ensures.all refl).0);
@@ -86,12 +105,10 @@ returns-clause-together g c =
       frees = subst (λ (z : ℕ). FreesLanes s s.workers (words_in z s v2) (words_in z s v3)) same c.free_lanes.ensures.frees;
       apart = subst (λ (z : Shape). (other + word_count z ≤ me.0.base) ⊎ (me.0.base + word_count z ≤ other)) shape draft.apart;
       inside = subst (λ (z : ℕ × Shape). other + word_count z.1 ≤ z.0) (λ i. (sym lead.2 i, shape i)) draft.inside;
-      root_word = c.begin_renewal.result;
-      begins = c.begin_renewal.ensures.view;
-    } in let here = renews_here f other root me.0 v1 v2 v3 w s shape r in
-    let opened = opened_there f other root me.0 v1 v2 v3 w lead.1.knows lead.1.names_root here in let members : List (ℕ × ℕ) = pairs_of_cut (root_cut me.0.shape me.0.seen lead.1.names_root.index) in
-    let is = c.reopen.ensures.view members (subst (λ (z : ℕ). IsOpened f (opening_with w.shape members) (words_in z w.shape w)) (sym same) opened) in let again = opens_again f other root me.0 v1 v2 v3 w lead.1.knows lead.1.names_root here in
-    record { one_table = c.reopen.ensures.table ∙ c.begin_renewal.ensures.table ∙ c.free_lanes.ensures.may.seated; one_shape = ap (λ (z : SeatView). z.shape) is ∙ shape_there f other root me.0 v1 v2 v3 w lead.1.knows lead.1.names_root here ∙ shape }
+    } in let here = renews_here f other root me.0 v1 v2 v3 s shape r in
+    let kn = lead.1.knows in let n = lead.1.names_root in let members : List (ℕ × ℕ) = pairs_of_cut (root_cut me.0.shape me.0.seen n.index) in let over : OpensOver f other v3 = opens_over f other root me.0 v1 v2 v3 kn n here (nobody_reads me.0 _ _ lead.1.none_lent) in
+    let re : Reopens f members other v3 c.reopen.new.seat.me.0 = subst (λ (z : ℕ). Reopens f members z v3 c.reopen.new.seat.me.0) same (c.reopen.ensures.view members (subst (λ (z : ℕ). IsOpened f (opening_with v3.shape members) (words_in z v3.shape v3)) (sym same) (opened_by f other root me.0 v1 v2 v3 kn n here))) in
+    record { one_table = c.reopen.ensures.table ∙ c.free_lanes.ensures.may.seated; one_shape = ap (λ (z : SeatView). z.shape) re.stepped ∙ shape_there f other root me.0 v1 v2 v3 kn n here c.reopen.new.seat.me.0 re ∙ shape }
 
 pub returns-clause-opens : goal.returns-clause-opens
 returns-clause-opens g c =
@@ -99,8 +116,8 @@ returns-clause-opens g c =
     let shape : me.0.shape ≡ s = ap (λ (k : Known). k.view.shape) c.lead.view_is ∙ c.requires.together.one_shape in
     let room = subst (λ (z : Shape). 2 ^ z.bits ≤ z.members) (sym shape) c.requires.room in let stored = ap (λ (z : Store). z.shape) c.self.view_is in let top = root_at _ _ _ s _ _ c.self.invariant stored in
     let other : ℕ = c.lead.inside.draft.base in let shown : List ℕ = c.lead.inside.draft.shown.items in let root : ℕ = c.lead.inside.root in let base : ℕ = c.lead.inside.base in let next : ℕ = c.lead.inside.next in
-    let draft : IsDraft f c.lead.inside.seat.table_id other shown me.0 = lead.3 room in let same : c.bring.new.draft.base ≡ other = c.bring.ensures.base in let v1 : SeatView = c.bring.new.seat.me.0 in let v2 : SeatView = c.lay_shared.new.seat.me.0 in let v3 : SeatView = c.free_lanes.new.seat.me.0 in let w : SeatView = c.begin_renewal.new.seat.me.0 in
-    let r : Renews f other root me.0 v1 v2 v3 w s = record {
+    let draft : IsDraft f c.lead.inside.seat.table_id other shown me.0 = lead.3 room in let same : c.bring.new.draft.base ≡ other = c.bring.ensures.base in let v1 : SeatView = c.bring.new.seat.me.0 in let v2 : SeatView = c.lay_shared.new.seat.me.0 in let v3 : SeatView = c.free_lanes.new.seat.me.0 in
+    let r : Renews f other root me.0 v1 v2 v3 s = record {
       room = c.requires.room;
       brought = c.bring.ensures.view;
       laid = subst (λ (z : ℕ). IsLaidAs f s me.0.seen z root (words_in other s v1)) top.1 (c.bring.ensures.done (c.bring.ensures.all refl).0);
@@ -110,12 +127,10 @@ returns-clause-opens g c =
       frees = subst (λ (z : ℕ). FreesLanes s s.workers (words_in z s v2) (words_in z s v3)) same c.free_lanes.ensures.frees;
       apart = subst (λ (z : Shape). (other + word_count z ≤ me.0.base) ⊎ (me.0.base + word_count z ≤ other)) shape draft.apart;
       inside = subst (λ (z : ℕ × Shape). other + word_count z.1 ≤ z.0) (λ i. (sym lead.2 i, shape i)) draft.inside;
-      root_word = c.begin_renewal.result;
-      begins = c.begin_renewal.ensures.view;
-    } in let here = renews_here f other root me.0 v1 v2 v3 w s shape r in
-    let opened = opened_there f other root me.0 v1 v2 v3 w lead.1.knows lead.1.names_root here in let members : List (ℕ × ℕ) = pairs_of_cut (root_cut me.0.shape me.0.seen lead.1.names_root.index) in
-    let is = c.reopen.ensures.view members (subst (λ (z : ℕ). IsOpened f (opening_with w.shape members) (words_in z w.shape w)) (sym same) opened) in
-    subst (λ (k : Known). OpensAgain f k.view c.reopen.new.seat.me.0) c.lead.view_is (opens_again f other root me.0 v1 v2 v3 w lead.1.knows lead.1.names_root here c.reopen.new.seat.me.0 (is ∙ ap (λ (z : ℕ). reopening f members z w) same))
+    } in let here = renews_here f other root me.0 v1 v2 v3 s shape r in
+    let kn = lead.1.knows in let n = lead.1.names_root in let members : List (ℕ × ℕ) = pairs_of_cut (root_cut me.0.shape me.0.seen n.index) in let over : OpensOver f other v3 = opens_over f other root me.0 v1 v2 v3 kn n here (nobody_reads me.0 _ _ lead.1.none_lent) in
+    let re : Reopens f members other v3 c.reopen.new.seat.me.0 = subst (λ (z : ℕ). Reopens f members z v3 c.reopen.new.seat.me.0) same (c.reopen.ensures.view members (subst (λ (z : ℕ). IsOpened f (opening_with v3.shape members) (words_in z v3.shape v3)) (sym same) (opened_by f other root me.0 v1 v2 v3 kn n here))) in
+    subst (λ (k : Known). OpensAgain f k.view c.reopen.new.seat.me.0) c.lead.view_is (opens_again f other root me.0 v1 v2 v3 kn n here c.reopen.new.seat.me.0 re)
 
 pub invariant_of-result : goal.invariant_of-result
 invariant_of-result g c =
@@ -123,8 +138,8 @@ invariant_of-result g c =
     let shape : me.0.shape ≡ s = ap (λ (k : Known). k.view.shape) c.lead.view_is ∙ c.requires.together.one_shape in
     let room = subst (λ (z : Shape). 2 ^ z.bits ≤ z.members) (sym shape) c.requires.room in let stored = ap (λ (z : Store). z.shape) c.self.view_is in let top = root_at _ _ _ s _ _ c.self.invariant stored in
     let other : ℕ = c.lead.inside.draft.base in let shown : List ℕ = c.lead.inside.draft.shown.items in let root : ℕ = c.lead.inside.root in let base : ℕ = c.lead.inside.base in let next : ℕ = c.lead.inside.next in
-    let draft : IsDraft f c.lead.inside.seat.table_id other shown me.0 = lead.3 room in let same : c.bring.new.draft.base ≡ other = c.bring.ensures.base in let v1 : SeatView = c.bring.new.seat.me.0 in let v2 : SeatView = c.lay_shared.new.seat.me.0 in let v3 : SeatView = c.free_lanes.new.seat.me.0 in let w : SeatView = c.begin_renewal.new.seat.me.0 in
-    let r : Renews f other root me.0 v1 v2 v3 w s = record {
+    let draft : IsDraft f c.lead.inside.seat.table_id other shown me.0 = lead.3 room in let same : c.bring.new.draft.base ≡ other = c.bring.ensures.base in let v1 : SeatView = c.bring.new.seat.me.0 in let v2 : SeatView = c.lay_shared.new.seat.me.0 in let v3 : SeatView = c.free_lanes.new.seat.me.0 in
+    let r : Renews f other root me.0 v1 v2 v3 s = record {
       room = c.requires.room;
       brought = c.bring.ensures.view;
       laid = subst (λ (z : ℕ). IsLaidAs f s me.0.seen z root (words_in other s v1)) top.1 (c.bring.ensures.done (c.bring.ensures.all refl).0);
@@ -134,20 +149,19 @@ invariant_of-result g c =
       frees = subst (λ (z : ℕ). FreesLanes s s.workers (words_in z s v2) (words_in z s v3)) same c.free_lanes.ensures.frees;
       apart = subst (λ (z : Shape). (other + word_count z ≤ me.0.base) ⊎ (me.0.base + word_count z ≤ other)) shape draft.apart;
       inside = subst (λ (z : ℕ × Shape). other + word_count z.1 ≤ z.0) (λ i. (sym lead.2 i, shape i)) draft.inside;
-      root_word = c.begin_renewal.result;
-      begins = c.begin_renewal.ensures.view;
-    } in let here = renews_here f other root me.0 v1 v2 v3 w s shape r in
-    let opened = opened_there f other root me.0 v1 v2 v3 w lead.1.knows lead.1.names_root here in let members : List (ℕ × ℕ) = pairs_of_cut (root_cut me.0.shape me.0.seen lead.1.names_root.index) in
-    let is = c.reopen.ensures.view members (subst (λ (z : ℕ). IsOpened f (opening_with w.shape members) (words_in z w.shape w)) (sym same) opened) ∙ ap (λ (z : ℕ). reopening f members z w) same in
-    let shaped = shape_there f other root me.0 v1 v2 v3 w lead.1.knows lead.1.names_root here in let o : Opening = opening_with w.shape members in
-    let table = c.reopen.ensures.table ∙ c.begin_renewal.ensures.table ∙ c.free_lanes.ensures.may.seated in let was = ap (λ (k : Known). k.table) c.lead.view_is ∙ c.requires.together.one_table in
+    } in let here = renews_here f other root me.0 v1 v2 v3 s shape r in
+    let kn = lead.1.knows in let n = lead.1.names_root in let members : List (ℕ × ℕ) = pairs_of_cut (root_cut me.0.shape me.0.seen n.index) in let over : OpensOver f other v3 = opens_over f other root me.0 v1 v2 v3 kn n here (nobody_reads me.0 _ _ lead.1.none_lent) in
+    let re : Reopens f members other v3 c.reopen.new.seat.me.0 = subst (λ (z : ℕ). Reopens f members z v3 c.reopen.new.seat.me.0) same (c.reopen.ensures.view members (subst (λ (z : ℕ). IsOpened f (opening_with v3.shape members) (words_in z v3.shape v3)) (sym same) (opened_by f other root me.0 v1 v2 v3 kn n here))) in
+    let w : SeatView = renewing re.last re.whole in let shaped = shape_there f other root me.0 v1 v2 v3 kn n here c.reopen.new.seat.me.0 re in let o : Opening = opening_with w.shape members in
+    let table = c.reopen.ensures.table ∙ c.free_lanes.ensures.may.seated in let was = ap (λ (k : Known). k.table) c.lead.view_is ∙ c.requires.together.one_table in
     let one : c.reopen.new.seat.table_id ≡ c.lead.inside.seat.table_id = table ∙ sym was in
-    let long : length w.whole ≡ c.lead.inside.seat.table_id.words = whole_there f other root me.0 v1 v2 v3 w lead.1.knows lead.1.names_root here ∙ lead.2 in
+    let long : length w.whole ≡ c.lead.inside.seat.table_id.words = whole_there f other root me.0 v1 v2 v3 kn n here c.reopen.new.seat.me.0 re ∙ lead.2 in
     let wide = lead.0.wide in let few = lead.0.few in let at = lead.0.base_is in let laid_out = subst IsLayout (sym shaped) lead.1.knows.laid_out in
     let inner = root_inner w.shape laid_out.bits.0 laid_out.bits.1 in let room' : 2 ^ w.shape.bits ≤ w.shape.members = subst (λ (z : Shape). 2 ^ z.bits ≤ z.members) (sym shaped) room in
     let named : c.own_number.result ≡ opening_number o (root_place w.shape) = c.own_number.ensures ∙ (λ i. own_number (sym (shaped ∙ shape) i) (top.1 i)) ∙ ap (λ (z : Shape). own_number w.shape (root_place z)) (sym (shaped ∙ shape)) ∙ sym (room_number o room' (root_place w.shape) inner) in
-    let first : SeatView = opener f o w.past w.era other (words_in other w.shape w) w.whole in let small = laid_out.words in
-    let seat : IsLeadSeat f 0 c.own_number.result (first, []) = opening_seat f o w.past w.era other (words_in other w.shape w) w.whole c.own_number.result laid_out opened.key_set opened.members_fit opened.few named in
+    let first : SeatView = opener f o w.past w.era other w.lent (words_in other w.shape w) w.whole in let small = laid_out.words in
+    let opened = subst (λ (z : Shape). IsOpened f (opening_with z members) (words_in other s v3)) (sym (shaped ∙ shape)) (subst (λ (z : Shape). IsOpened f (opening_with z members) (words_in other z v3)) shape (opened_here f other root me.0 v1 v2 v3 kn n here)) in
+    let seat : IsLeadSeat f 0 c.own_number.result (first, []) = opening_seat f o w.past w.era other w.lent (words_in other w.shape w) w.whole c.own_number.result (lent_there f other root me.0 v1 v2 v3 kn n here c.reopen.new.seat.me.0 re ∙ lead.1.none_lent) laid_out opened.key_set opened.members_fit opened.few named in
     let placed : IsPlaced c.lead.inside.seat.table_id other first = record { base_is = refl; wide = subst (λ (z : Shape). other + word_count z ≤ c.lead.inside.seat.table_id.words) (sym shaped) draft.inside; few = few } in
     let drafts : IsDraft f c.lead.inside.seat.table_id c.blank.result.base c.blank.result.shown.items first = record {
       inside = subst (λ (z : ℕ × Shape). z.0 + word_count z.1 ≤ c.lead.inside.seat.table_id.words) (λ i. (sym (c.blank.ensures.base ∙ at) i, sym shaped i)) wide;
@@ -156,4 +170,4 @@ invariant_of-result g c =
       below = none_below f first (words_in c.blank.result.base first.shape first) c.blank.result.shown.items c.blank.ensures.none;
     } in
     let all : IsLead f c.lead.inside.seat.table_id other 0 c.own_number.result c.blank.result.base c.blank.result.shown.items (first, []) = (placed, seat, long, (λ _. drafts)) in
-    subst (λ (z : TableId × ℕ × SeatView × List (ℕ × Unit {0})). IsLead f z.0 z.1 0 c.own_number.result c.blank.result.base c.blank.result.shown.items (z.2, z.3)) (λ i. (sym one i, sym same i, sym is i, sym c.reopen.ensures.no_slot i)) all
+    subst (λ (z : TableId × ℕ × SeatView × List (ℕ × Unit {0})). IsLead f z.0 z.1 0 c.own_number.result c.blank.result.base c.blank.result.shown.items (z.2, z.3)) (λ i. (sym one i, sym same i, sym re.stepped i, sym c.reopen.ensures.no_slot i)) all

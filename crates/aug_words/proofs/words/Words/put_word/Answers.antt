@@ -17,6 +17,12 @@ store-requires g c = let m = c.requires.may in let inside = m.inside in let same
     lays_on _ _ _ _ _ _ _ m c.load.ensures.0 c.load.ensures.2.0 (subst (ChangesPart c.args.base c.args.self.now.shape c.args.seat.now.me.0) (sym c.load.ensures.2.1) (changes_none _ _ _)) in
     (next.seated ∙ sym same, omega arith, lay_stores _ _ _ _ _ next _ _ _ _ c.args.place _ c.args.value refl low)
 
+pub returns-then-load-value-clause-may : goal.returns-then-load-value-clause-may
+returns-then-load-value-clause-may g c = let m = c.requires.may in
+    let next : MayLay c.load.new.seat.table_id c.args.self.now.table c.args.base c.args.self.now.shape c.load.new.seat.me =
+    lays_on _ _ _ _ _ _ _ m c.load.ensures.0 c.load.ensures.2.0 (subst (ChangesPart c.args.base c.args.self.now.shape c.args.seat.now.me.0) (sym c.load.ensures.2.1) (changes_none _ _ _)) in
+    lays_on _ _ _ _ _ _ _ next c.store.ensures.0 c.store.ensures.2.0 (puts_word c.args.base c.args.self.now.shape _ _ (c.args.base + c.args.place) c.args.place c.args.value refl c.requires.place c.store.ensures.2.1).changes
+
 pub returns-then-load-value-clause-puts : goal.returns-then-load-value-clause-puts
 returns-then-load-value-clause-puts g c = puts_word c.args.base c.args.self.now.shape _ _ (c.args.base + c.args.place) c.args.place c.args.value refl c.requires.place
     (c.store.ensures.2.1 ∙ ap (λ (z : SeatView). rewriting z (c.args.base + c.args.place) c.args.value) c.load.ensures.2.1)

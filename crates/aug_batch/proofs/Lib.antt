@@ -1,0 +1,2 @@
+pub mod FourWays
+pub mod SomeKeys

@@ -1,0 +1,2 @@
+-- What no promise rests on: what private fields keep, what private calls leave, how views come of fields, and lemmas.
+pub mod Together

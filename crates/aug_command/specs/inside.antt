@@ -1,0 +1,3 @@
+-- What no promise rests on: what private fields keep, what private calls leave, how views come of fields, and lemmas.
+pub mod FoundNumbers
+pub mod Stops

@@ -1,0 +1,11 @@
+//! The tests of `aug_command`: words that are taken, inputs that are read, and the line of each fault.
+#![tactic(auto)]
+
+#[cfg(test)]
+mod assertions;
+#[cfg(test)]
+mod reading;
+#[cfg(test)]
+mod run_errors;
+#[cfg(test)]
+mod words;

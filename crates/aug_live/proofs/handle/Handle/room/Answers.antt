@@ -1,0 +1,5 @@
+use Rattle.aug_live.proofs.Carries.{nothing_made, same_nothing}
+use Rattle.aug_live.proofs.handle.Handle.room.Goals as goal
+
+pub returns-clause-follows : goal.returns-clause-follows
+returns-clause-follows g c = nothing_made c.make.result _ c.args.self.now c.make.new.self (λ _ x y did. same_nothing x y did.1) c.make.ensures.made c.make.ensures.not_made

@@ -100,15 +100,33 @@ static void leave(struct shared *s) {
     free(s);
 }
 
+/* How often whoever waits yields before it sleeps: for longer than a piece of the next round takes to lay out. */
+enum { YIELDS = 128 };
+
+/* For how many nanoseconds it sleeps. */
+enum { PAUSE = 50000 };
+
 static void sleep_a_little(void) {
-    const struct timespec pause = {0, 50000};
+    const struct timespec pause = {0, PAUSE};
     nanosleep(&pause, NULL);
 }
 
-/* Yields for longer than a piece of the next round takes to lay out, and in a long wait sleeps. */
-static void wait_a_little(unsigned turn) {
-    if (turn < 128) sched_yield();
-    else sleep_a_little();
+static int64_t nanoseconds_now(void) {
+    struct timespec now;
+    clock_gettime(CLOCK_MONOTONIC, &now);
+    return now.tv_sec * (int64_t)1000000000 + now.tv_nsec;
+}
+
+/* Yields, or in a long wait sleeps. Gives the next turn: where a yield takes longer than a sleep, processors are busy, and each further one might
+   last until all their other threads have run. */
+static unsigned wait_a_little(unsigned turn) {
+    if (turn >= YIELDS) {
+        sleep_a_little();
+        return turn;
+    }
+    int64_t begin = nanoseconds_now();
+    sched_yield();
+    return nanoseconds_now() - begin > PAUSE ? YIELDS : turn + 1;
 }
 
 /* Has an open user counted among those that wait, or no longer. */
@@ -129,7 +147,7 @@ int64_t aug_wait_end(aug_user *user) { return count_as_waiting(user, 0); }
     if ((code = (call)) == AUG_AGAIN) { \
         struct shared *of_ = (of); \
         atomic_fetch_add(&of_->waiting, 1); \
-        for (unsigned turn_ = 0; code == AUG_AGAIN; turn_++) { wait_a_little(turn_); code = (call); } \
+        for (unsigned turn_ = 0; code == AUG_AGAIN; code = (call)) turn_ = wait_a_little(turn_); \
         atomic_fetch_sub(&of_->waiting, 1); \
     } \
 } while (0)

@@ -1,20 +1,24 @@
 /* Three threads look again and again for a millisecond each, with no pause between two looks, and one updates a table that is soon full: no update
-   takes more than 100 milliseconds, by the calls that wait and by those that never do. On a busy machine the best of three measurements counts, and
-   more is allowed where each processor has more than one thread to run. Who says that he waits and is closed, or no longer waits, holds up nobody. */
+   takes more than 100 milliseconds, by the calls that wait and by those that never do. On a busy machine the best of some measurements counts, and
+   more is allowed where a thread stands still for long that waits for nobody. Who says that he waits and is closed, or no longer waits, holds up nobody. */
 #define _DEFAULT_SOURCE
 #include "augtrie.h"
 #include "want.h"
 
 #include <pthread.h>
+#include <sched.h>
 #include <stdatomic.h>
-#include <stdlib.h>
 #include <time.h>
 #include <unistd.h>
 
-enum { READERS = 3, MEASUREMENTS = 3, BYTES = 84000, SECOND = 1000000000, LONGEST = SECOND / 10 };
+enum { READERS = 3, MEASUREMENTS = 5, BYTES = 84000, SECOND = 1000000000, LONGEST = SECOND / 10 };
 
-static aug_trie trie = AUG_ZEROED;
+/* After so many updates there is one of the trie that nobody reads. */
+enum { UPDATES = 100 };
+
+static aug_trie trie = AUG_ZEROED, unread = AUG_ZEROED;
 static atomic_int stopped;
+static unsigned seconds;
 
 static int64_t now(void) {
     struct timespec t;
@@ -40,7 +44,7 @@ static void *read_on(void *unused) {
 
 /* Stops the readers also if an update waits for them. */
 static void *stop_later(void *unused) {
-    nap(SECOND - 1);
+    sleep(seconds);
     stopped = 1;
     return unused;
 }
@@ -58,34 +62,49 @@ static int64_t add_by_tries(aug_user *user) {
 
 static int64_t add(aug_user *user) { return aug_add(user, 3, 1, NULL); }
 
-/* How long the longest update took within a second, and how many there were. */
-static int64_t longest_of(aug_user *user, int64_t (*update)(aug_user *), uint32_t *updates) {
+/* The same of a trie that nobody reads, by a thread that gives its processor away as one does that waits. */
+static int64_t add_unread(aug_user *user) {
+    sched_yield();
+    return add(user);
+}
+
+/* Makes an update, and keeps how long it took if it took longest. */
+static void measure(int64_t (*update)(aug_user *), aug_user *user, int64_t *longest) {
+    int64_t begin = now();
+    MUST(update(user) > 0, 1);
+    int64_t took = now() - begin;
+    if (took > *longest) *longest = took;
+}
+
+/* How long the longest update took within these seconds, and how many there were; and how long the longest one took of the trie that nobody reads. */
+static int64_t longest_of(aug_user *user, aug_user *alone, int64_t (*update)(aug_user *), uint32_t *updates, int64_t *longest_alone) {
     pthread_t threads[READERS + 1];
     int64_t longest = 0;
+    *longest_alone = 0;
     stopped = 0;
     for (int i = 0; i <= READERS; i++) WANT(pthread_create(&threads[i], NULL, i ? read_on : stop_later, NULL), 0);
     while (!stopped) {
-        int64_t begin = now();
-        MUST(update(user) > 0, 1);
-        int64_t took = now() - begin;
-        if (took > longest) longest = took;
-        ++*updates;
+        for (int i = 0; i < UPDATES && !stopped; i++, ++*updates) measure(update, user, &longest);
+        measure(add_unread, alone, longest_alone);
     }
     for (int i = 0; i <= READERS; i++) WANT(pthread_join(threads[i], NULL), 0);
     return longest;
 }
 
-/* How long it may take: longer where each processor has more than one thread to run. */
-static int64_t limit(void) {
-    double load = 0, processors = (double)sysconf(_SC_NPROCESSORS_ONLN);
-    return getloadavg(&load, 1) == 1 && load > processors ? (int64_t)(LONGEST * load / processors) : LONGEST;
-}
-
-static void check_longest(aug_user *user, int64_t (*update)(aug_user *), uint32_t *updates) {
-    int64_t longest = INT64_MAX;
-    for (int i = 0; i < MEASUREMENTS && longest > limit(); i++) longest = longest_of(user, update, updates);
-    if (longest > limit()) printf("an update took %lld milliseconds\n", (long long)longest / 1000000);
-    WANT(longest > limit(), 0);
+/* Each measurement is twice as long as the one before it. One that is no longer than twice what is allowed says nothing, since an update that waits
+   is made when it ends. */
+static void check_longest(aug_user *user, aug_user *alone, int64_t (*update)(aug_user *), uint32_t *updates) {
+    int64_t longest[MEASUREMENTS], longest_alone[MEASUREMENTS];
+    int is_in_time = 0;
+    for (int i = 0; i < MEASUREMENTS && !is_in_time; i++) {
+        seconds = 1u << i;
+        longest[i] = longest_of(user, alone, update, updates, &longest_alone[i]);
+        int64_t limit = LONGEST + 4 * longest_alone[i];
+        is_in_time = longest[i] <= limit && limit <= (int64_t)seconds * SECOND / 2;
+    }
+    for (int i = 0; i < MEASUREMENTS && !is_in_time; i++)
+        printf("in %u seconds an update took %.1f milliseconds, and one with nobody beside it %.1f\n", 1u << i, longest[i] / 1e6, longest_alone[i] / 1e6);
+    WANT(is_in_time, 1);
 }
 
 /* The end of a look sleeps if somebody waits, and at least 50 microseconds. */
@@ -124,15 +143,19 @@ static void check_who_waits(aug_user *user) {
 }
 
 int main(void) {
-    aug_user user = AUG_ZEROED;
+    aug_user user = AUG_ZEROED, alone = AUG_ZEROED;
     uint32_t updates = 0;
+    WANT(aug_open(&unread, 4, 1, BYTES), 0);
+    WANT(aug_user_open(&unread, &alone), 0);
     WANT(aug_open(&trie, 4, READERS + 1, BYTES), 0);
     WANT(aug_user_open(&trie, &user), 0);
     check_who_waits(&user);
-    check_longest(&user, add, &updates);
-    check_longest(&user, add_by_tries, &updates);
+    check_longest(&user, &alone, add, &updates);
+    check_longest(&user, &alone, add_by_tries, &updates);
     WANT(aug_user_close(&user), 0);
     WANT(aug_close(&trie, NULL), 0);
+    WANT(aug_user_close(&alone), 0);
+    WANT(aug_close(&unread, NULL), 0);
     printf("ok: %u answers, %u updates\n", wanted, updates);
     return 0;
 }

@@ -725,12 +725,13 @@ fn looks_agree_and_never_go_back_while_others_fill_the_table() -> Result<(), Err
     Ok(())
 }
 
-/// The longest time that an update took within a second, while three threads looked for a millisecond each, with no pause in between.
-fn longest_update() -> Result<Duration, Error> {
-    let trie = small(4, 4);
-    let end = Instant::now() + Duration::from_secs(1);
-    let mut longest = Duration::ZERO;
-    let mut user = trie.user()?;
+/// The longest times that an update took within a time, while three threads looked for a millisecond each, with no pause in between: of a trie, and of
+/// another one that nobody else has, by a thread that gives its processor away as one does that waits.
+fn longest_updates(length: Duration) -> Result<(Duration, Duration), Error> {
+    let (trie, other) = (small(4, 4), small(4, 1));
+    let end = Instant::now() + length;
+    let (mut user, mut alone) = (trie.user()?, other.user()?);
+    let (mut longest, mut longest_alone) = (Duration::ZERO, Duration::ZERO);
     thread::scope(|scope| {
         for _ in 0..3 {
             let mut reader = trie.user()?;
@@ -742,28 +743,35 @@ fn longest_update() -> Result<Duration, Error> {
             });
         }
         while Instant::now() < end {
+            for _ in 0..100 {
+                let begin = Instant::now();
+                user.add(3, 1)?;
+                longest = longest.max(begin.elapsed());
+            }
             let begin = Instant::now();
-            user.add(3, 1)?;
-            longest = longest.max(begin.elapsed());
+            thread::yield_now();
+            alone.add(3, 1)?;
+            longest_alone = longest_alone.max(begin.elapsed());
         }
-        Ok(longest)
+        Ok((longest, longest_alone))
     })
 }
 
 #[test]
 fn an_update_does_not_wait_long_for_those_that_look_again_and_again() -> Result<(), Error> {
-    // On a busy machine the best of three measurements counts, and more is allowed where each processor has more than one thread to run.
-    let mut longest = Vec::new();
-    for _ in 0..3 {
-        longest.push(longest_update()?);
-        let load = std::fs::read_to_string("/proc/loadavg").unwrap_or_default();
-        let load = load.split(' ').next().and_then(|load| load.parse().ok()).unwrap_or(0.0);
-        let each = load / thread::available_parallelism().map_or(1, usize::from) as f64;
-        if longest.last() <= Some(&Duration::from_millis(100).mul_f64(each.max(1.0))) {
+    // On a busy machine the best of some measurements counts, and more is allowed where a thread stands still for long that waits for nobody. One that is
+    // no longer than twice what is allowed says nothing, since an update that waits is made when it ends.
+    let mut told = Vec::new();
+    for turn in 0..5 {
+        let length = Duration::from_secs(1 << turn);
+        let (longest, alone) = longest_updates(length)?;
+        let limit = Duration::from_millis(100) + 4 * alone;
+        if longest <= limit && limit <= length / 2 {
             return Ok(());
         }
+        told.push((length, longest, alone));
     }
-    panic!("updates took {longest:?}");
+    panic!("by the lengths of measurements, updates took, and one with nobody beside it: {told:?}");
 }
 
 #[test]

@@ -754,7 +754,7 @@ def who_waits_lets_others_run():
 
 def interrupted(trie, call):
     """Whether Ctrl-C ends a call that waits for the snapshot of another thread."""
-    taken, let = threading.Event(), threading.Event()
+    taken, begun, let = threading.Event(), threading.Event(), threading.Event()
 
     def hold():
         with trie.snapshot():
@@ -762,6 +762,7 @@ def interrupted(trie, call):
             let.wait()
 
     def interrupt():
+        begun.wait()
         time.sleep(0.2)
         _thread.interrupt_main()
 
@@ -769,6 +770,7 @@ def interrupted(trie, call):
     taken.wait()
     ended = at_once(interrupt)
     try:
+        begun.set()
         call()
         return False
     except KeyboardInterrupt:
@@ -862,8 +864,9 @@ def a_handler_of_a_signal_may_call_what_it_interrupts():
         before = signal.signal(signal.SIGALRM, handle)
         signal.setitimer(signal.ITIMER_REAL, 0.2)
         try:
-            end = time.monotonic() + 0.4
-            while time.monotonic() < end:
+            while not let.is_set():
+                trie.increment(3)
+            for _ in range(1000):
                 trie.increment(3)
             assert fault is None
         except augtrie.Closed:

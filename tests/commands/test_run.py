@@ -70,7 +70,7 @@ class TestRun(OverStandIns):
 
     def test_crates_apart_are_proved_at_the_same_time(self):
         both = "[[ -e $ROOM/left && -e $ROOM/right ]]"
-        both = f"for _ in {{1..50}}; do if {both}; then break; fi; sleep 0.1; done; {both} || exit 1"
+        both = f"for _ in {{1..300}}; do if {both}; then break; fi; sleep 0.1; done; {both} || exit 1"
         self.behave(meanwhile=f': >"$ROOM/$crate"; if [[ $crate == left || $crate == right ]]; then {both}; fi\n')
         assert self.run_script("./run", "--proved")[2] == 3
 

@@ -14,10 +14,10 @@ LLVM, RATTLE = "crates/augtrie/out/augtrie", "crates/augtrie/out/augtrie.by-ratt
 # Stands in for tests/run: it notes its words and the programs to be tested.
 RUN = '#!/bin/sh\necho "$*" >>ran\necho "${PROGRAMS-}" >>programs\necho 10 passed, 0 failed\n'
 
-# Stands in for an rt that proves the library, and then waits until tests of it run, or two seconds.
+# Stands in for an rt that proves the library, and then waits until tests of it run, or five seconds.
 SLOW = """#!/bin/sh
 echo 'rt: aug_c proved'
-for _ in 1 2 3 4 5 6 7 8; do if grep -q languages ran; then break; fi; sleep 0.25; done
+for _ in 1 2 3 4 5 6 7 8 9 10; do if grep -q languages ran; then break; fi; sleep 0.5; done
 echo "rt $*" >>ran
 echo 7 passed, 0 failed
 """

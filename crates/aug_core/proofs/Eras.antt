@@ -1,5 +1,5 @@
 -- The rule of a table over all its eras: what a step of one era keeps under that era's rule it keeps under this one.
-use Rattle.std.proofs.Common.{true, false, ◌≡◌, ◌≢◌, ◌⊎◌, inl, inr, ℕ, ◌+◌, ◌-◌, ◌<◌, ◌≤◌, Bool, if◌then◌else◌, eqb, eq-eqb, ne_eqb, List, [], ◌∷◌, ◌++◌, map, take, drop, length, get_or, set, length-set, get_or-set_other, refl, sym, ap, ◌∙◌, subst, ⊎_elim, arith, Some, None}
+use Rattle.std.proofs.Common.{true, false, ◌≡◌, ◌≢◌, ◌⊎◌, inl, inr, ℕ, suc, ◌+◌, ◌-◌, ◌<◌, ◌≤◌, Bool, if◌then◌else◌, eqb, eq-eqb, ne_eqb, List, [], ◌∷◌, ◌++◌, map, take, drop, length, get_or, set, length-set, get_or-set_other, refl, sym, ap, ◌∙◌, subst, ⊎_elim, arith, Some, None}
 use Rattle.std.specs.Prelude.{Option, IfSome, option_map}
 use Rattle.std.proofs.lemmas.Bool.{cases_eq}
 use Rattle.std.proofs.lemmas.Grind.{same_number_lists}
@@ -264,6 +264,11 @@ module _ (face : ℕ → ℕ → List (ℕ × ℕ) → List ℕ) (shape : Shape)
             (λ q. let clash : false ≡ true = ap (λ (z : SeatView). z.reads) q ∙ does in cc) (at_snoc (set s.views id (handing_out v)) (handed_out v) x j p);
       }
 
+  -- one number in the place of each is the list itself if it holds no other
+  one_number : (c : ℕ) (xs : List ℕ) → ((b : ℕ) → Lists xs b → b ≡ c) → map (λ _. c) xs ≡ xs
+  one_number c [] all = refl
+  one_number c (x ∷ xs) all = λ i. sym (all x (0, refl)) i ∷ one_number c xs (λ b has. all b (suc has.0, has.1)) i
+
   -- who takes in another's lanes stays at work
   joining_works : (v u : SeatView) → IsAtWork v → IsAtWork (taking_back v u)
   joining_works v u work = ⊎_elim (λ t. inl (t.0, t.1, at_longer v.held u.held t.0 t.1 t.2)) (λ t. inr t) work
@@ -278,7 +283,8 @@ module _ (face : ℕ → ℕ → List (ℕ × ℕ) → List ℕ) (shape : Shape)
       let now = views_now face shape s id v at w present (taking_back v u) refl in
       let there' : get_elem? (set (map (seen_in w.era) s.views) id (taking_back v u)) other ≡ some u =
       subst (λ (z : List SeatView). get_elem? z other ≡ some u) (sym now) (at_map (seen_in w.era) views' other u at' ∙ ap (λ (z : SeatView). some z) (seen_now w.era u present')) in
-      let kept = joins_seat face (opening_with shape w.members) id other v u v.told (v.lent ++ u.lent) (table_in w.era w.base (word_count shape) s) w.kept (stands_now face shape s id v at w present) ne there' in
+      let answered : map (λ _. v.base) u.lent ≡ u.lent = one_number v.base u.lent (λ b has. ⊎_elim (λ here. here ∙ sym (w.placed id v at work)) (λ led. let clash : None ≡ Some led.0 = sym follows ∙ led.1 in cc) (w.lends other u there b has).1) in
+      let kept = joins_seat face (opening_with shape w.members) id other v u v.told (v.lent ++ map (λ _. v.base) u.lent) (table_in w.era w.base (word_count shape) s) w.kept (stands_now face shape s id v at w present) ne there' in
       let same : set (set (map (seen_in w.era) s.views) id (taking_back v u)) other spent ≡ map (seen_in w.era) (set views' other spent) =
       ap (λ (z : List SeatView). set z other spent) now ∙ ap (set (map (seen_in w.era) views') other) (sym (seen_spent w.era)) ∙ sym (map-set (seen_in w.era) views' other spent) in
       record {
@@ -295,11 +301,11 @@ module _ (face : ℕ → ℕ → List (ℕ × ℕ) → List ℕ) (shape : Shape)
         beside = λ j m x p leads. ⊎_elim (λ t. let clash : None ≡ Some m = ap (λ (z : SeatView). z.spare) t.1 ∙ leads in cc)
             (λ t. beside_on face shape s id v at w present (taking_back v u) refl refl (λ k e. (k, e)) j m x t.1 leads) (at_set views' other j spent x p);
         none_later = λ j x p. ⊎_elim (λ t. subst (λ (z : SeatView). z.era ≤ w.era) t.1 (omega arith)) (λ t. none_later_on face shape s id v at w present (taking_back v u) refl j x t.1) (at_set views' other j spent x p);
-        lent = lent_joined s.views w.lent id other v u (taking_back v u) at ne there (λ b. let both = total_both (λ (y : ℕ). if eqb y b then 1 else 0) v.lent u.lent in omega arith);
+        lent = lent_joined s.views w.lent id other v u (taking_back v u) at ne there (λ b. let both = total_both (λ (y : ℕ). if eqb y b then 1 else 0) v.lent (map (λ _. v.base) u.lent) in let same_times : times_in b (map (λ _. v.base) u.lent) ≡ times_in b u.lent = ap (times_in b) answered in omega arith);
         lends = λ j x p. ⊎_elim (λ t. lent_none x (ap (λ (z : SeatView). z.lent) (sym t.1)) w.base)
             (λ t. ⊎_elim (λ q. subst (LendsIn w.base) q.1 (λ b has. let went : (IsAtWork v → IsAtWork (taking_back v u)) = joining_works v u in ⊎_elim
             (λ old. let was = w.lends id v at b (has.0, old) in (went was.0, was.1))
-            (λ new. let was = w.lends other u there b (new.0, new.2) in (went work, inl (⊎_elim (λ here. here) (λ led. let clash : None ≡ Some led.0 = sym follows ∙ led.1 in cc) was.1))) (append_at v.lent u.lent b has.0 has.1)))
+            (λ new. let was = w.lends other u there b (new.0, subst (λ (z : List ℕ). get_elem? z new.0 ≡ some b) answered new.2) in (went work, inl (⊎_elim (λ here. here) (λ led. let clash : None ≡ Some led.0 = sym follows ∙ led.1 in cc) was.1))) (append_at v.lent (map (λ _. v.base) u.lent) b has.0 has.1)))
             (λ q. w.lends j x q.1) (at_set s.views id j (taking_back v u) x t.1))
             (at_set views' other j spent x p);
         reads = λ j x p does. ⊎_elim (λ t. let clash : false ≡ true = ap (λ (z : SeatView). z.reads) t.1 ∙ does in cc)

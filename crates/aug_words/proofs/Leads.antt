@@ -1,5 +1,5 @@
 -- The seat of a lead, and the table that it sits at.
-use Rattle.std.proofs.Common.{◌≡◌, ℕ, ◌+◌, ◌^◌, ◌<◌, ◌≤◌, List, [], ◌∷◌, ◌++◌, length, All, Option, Some, option_map, sym, refl, ap, ◌∙◌, subst, arith, ⊎_elim, inl, inr}
+use Rattle.std.proofs.Common.{◌≡◌, ℕ, ◌+◌, ◌^◌, ◌<◌, ◌≤◌, List, [], ◌∷◌, ◌++◌, ◌-◌, ◌*◌, length, map, min, set, get_or, All, Option, Some, option_map, sym, refl, ap, ◌∙◌, subst, arith, ⊎_elim, inl, inr}
 use Rattle.std.specs.Prelude.{unwrap_or}
 use Rattle.aug_core.specs.Lanes.{IsOfLane}
 use Rattle.aug_core.specs.Addresses.{IsInner, root_place, level_of, place_on}
@@ -32,7 +32,10 @@ use mathlib.Core.Option.{some, some-ne-none}
 use lib.ListN.{get_elem?}
 use Rattle.aug_words.specs.Leads.{HandsLaneOut}
 use Rattle.aug_words.specs.Notes.{LearnsNote}
-use Rattle.aug_words.specs.inside.SeatState.{SitsAt, IsPassSeat, IsLeadSeat, IsLead, IsStore}
+use Rattle.aug_words.specs.declared.parts.Parts.{Parts}
+use Rattle.aug_words.specs.inside.SeatState.{ArePartsOf, IsCount, SitsAt, IsPassSeat, IsLeadSeat, IsLead, IsStore}
+use Rattle.aug_words.proofs.Counts.{parts_lent, parts_on, parts_taken, some_size}
+use Rattle.aug_core.specs.Readers.{taking_reader, without}
 use Rattle.aug_words.specs.inside.Laying.{Brings, IsDraft, NamesEntry, MayBring, ShownBelow, StepsBeside, words_in}
 use Rattle.aug_core.proofs.Levels.{level_is, root_word}
 use Rattle.aug_core.specs.inside.ClearParts.{IsClear, IsClearPart}
@@ -46,8 +49,8 @@ use Rattle.aug_words.specs.Seats.{IsNextLane}
 pub some_words : (table : TableId) (made : TableKey) (layout : Shape) (lanes records : ℕ) → IsStore table made layout lanes records → 0 < table.words
 some_words table made layout lanes records store = let wide = store.wide in let workers = store.laid_out.workers.0 in omega arith
 
-pub pass_has_words : (face : ℕ → ℕ → List (ℕ × ℕ) → List ℕ) (seat_table table : TableId) (base lanes records lane : ℕ) (me : Sat) → SitsAt seat_table table base lanes records me.0 → IsPassSeat face lane me → 0 < table.words
-pass_has_words face seat_table table base lanes records lane me sits seat = let wide = sits.placed.wide in let low = seat.exists in omega arith
+pub pass_has_words : (face : ℕ → ℕ → List (ℕ × ℕ) → List ℕ) (seat_table table : TableId) (base lanes records lane lent : ℕ) (me : Sat) → SitsAt seat_table table base lanes records me.0 → IsPassSeat face lane lent me → 0 < table.words
+pass_has_words face seat_table table base lanes records lane lent me sits seat = let wide = sits.placed.wide in let low = seat.exists in omega arith
 
 -- the first lane's word comes after the root's
 pub lanes_at : (table : TableId) (made : TableKey) (layout : Shape) (lanes records : ℕ) → IsStore table made layout lanes records → (lanes ≡ root_place layout + 1) × (2 ≤ lanes) × (lanes < word_count layout)
@@ -58,13 +61,12 @@ pub root_inner : (s : Shape) → 1 ≤ s.bits → s.bits ≤ 16 → IsInner s (r
 root_inner s some_bits few = let b = (keys-within s.bits some_bits few).0 in let t = twice s.bits in record { past_leaves = omega arith; inside = omega arith }
 
 -- the seat that opens a table, which has the number of the root's opening record
-pub opening_seat : (face : ℕ → ℕ → List (ℕ × ℕ) → List ℕ) (o : Opening) (past : List PastEra) (era base : ℕ) (lent words whole : List ℕ) (number : ℕ) → lent ≡ [] → IsLayout o.shape → IsKeySet o.shape.bits (keys_of o.members) → All FitsPair o.members → length (keys_of o.members) ≤ o.shape.members
+pub opening_seat : (face : ℕ → ℕ → List (ℕ × ℕ) → List ℕ) (o : Opening) (past : List PastEra) (era base : ℕ) (lent words whole : List ℕ) (number : ℕ) → IsLayout o.shape → IsKeySet o.shape.bits (keys_of o.members) → All FitsPair o.members → length (keys_of o.members) ≤ o.shape.members
     → number ≡ opening_number o (root_place o.shape) → IsLeadSeat face 0 number (opener face o past era base lent words whole, [])
-opening_seat face o past era base lent words whole number none laid_out set fit few named = let inner = root_inner o.shape laid_out.bits.0 laid_out.bits.1 in let only = inner_history face o (root_place o.shape) inner in record {
+opening_seat face o past era base lent words whole number laid_out set fit few named = let inner = root_inner o.shape laid_out.bits.0 laid_out.bits.1 in let only = inner_history face o (root_place o.shape) inner in record {
   live = refl;
   no_slot = refl;
   hands_out = refl;
-  none_lent = none;
   knows = opener_knows face o past era base lent words whole laid_out set fit few;
   names_root = record {
     index = 0;
@@ -74,26 +76,29 @@ opening_seat face o past era base lent words whole number none laid_out set fit 
   };
 }
 
-module _ (face : ℕ → ℕ → List (ℕ × ℕ) → List ℕ) (a a' : TableId) (b next root other : ℕ) (shown : List ℕ) (me me' : Sat) (lead : IsLead face a b next root other shown me) (one : a' ≡ a) where
+module _ (face : ℕ → ℕ → List (ℕ × ℕ) → List ℕ) (a a' : TableId) (b next root other : ℕ) (shown : List ℕ) (parts : Parts) (me me' : Sat) (lead : IsLead face a b next root other shown parts me) (one : a' ≡ a) where
   seat : IsLeadSeat face next root me
   seat = lead.1
 
-  -- a lead that works where it did
-  works_there : (next' root' : ℕ) → me'.0.shape ≡ me.0.shape → me'.0.base ≡ me.0.base → me'.0.whole ≡ me.0.whole → ArePrefixes me.0.seen me'.0.seen → IsLeadSeat face next' root' me' → IsLead face a' b next' root' other shown me'
-  works_there next' root' shape base whole grows is = subst (λ (z : TableId). IsLead face z b next' root' other shown me') (sym one)
-      (placed_on a b me.0 me'.0 lead.0 shape base, is, ap (λ (z : List ℕ). length z) whole ∙ lead.2, drafts_on face a a other shown me.0 me'.0 refl shape base whole seat.knows.book grows lead.3)
+  -- a lead that works where it did, and counts its readers so
+  works_by : (next' root' : ℕ) (parts' : Parts) → me'.0.shape ≡ me.0.shape → me'.0.base ≡ me.0.base → me'.0.whole ≡ me.0.whole → ArePartsOf a parts' b other me.0.shape me'.0.lent → ArePrefixes me.0.seen me'.0.seen → IsLeadSeat face next' root' me' → IsLead face a' b next' root' other shown parts' me'
+  works_by next' root' parts' shape base whole are grows is = subst (λ (z : TableId). IsLead face z b next' root' other shown parts' me') (sym one)
+      (placed_on a b me.0 me'.0 lead.0 shape base, is, ap (λ (z : List ℕ). length z) whole ∙ lead.2, drafts_on face a a other shown me.0 me'.0 refl shape base whole seat.knows.book grows lead.3, parts_on a a parts' b other me.0.shape me'.0.shape me'.0.lent me'.0.lent are refl shape refl)
+
+  -- the same ones
+  works_there : (next' root' : ℕ) → me'.0.shape ≡ me.0.shape → me'.0.base ≡ me.0.base → me'.0.whole ≡ me.0.whole → me'.0.lent ≡ me.0.lent → ArePrefixes me.0.seen me'.0.seen → IsLeadSeat face next' root' me' → IsLead face a' b next' root' other shown parts me'
+  works_there next' root' shape base whole lent grows is = works_by next' root' parts shape base whole (parts_on a a parts b other me.0.shape me.0.shape me.0.lent me'.0.lent lead.4 refl refl lent) grows is
 
   -- one that has seen no more
-  works_still : (next' root' : ℕ) → me'.0.shape ≡ me.0.shape → me'.0.base ≡ me.0.base → me'.0.whole ≡ me.0.whole → me'.0.seen ≡ me.0.seen → IsLeadSeat face next' root' me' → IsLead face a' b next' root' other shown me'
-  works_still next' root' shape base whole seen is = works_there next' root' shape base whole (subst (ArePrefixes me.0.seen) (sym seen) (book_refl me.0.seen)) is
+  works_still : (next' root' : ℕ) → me'.0.shape ≡ me.0.shape → me'.0.base ≡ me.0.base → me'.0.whole ≡ me.0.whole → me'.0.lent ≡ me.0.lent → me'.0.seen ≡ me.0.seen → IsLeadSeat face next' root' me' → IsLead face a' b next' root' other shown parts me'
+  works_still next' root' shape base whole lent seen is = works_there next' root' shape base whole lent (subst (ArePrefixes me.0.seen) (sym seen) (book_refl me.0.seen)) is
 
   -- a lead that loaded the root's word
-  pub lead_loaded : (found : ℕ) → me'.1 ≡ [] → LoadsNode face me.0 (root_place me.0.shape) found me'.0 → IsLead face a' b next found other shown me'
-  lead_loaded found empty did = let is = did.stepped in works_there next found (ap (λ (z : SeatView). z.shape) is) (ap (λ (z : SeatView). z.base) is) (ap (λ (z : SeatView). z.whole) is) did.sees.later record {
+  pub lead_loaded : (found : ℕ) → me'.1 ≡ [] → LoadsNode face me.0 (root_place me.0.shape) found me'.0 → IsLead face a' b next found other shown parts me'
+  lead_loaded found empty did = let is = did.stepped in works_there next found (ap (λ (z : SeatView). z.shape) is) (ap (λ (z : SeatView). z.base) is) (ap (λ (z : SeatView). z.whole) is) (ap (λ (z : SeatView). z.lent) is) did.sees.later record {
     live = ap (λ (z : SeatView). z.live) is ∙ seat.live;
     no_slot = empty;
     hands_out = ap (λ (z : SeatView). z.spare) is ∙ seat.hands_out;
-    none_lent = ap (λ (z : SeatView). z.lent) is ∙ seat.none_lent;
     knows = knows_shown face me.0 me'.0 seat.knows did.sees (ap (λ (z : SeatView). z.shape) is) (ap (λ (z : SeatView). z.members) is);
     names_root = record {
       index = did.index;
@@ -104,45 +109,58 @@ module _ (face : ℕ → ℕ → List (ℕ × ℕ) → List ℕ) (a a' : TableId
   }
 
   -- one that loaded a word of a record
-  pub lead_looked : (taken : StepTaken) → me'.0 ≡ stepping me.0 taken → me'.1 ≡ [] → IsLead face a' b next root other shown me'
-  lead_looked taken is empty = works_still next root (ap (λ (z : SeatView). z.shape) is) (ap (λ (z : SeatView). z.base) is) (ap (λ (z : SeatView). z.whole) is) (ap (λ (z : SeatView). z.seen) is) (subst (IsLeadSeat face next root) (λ i. (sym is i, sym empty i)) record {
+  pub lead_looked : (taken : StepTaken) → me'.0 ≡ stepping me.0 taken → me'.1 ≡ [] → IsLead face a' b next root other shown parts me'
+  lead_looked taken is empty = works_still next root (ap (λ (z : SeatView). z.shape) is) (ap (λ (z : SeatView). z.base) is) (ap (λ (z : SeatView). z.whole) is) (ap (λ (z : SeatView). z.lent) is) (ap (λ (z : SeatView). z.seen) is) (subst (IsLeadSeat face next root) (λ i. (sym is i, sym empty i)) record {
     live = seat.live;
     no_slot = refl;
     hands_out = seat.hands_out;
-    none_lent = seat.none_lent;
     knows = knows_same face me.0 me.0.live me.0.also me.0.held me.0.spare me.0.began (me.0.steps ++ taken ∷ []) seat.knows;
     names_root = let at = seat.names_root in record { index = at.index; entry = at.entry; newest = at.newest; named = at.named };
   })
 
   -- one that handed a lane out
-  pub lead_handed : me'.0 ≡ handing_out me.0 → me'.1 ≡ me.1 → IsLead face a' b (next + 1) root other shown me'
-  lead_handed is same = works_still (next + 1) root (ap (λ (z : SeatView). z.shape) is) (ap (λ (z : SeatView). z.base) is) (ap (λ (z : SeatView). z.whole) is) (ap (λ (z : SeatView). z.seen) is) (subst (IsLeadSeat face (next + 1) root) (λ i. (sym is i, sym same i)) record {
+  pub lead_handed : me'.0 ≡ handing_out me.0 → me'.1 ≡ me.1 → IsLead face a' b (next + 1) root other shown parts me'
+  lead_handed is same = works_still (next + 1) root (ap (λ (z : SeatView). z.shape) is) (ap (λ (z : SeatView). z.base) is) (ap (λ (z : SeatView). z.whole) is) (ap (λ (z : SeatView). z.lent) is) (ap (λ (z : SeatView). z.seen) is) (subst (IsLeadSeat face (next + 1) root) (λ i. (sym is i, sym same i)) record {
     live = seat.live;
     no_slot = seat.no_slot;
     hands_out = ap (option_map (λ n. n + 1)) seat.hands_out;
-    none_lent = seat.none_lent;
     knows = knows_same face me.0 me.0.live me.0.also me.0.held (option_map (λ n. n + 1) me.0.spare) me.0.began me.0.steps seat.knows;
     names_root = let at = seat.names_root in record { index = at.index; entry = at.entry; newest = at.newest; named = at.named };
   })
 
-  -- one that took a pass in
-  pub lead_joined : (w : SeatView) → w.lent ≡ [] → me'.0 ≡ taking_back me.0 w → me'.1 ≡ me.1 → IsLead face a' b next root other shown me'
-  lead_joined w none is same = works_still next root (ap (λ (z : SeatView). z.shape) is) (ap (λ (z : SeatView). z.base) is) (ap (λ (z : SeatView). z.whole) is) (ap (λ (z : SeatView). z.seen) is) (subst (IsLeadSeat face next root) (λ i. (sym is i, sym same i)) record {
-    live = seat.live;
-    no_slot = seat.no_slot;
-    hands_out = seat.hands_out;
-    none_lent = (λ i. seat.none_lent i ++ none i);
-    knows = knows_lent face record me.0 { also = w.seen; held = me.0.held ++ w.held } (me.0.lent ++ w.lent) (knows_same face me.0 me.0.live w.seen (me.0.held ++ w.held) me.0.spare me.0.began me.0.steps seat.knows);
-    names_root = let at = seat.names_root in record { index = at.index; entry = at.entry; newest = at.newest; named = at.named };
-  })
+  -- one that took a pass in, and counted the readers that this had lent
+  pub lead_joined : (w : SeatView) (n : ℕ) (parts' : Parts) → IsCount n (length w.lent) → parts'.own ≡ parts.own → parts'.next ≡ parts.next → parts'.out.items ≡ set parts.out.items parts.own (min (get_or parts.out.items parts.own 0 + n) (2 ^ 32 - 1)) → me'.0 ≡ taking_back me.0 w → me'.1 ≡ me.1 → IsLead face a' b next root other shown parts' me'
+  lead_joined w n parts' count own next' out is same = let workers = seat.knows.laid_out.workers.0 in
+      let lent : me'.0.lent ≡ me.0.lent ++ map (λ _. b) w.lent = ap (λ (z : SeatView). z.lent) is ∙ ap (λ (z : ℕ). me.0.lent ++ map (λ _. z) w.lent) (sym lead.0.base_is) in
+      works_by next root parts' (ap (λ (z : SeatView). z.shape) is) (ap (λ (z : SeatView). z.base) is) (ap (λ (z : SeatView). z.whole) is) (subst (ArePartsOf a parts' b other me.0.shape) (sym lent) (parts_lent a parts b other me.0.shape me.0.lent (some_size me.0.shape workers) lead.4 parts' w.lent n count own next' out))
+      (subst (ArePrefixes me.0.seen) (sym (ap (λ (z : SeatView). z.seen) is)) (book_refl me.0.seen)) (subst (IsLeadSeat face next root) (λ i. (sym is i, sym same i)) record {
+        live = seat.live;
+        no_slot = seat.no_slot;
+        hands_out = seat.hands_out;
+        knows = knows_lent face record me.0 { also = w.seen; held = me.0.held ++ w.held } (me.0.lent ++ map (λ _. me.0.base) w.lent) (knows_same face me.0 me.0.live w.seen (me.0.held ++ w.held) me.0.spare me.0.began me.0.steps seat.knows);
+        names_root = let at = seat.names_root in record { index = at.index; entry = at.entry; newest = at.newest; named = at.named };
+      })
+
+  -- one that took a reader back
+  pub lead_took : (w : SeatView) (part : ℕ) (parts' : Parts) → part < length parts.out.items → w.base ≡ part * word_count me.0.shape → 0 < get_or parts.out.items part 0 → get_or parts.out.items part 0 < 2 ^ 32 - 1 → parts'.own ≡ parts.own → parts'.next ≡ parts.next
+      → parts'.out.items ≡ set parts.out.items part (get_or parts.out.items part 0 - 1) → me'.0 ≡ taking_reader me.0 w → me'.1 ≡ me.1 → IsLead face a' b next root other shown parts' me'
+  lead_took w part parts' inside at some_out few own next' out is same = let workers = seat.knows.laid_out.workers.0 in
+      let lent : me'.0.lent ≡ without (part * word_count me.0.shape) me.0.lent = ap (λ (z : SeatView). z.lent) is ∙ ap (λ (z : ℕ). without z me.0.lent) at in
+      works_by next root parts' (ap (λ (z : SeatView). z.shape) is) (ap (λ (z : SeatView). z.base) is) (ap (λ (z : SeatView). z.whole) is) (subst (ArePartsOf a parts' b other me.0.shape) (sym lent) (parts_taken a parts b other me.0.shape me.0.lent (some_size me.0.shape workers) lead.4 parts' part inside some_out few own next' out))
+      (subst (ArePrefixes me.0.seen) (sym (ap (λ (z : SeatView). z.seen) is)) (book_refl me.0.seen)) (subst (IsLeadSeat face next root) (λ i. (sym is i, sym same i)) record {
+        live = seat.live;
+        no_slot = seat.no_slot;
+        hands_out = seat.hands_out;
+        knows = knows_lent face me.0 (without w.base me.0.lent) seat.knows;
+        names_root = let at = seat.names_root in record { index = at.index; entry = at.entry; newest = at.newest; named = at.named };
+      })
 
   -- one that took in a note
-  pub lead_learnt : (w : SeatView) → me'.0 ≡ learning me.0 w → me'.1 ≡ me.1 → IsLead face a' b next root other shown me'
-  lead_learnt w is same = works_still next root (ap (λ (z : SeatView). z.shape) is) (ap (λ (z : SeatView). z.base) is) (ap (λ (z : SeatView). z.whole) is) (ap (λ (z : SeatView). z.seen) is) (subst (IsLeadSeat face next root) (λ i. (sym is i, sym same i)) record {
+  pub lead_learnt : (w : SeatView) → me'.0 ≡ learning me.0 w → me'.1 ≡ me.1 → IsLead face a' b next root other shown parts me'
+  lead_learnt w is same = works_still next root (ap (λ (z : SeatView). z.shape) is) (ap (λ (z : SeatView). z.base) is) (ap (λ (z : SeatView). z.whole) is) (ap (λ (z : SeatView). z.lent) is) (ap (λ (z : SeatView). z.seen) is) (subst (IsLeadSeat face next root) (λ i. (sym is i, sym same i)) record {
     live = seat.live;
     no_slot = seat.no_slot;
     hands_out = seat.hands_out;
-    none_lent = seat.none_lent;
     knows = knows_told face me.0 (seen_in me.0.era w).seen (Some (learnt_of w)) seat.knows;
     names_root = let at = seat.names_root in record { index = at.index; entry = at.entry; newest = at.newest; named = at.named };
   })
@@ -153,27 +171,23 @@ module _ (face : ℕ → ℕ → List (ℕ × ℕ) → List ℕ) (a a' : TableId
 clear_place : (size base place : ℕ) (lent : List ℕ) → IsClearPart size lent base → place < size → IsClear size lent (base + place)
 clear_place size base place lent clear small b has = ⊎_elim (λ low. inr (omega (arith, low))) (λ high. inl (omega (arith, high, small))) (clear b has)
 
--- where a view answers for nobody
-pub nobody_reads : (v : SeatView) (size base : ℕ) → v.lent ≡ [] → IsClearPart size v.lent base
-nobody_reads v size base none b has = let out : get_elem? [] has.0 ≡ some b = subst (λ (z : List ℕ). get_elem? z has.0 ≡ some b) none has.1 in absurd (some-ne-none b (sym out))
-
-module _ (face : ℕ → ℕ → List (ℕ × ℕ) → List ℕ) (a : TableId) (b next root other : ℕ) (shown : List ℕ) (me : Sat) (lead : IsLead face a b next root other shown me) (room : 2 ^ me.0.shape.bits ≤ me.0.shape.members) where
+module _ (face : ℕ → ℕ → List (ℕ × ℕ) → List ℕ) (a : TableId) (b next root other : ℕ) (shown : List ℕ) (parts : Parts) (me : Sat) (lead : IsLead face a b next root other shown parts me) (room : 2 ^ me.0.shape.bits ≤ me.0.shape.members) where
   seated : IsLeadSeat face next root me
   seated = lead.1
 
   draft : IsDraft face a other shown me.0
   draft = lead.3 room
 
-  -- it may do so
-  pub lead_may : (t : TableId) (records : ℕ) (s : Shape) → a ≡ t → me.0.shape ≡ s → records ≡ b + record_start s 0 → MayBring face a t records other s me
-  lead_may t records s one shape begins = subst (λ (z : Shape). MayBring face a t records other z me) shape record {
+  -- it may do so where nobody reads
+  pub lead_may : (t : TableId) (records : ℕ) (s : Shape) → IsClearPart (word_count me.0.shape) me.0.lent other → a ≡ t → me.0.shape ≡ s → records ≡ b + record_start s 0 → MayBring face a t records other s me
+  lead_may t records s clear one shape begins = subst (λ (z : Shape). MayBring face a t records other z me) shape record {
     may = record {
       seated = one;
       no_slot = seated.no_slot;
       long = lead.2 ∙ ap (λ (z : TableId). z.words) one;
       inside = subst (λ (z : TableId). other + word_count me.0.shape ≤ z.words) one draft.inside;
       few = subst (λ (z : TableId). z.words < 2 ^ 60) one lead.0.few;
-      leads = record { next = next; leads = seated.hands_out; live = seated.live; apart = draft.apart; clear = λ place small. clear_place (word_count me.0.shape) other place me.0.lent (nobody_reads me.0 (word_count me.0.shape) other seated.none_lent) small };
+      leads = record { next = next; leads = seated.hands_out; live = seated.live; apart = draft.apart; clear = λ place small. clear_place (word_count me.0.shape) other place me.0.lent clear small };
     };
     shaped = refl;
     wide = subst (λ (z : TableId). me.0.base + word_count me.0.shape ≤ z.words) one lead.0.wide;
@@ -196,7 +210,7 @@ module _ (face : ℕ → ℕ → List (ℕ × ℕ) → List ℕ) (a : TableId) (
 
   -- and is a lead that has done so
   pub lead_brought : (a' : TableId) (noted : List ℕ) (me' : Sat) (s : Shape) (top : ℕ) → me.0.shape ≡ s → top ≡ root_place s → a' ≡ a → me'.1 ≡ [] → StepsBeside other s me.0 me'.0
-      → Brings face s me.0.seen (level_of s top) (place_on s top) (words_in other s me.0) (words_in other s me'.0) shown noted → IsLead face a' b next root other noted me'
+      → Brings face s me.0.seen (level_of s top) (place_on s top) (words_in other s me.0) (words_in other s me'.0) shown noted → IsLead face a' b next root other noted parts me'
   lead_brought a' noted me' s top shape is one empty steps brings =
       let on = level_is s (root_place s) s.bits 0 (root_word s) in let level = ap (level_of s) is ∙ on.0 in let place = ap (place_on s) is ∙ on.1 in
       let whole = subst (λ (z : ℕ × ℕ). ShownBelow face s me.0.seen (words_in other s me'.0) noted z.0 z.1) (λ i. (level i, place i)) brings.below in
@@ -205,12 +219,11 @@ module _ (face : ℕ → ℕ → List (ℕ × ℕ) → List ℕ) (a : TableId) (
         live = seated.live;
         no_slot = refl;
         hands_out = seated.hands_out;
-        none_lent = seated.none_lent;
         knows = knows_steps face me.0 me'.0.whole me'.0.steps seated.knows;
         names_root = let n = seated.names_root in record { index = n.index; entry = n.entry; newest = n.newest; named = n.named };
       } in
-      let still : IsLead face a b next root other noted (w, []) = (
-        record { base_is = lead.0.base_is; wide = lead.0.wide; few = lead.0.few },
+      let still : IsLead face a b next root other noted parts (w, []) = (
+        record { base_is = lead.0.base_is; wide = lead.0.wide; few = lead.0.few; part = lead.0.part; starts = lead.0.starts },
         seat,
         sym steps.beside.long ∙ lead.2,
         (λ _. record {
@@ -219,7 +232,8 @@ module _ (face : ℕ → ℕ → List (ℕ × ℕ) → List ℕ) (a : TableId) (
           noted = brings.noted ∙ draft.noted;
           below = subst (λ (z : Shape). ShownBelow face z me.0.seen (words_in other z me'.0) noted z.bits 0) (sym shape) whole;
         }),
-      ) in subst (λ (z : TableId × SeatView × List (ℕ × Unit {0})). IsLead face z.0 b next root other noted (z.1, z.2)) (λ i. (sym one i, sym steps.view_is i, sym empty i)) still
+        lead.4,
+      ) in subst (λ (z : TableId × SeatView × List (ℕ × Unit {0})). IsLead face z.0 b next root other noted parts (z.1, z.2)) (λ i. (sym one i, sym steps.view_is i, sym empty i)) still
 
 -- a lead that may hand a lane out may do so after it loaded a node
 pub may_hand_out : (face : ℕ → ℕ → List (ℕ × ℕ) → List ℕ) (old new : SeatView) (q found lane next : ℕ) → LoadsNode face old q found new → IsNextLane old lane → new.spare ≡ Some next → next < new.shape.workers
@@ -228,10 +242,10 @@ may_hand_out face old new q found lane next did room spare =
     let shaped = ap (λ (z : SeatView). z.shape) did.stepped in subst (λ (z : Shape). next < z.workers) (sym shaped) (let low = room.exists in omega arith)
 
 -- the seat that was split off a lead's, once it took its lane
-pub new_pass : (face : ℕ → ℕ → List (ℕ × ℕ) → List ℕ) (next root place : ℕ) (lead me : Sat) → IsLeadSeat face next root lead → next < lead.0.shape.workers → me.1 ≡ [] → me.0 ≡ taking (handed_out lead.0) place → IsPassSeat face next me
+pub new_pass : (face : ℕ → ℕ → List (ℕ × ℕ) → List ℕ) (next root place : ℕ) (lead me : Sat) → IsLeadSeat face next root lead → next < lead.0.shape.workers → me.1 ≡ [] → me.0 ≡ taking (handed_out lead.0) place → IsPassSeat face next 0 me
 new_pass face next root place lead me seat low empty is =
     let which : unwrap_or lead.0.spare 0 ≡ next = ap (λ (z : Option ℕ). unwrap_or z 0) seat.hands_out in
-    subst (IsPassSeat face next) (λ i. (sym is i, sym empty i)) record {
+    subst (IsPassSeat face next 0) (λ i. (sym is i, sym empty i)) record {
       live = seat.live;
       no_slot = refl;
       held = in_state Taken (new_lane lead.0.shape lead.0.words (unwrap_or lead.0.spare 0));
@@ -241,7 +255,7 @@ new_pass face next root place lead me seat low empty is =
       long = block_long lead.0.shape lead.0.words (unwrap_or lead.0.spare 0);
       exists = low;
       follows = refl;
-      none_lent = refl;
+      lends = record { count = inl refl; few = omega arith; here = λ b has. absurd (some-ne-none b (sym has.1)) };
       knows = knows_taken face lead.0 place seat.knows;
     }
 

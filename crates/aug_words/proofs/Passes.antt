@@ -25,7 +25,7 @@ use Rattle.aug_core.proofs.Sizes.{record_inside}
 use Rattle.aug_core.proofs.Fits.{knows_shown, knows_same, knows_told}
 use Rattle.aug_core.proofs.Stores.{alone, one_held}
 use Rattle.aug_core.proofs.Eras.{holds_lane}
-use Rattle.aug_words.specs.inside.SeatState.{IsPlaced, SitsAt, IsPassSeat, HasReached}
+use Rattle.aug_words.specs.inside.SeatState.{IsPlaced, SitsAt, IsPassSeat, HasReached, LendsHere}
 use Rattle.aug_words.specs.Seats.{AreTogether, Known, MayLoad, LoadsRecordWord, Store}
 
 -- a seat that stayed in its part
@@ -34,6 +34,8 @@ placed_on t b v w p shape base = record {
   base_is = p.base_is ∙ sym base;
   wide = subst (λ (z : ℕ × Shape). z.0 + word_count z.1 ≤ t.words) (λ i. (sym base i, sym shape i)) p.wide;
   few = p.few;
+  part = p.part;
+  starts = base ∙ p.starts ∙ ap (λ (z : Shape). p.part * word_count z) (sym shape);
 }
 
 -- a seat that belongs to a table sits there
@@ -62,9 +64,9 @@ sits_on a a' t b l r v w sits one shape base = record {
   records_are = sits.records_are ∙ (λ i. sym base i + record_start (sym shape i) 0);
 }
 
-module _ (face : ℕ → ℕ → List (ℕ × ℕ) → List ℕ) (a a' t : TableId) (b l r lane : ℕ) (me me' : Sat) (is_pass : SitsAt a t b l r me.0 × IsPassSeat face lane me) (one : a' ≡ a) where
+module _ (face : ℕ → ℕ → List (ℕ × ℕ) → List ℕ) (a a' t : TableId) (b l r lane lent : ℕ) (me me' : Sat) (is_pass : SitsAt a t b l r me.0 × IsPassSeat face lane lent me) (one : a' ≡ a) where
   abbrev IsPass : Type 0
-  IsPass = SitsAt a' t b l r me'.0 × IsPassSeat face lane me'
+  IsPass = SitsAt a' t b l r me'.0 × IsPassSeat face lane lent me'
 
   -- a pass that was shown the whole book, and whose lane is the one that it was
   shown : (h : Held) (held : List Held) (book : Book) (began : Beginning) (steps : List StepTaken) → held ≡ h ∷ [] → h.lane ≡ lane → h.state ≡ Taken → length h.words ≡ block_size me.0.shape → me'.1 ≡ []
@@ -81,7 +83,7 @@ module _ (face : ℕ → ℕ → List (ℕ × ℕ) → List ℕ) (a a' t : Table
       long = subst (λ (z : Shape). length h.words ≡ block_size z) (sym same) long;
       exists = subst (λ (z : Shape). lane < z.workers) (sym same) seat.exists;
       follows = ap (λ (z : SeatView). z.spare) is ∙ seat.follows;
-      none_lent = ap (λ (z : SeatView). z.lent) is ∙ seat.none_lent;
+      lends = subst (λ (z : SeatView). LendsHere lent z.base z.lent) (sym is) seat.lends;
       knows = knows_shown face me.0 me'.0 seat.knows sees same (ap (λ (z : SeatView). z.members) is);
     },
   )
@@ -115,7 +117,7 @@ module _ (face : ℕ → ℕ → List (ℕ × ℕ) → List ℕ) (a a' t : Table
   kept : (h : Held) (held : List Held) (steps : List StepTaken) → held ≡ h ∷ [] → h.lane ≡ lane → h.state ≡ Taken → length h.words ≡ block_size me.0.shape → me'.1 ≡ [] → me'.0 ≡ record me.0 { held = held; steps = steps } → IsPass
   kept h held steps only named taken long empty is = let seat = is_pass.1 in (
     sits_on a a' t b l r me.0 me'.0 is_pass.0 one (ap (λ (z : SeatView). z.shape) is) (ap (λ (z : SeatView). z.base) is),
-    subst (IsPassSeat face lane) (λ i. (sym is i, sym empty i)) record {
+    subst (IsPassSeat face lane lent) (λ i. (sym is i, sym empty i)) record {
       live = seat.live;
       no_slot = refl;
       held = h;
@@ -125,7 +127,7 @@ module _ (face : ℕ → ℕ → List (ℕ × ℕ) → List ℕ) (a a' t : Table
       long = long;
       exists = seat.exists;
       follows = seat.follows;
-      none_lent = seat.none_lent;
+      lends = seat.lends;
       knows = knows_same face me.0 me.0.live me.0.also held me.0.spare me.0.began steps seat.knows;
     },
   )
@@ -134,7 +136,7 @@ module _ (face : ℕ → ℕ → List (ℕ × ℕ) → List ℕ) (a a' t : Table
   pub pass_learnt : (w : SeatView) → me'.0 ≡ learning me.0 w → me'.1 ≡ me.1 → IsPass
   pass_learnt w is same = let seat = is_pass.1 in (
     sits_on a a' t b l r me.0 me'.0 is_pass.0 one (ap (λ (z : SeatView). z.shape) is) (ap (λ (z : SeatView). z.base) is),
-    subst (IsPassSeat face lane) (λ i. (sym is i, sym same i)) record {
+    subst (IsPassSeat face lane lent) (λ i. (sym is i, sym same i)) record {
       live = seat.live;
       no_slot = seat.no_slot;
       held = seat.held;
@@ -144,7 +146,7 @@ module _ (face : ℕ → ℕ → List (ℕ × ℕ) → List ℕ) (a a' t : Table
       long = seat.long;
       exists = seat.exists;
       follows = seat.follows;
-      none_lent = seat.none_lent;
+      lends = seat.lends;
       knows = knows_told face me.0 (seen_in me.0.era w).seen (Some (learnt_of w)) seat.knows;
     },
   )
@@ -157,7 +159,7 @@ module _ (face : ℕ → ℕ → List (ℕ × ℕ) → List ℕ) (a a' t : Table
       kept (with_word me.0.shape place value seat.held) (on_first (with_word me.0.shape place value) me.0.held) (me.0.steps ++ store_record_word place value ∷ []) (ap (on_first (with_word me.0.shape place value)) seat.only) seat.named seat.taken
       (length-set seat.held.words (place - block_start me.0.shape seat.held.lane) value ∙ seat.long) did.0 did.1
 
-module _ (face : ℕ → ℕ → List (ℕ × ℕ) → List ℕ) (lane : ℕ) (me : Sat) (seat : IsPassSeat face lane me) where
+module _ (face : ℕ → ℕ → List (ℕ × ℕ) → List ℕ) (lane lent : ℕ) (me : Sat) (seat : IsPassSeat face lane lent me) where
   -- a pass's lane is taken
   pub has_taken : HasTakenLane me.0
   has_taken = record { lane = seat.held; only = seat.only; taken = seat.taken }

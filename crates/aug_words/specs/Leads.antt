@@ -1,10 +1,26 @@
--- What it does to what is known that a lane is handed out, and that it is taken back. Both load the root.
-use Rattle.std.specs.Prelude.{◌≡◌, ℕ, List}
+-- What it does to what is known that a lane is handed out, and that it is taken back. Both load the root. And when the next era can begin: in the example, once
+-- nobody reads in the table's other part.
+use Rattle.std.specs.Prelude.{◌≡◌, ℕ, ◌⊎◌, ◌+◌, ◌-◌, ◌*◌, ◌^◌, ◌≤◌, List}
+use Rattle.aug_core.specs.Places.{word_count}
+use Rattle.aug_core.specs.Readers.{IsAside, times_in}
+use Rattle.aug_core.specs.Rule.{Lists}
 use Rattle.aug_core.specs.Addresses.{root_place}
 use Rattle.aug_core.specs.Book.{GoesOnFromBoth}
 use Rattle.aug_core.specs.Prefixes.{IsPrefix}
 use Rattle.aug_core.specs.Effects.{LoadsNode, handing_out, handed_out, taking, finishing, taking_back, own_lane_place}
 use Rattle.aug_core.specs.declared.view.SeatView.{SeatView}
+use Rattle.aug_words.specs.Seats.{Known}
+
+-- there is a part of the table aside of the one at work, in which nobody reads for whom the lead answers
+pub record MayOpen (lead : Known) : Type 0 where
+  pub part : ℕ
+  pub inside : part * word_count lead.view.shape + word_count lead.view.shape ≤ lead.table.words
+  pub aside : IsAside (word_count lead.view.shape) lead.view.base (part * word_count lead.view.shape)
+  pub free : (b : ℕ) → Lists lead.view.lent b → IsAside (word_count lead.view.shape) (part * word_count lead.view.shape) b
+
+-- the view answers for no reader where this one reads, or for more than are counted
+abbrev pub IsNotTaken : SeatView → SeatView → Type 0
+IsNotTaken v reader = (Lists v.lent reader.base → ⊥) ⊎ (2 ^ 32 - 1 ≤ times_in reader.base v.lent)
 
 module _ (face : ℕ → ℕ → List (ℕ × ℕ) → List ℕ) where
   -- the lead loads the root; a view with the next lane is split off, which knows what the lead then knows; and takes that lane

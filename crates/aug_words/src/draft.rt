@@ -1,5 +1,7 @@
 //! How far the next opening is laid out.
-ghost use Rattle.std.specs.Prelude.{◌≡◌, None, false, length, ℕ, slice_index};
+ghost use Rattle.std.specs.Prelude.{◌≡◌, ◌≢◌, ◌*◌, ◌^◌, ◌<◌, None, true, false, length, ℕ, slice_index};
+
+use crate::parts::Parts;
 
 /// What is laid out of the part of a table beside the one at work.
 #[derive(Drop)]
@@ -30,17 +32,38 @@ impl Draft {
         }
     }
 
-    /// The same for another part, of which nothing is laid out.
-    pub(crate) fn blank(self, base: usize) -> Draft
-        ensures base { result.base ≡ base }
-        ensures noted { length result.shown.items ≡ length self.shown.items }
-        ensures none { (slot : ℕ) → slice_index result.shown.items slot ≡ 0 }
+    /// From now on it is that of another part, of which nothing is laid out.
+    pub(crate) fn turn(&mut self, base: usize)
+        ensures base { self.new.base ≡ base }
+        ensures noted { length self.new.shown.items ≡ length self.old.shown.items }
+        ensures none { (slot : ℕ) → slice_index self.new.shown.items slot ≡ 0 }
     {
-        let Draft { mut shown, .. } = self;
-        for slot in 0..shown.len() {
-            shown[slot] = 0;
+        for slot in 0..self.shown.len() {
+            self.shown[slot] = 0;
         }
-        Draft::new(base, shown)
+        self.base = base;
+        self.from = 0;
+    }
+
+    /// Whether nobody reads in some part beside the one at work. Then it is that of such a part: of the same, if nobody reads there.
+    pub(crate) fn aim(&mut self, parts: &mut Parts, size: usize) -> bool
+        requires own { parts.old.own < length parts.old.out.items }
+        requires next { (parts.old.next < length parts.old.out.items) × (parts.old.next ≢ parts.old.own) }
+        requires small { length parts.old.out.items * size < 2 ^ 60 }
+        ensures own { parts.new.own ≡ parts.old.own }
+        ensures out { parts.new.out.items ≡ parts.old.out.items }
+        ensures next { (parts.new.next < length parts.old.out.items) × (parts.new.next ≢ parts.old.own) }
+        ensures free { result ≡ true → slice_index parts.old.out.items parts.new.next ≡ 0 }
+        ensures none { result ≡ false → (part : ℕ) → part < length parts.old.out.items → part ≢ parts.old.own → slice_index parts.old.out.items part ≢ 0 }
+        ensures same { parts.new.next ≡ parts.old.next → (self.new.base ≡ self.old.base) × (self.new.shown.items ≡ self.old.shown.items) }
+        ensures turned { parts.new.next ≢ parts.old.next → (self.new.base ≡ parts.new.next * size) × (length self.new.shown.items ≡ length self.old.shown.items) × ((slot : ℕ) → slice_index self.new.shown.items slot ≡ 0) }
+    {
+        let next = parts.next;
+        let free = parts.turn();
+        if parts.next != next {
+            self.turn(parts.next * size);
+        }
+        free
     }
 
     /// Begins a piece of so many nodes.

@@ -1,5 +1,5 @@
 //! The seat that hands lanes out and takes passes back.
-ghost use Rattle.std.specs.Prelude.{◌≡◌, ◌+◌, ◌^◌, ◌<◌, ◌≤◌, ℕ, [], true};
+ghost use Rattle.std.specs.Prelude.{◌≡◌, ◌↔◌, ◌+◌, ◌^◌, ◌<◌, ◌≤◌, ℕ, [], true, IsTrue, IfOk, IfErr};
 ghost use Rattle.aug_core.specs.Faces.{face};
 ghost use Rattle.aug_core.specs.Addresses.{root_place};
 ghost use Rattle.aug_core.specs.Places.{lane_place, word_count};
@@ -7,17 +7,20 @@ ghost use Rattle.aug_core.specs.Fields.{field_offset};
 ghost use Rattle.aug_core.specs.Effects.{HasSeen, KnowsTable, taking, finishing, own_lane_place};
 ghost use Rattle.aug_core.specs.Renewals.{Surveys};
 ghost use Rattle.aug_core.specs.inside.LaneStates.{MayTake, HasTakenLane};
-ghost use Rattle.aug_words.specs.Leads.{HandsLaneOut, Prepares, TakesLaneBack};
+ghost use Rattle.aug_core.specs.Readers.{taking_reader};
+ghost use Rattle.aug_words.specs.Leads.{HandsLaneOut, IsNotTaken, MayOpen, Prepares, TakesLaneBack};
 ghost use Rattle.aug_words.specs.Seats.{AreTogether, IsOfLead, IsNextLane, LoadsRecordWord, NamesRoot};
 
 use crate::draft::Draft;
 use crate::half::WordHalf;
+use crate::parts::Parts;
 use crate::pass::{WordPass, record_word};
+use crate::reader::WordReader;
 use crate::words::Words;
 use atomic_table::Seat;
 use aug_core::{
     FinishOwnLane, HandOut, LANE_ENDED, LANE_FREE, LANE_TAKEN, LoadAnyRecord, RecordField,
-    SeatView, SharedWords, Survey, TakeBack, TakeOwnLane,
+    SeatView, SharedWords, Survey, TakeBack, TakeOwnLane, TakeReader,
 };
 use aug_monoid::Monoid;
 use std::marker::{Model, PhantomData};
@@ -34,6 +37,7 @@ pub struct Lead<A: Monoid, B: Monoid> {
     pub(crate) root: u64,
     // What is laid out of the part in which the next era begins, if the table has room for all keys.
     pub(crate) draft: Draft,
+    pub(crate) parts: Parts,
     pub(crate) sums: PhantomData<(A, B)>,
 }
 
@@ -46,7 +50,7 @@ impl<A: Monoid, B: Monoid> Model for Lead<A, B> {
 
     ghost view = { λ p. record { table = p.seat.table_id; view = p.seat.me.0 } };
 
-    ghost invariant = { λ p. IsLead (face A.parts B.parts) p.seat.table_id p.base p.next p.root p.draft.base p.draft.shown.items p.seat.me };
+    ghost invariant = { λ p. IsLead (face A.parts B.parts) p.seat.table_id p.base p.next p.root p.draft.base p.draft.shown.items p.parts p.seat.me };
 }
 
 // Takes the lane of a seat that was just split off: a compare-exchange of its word from free to taken.
@@ -141,7 +145,8 @@ impl<A: Monoid, B: Monoid> Lead<A, B> {
     }
 
     /// Loads the root, and then brings the part of the table in which the next era begins up to what the lead has seen, from where the call before
-    /// stopped: it loads the records of about so many nodes that have changed since, and stores what differs. True if nothing is left to do.
+    /// stopped: it loads the records of about so many nodes that have changed since, and stores what differs. True if nothing is left to do, or if readers
+    /// are out in each other part, where nothing is stored.
     pub fn prepare(&mut self, words: &Words<A, B>, nodes: u32) -> bool
         requires together { AreTogether words.now self.old }
         requires room { 2 ^ self.old.view.shape.bits ≤ self.old.view.shape.members }
@@ -149,6 +154,10 @@ impl<A: Monoid, B: Monoid> Lead<A, B> {
         ensures prepares { Prepares (face A.parts B.parts) self.old.view self.new.view }
     {
         self.survey(words);
+        let size = words.layout.words() as usize;
+        if !self.draft.aim(&mut self.parts, size) {
+            return true;
+        }
         self.draft.begin(nodes.saturating_add(words.layout.bits()));
         let done = words.bring(
             &mut self.seat,
@@ -161,6 +170,44 @@ impl<A: Monoid, B: Monoid> Lead<A, B> {
         );
         self.draft.end();
         done
+    }
+
+    /// Whether the next era can begin: whether there is a part of the table beside the one at work in which nobody reads for whom the lead answers. No
+    /// word is loaded.
+    pub fn may_open(&mut self, words: &Words<A, B>) -> bool
+        requires together { AreTogether words.now self.old }
+        requires room { 2 ^ self.old.view.shape.bits ≤ self.old.view.shape.members }
+        ensures same { self.new ≡ self.old }
+        ensures value { IsTrue result ↔ MayOpen self.old }
+    {
+        self.draft
+            .aim(&mut self.parts, words.layout.words() as usize)
+    }
+
+    /// Takes a reader back for which the lead answers: one that a pass of an earlier or of the present era lent, and did not take back before the lead took it in.
+    /// Any other reader comes back, and so does each while 2^32 - 1 and more are out in its part.
+    pub fn take(
+        &mut self,
+        words: &Words<A, B>,
+        reader: WordReader<A, B>,
+    ) -> Result<(), WordReader<A, B>>
+        requires together { AreTogether words.now self.old }
+        requires reader { AreTogether words.now reader }
+        ensures table { self.new.table ≡ self.old.table }
+        ensures taken { IfOk result (λ _. self.new.view ≡ taking_reader self.old.view reader.view) }
+        ensures same { IfErr result (λ r. (r ≡ reader) × (self.new ≡ self.old)) }
+        ensures refused { IfErr result (λ _. IsNotTaken self.old.view reader.view) }
+    {
+        let part = reader.base / words.layout.words() as usize;
+        if !self.parts.take(part) {
+            return Err(reader);
+        }
+        let WordReader { seat, .. } = reader;
+        words
+            .table
+            .shared
+            .join_seat::<TakeReader>(&mut self.seat, seat);
+        Ok(())
     }
 
     /// Loads one of the five words of a record that the lead has seen, as a pass does.
@@ -198,6 +245,7 @@ impl<A: Monoid, B: Monoid> Lead<A, B> {
             seat,
             lane,
             base: self.base,
+            lent: 0,
             sums: PhantomData,
         })
     }
@@ -216,10 +264,12 @@ impl<A: Monoid, B: Monoid> Lead<A, B> {
             base,
             lanes,
             records: _,
+            lent,
         } = pass;
         let root = self.root_word(lanes - base);
         finish_lane(words, &mut seat, lanes + lane as usize);
         words.join_seat::<TakeBack>(&mut self.seat, seat);
+        self.parts.lend(lent);
         self.load_root(words, root);
     }
 }

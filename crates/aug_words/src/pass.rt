@@ -28,6 +28,8 @@ pub struct WordPass<'r, A: Monoid, B: Monoid> {
     pub(crate) base: usize,
     pub(crate) lanes: usize,
     pub(crate) records: usize,
+    // How many readers it lent that are out. The greatest number stands for that many and more.
+    pub(crate) lent: u32,
 }
 
 impl<'r, A: Monoid, B: Monoid> Model for WordPass<'r, A, B> {
@@ -39,7 +41,7 @@ impl<'r, A: Monoid, B: Monoid> Model for WordPass<'r, A, B> {
 
     ghost view = { λ p. record { table = p.seat.table_id; view = p.seat.me.0 } };
 
-    ghost invariant = { λ p. SitsAt p.seat.table_id p.words.now.table_id p.base p.lanes p.records p.seat.me.0 × IsPassSeat (face A.parts B.parts) p.lane p.seat.me };
+    ghost invariant = { λ p. SitsAt p.seat.table_id p.words.now.table_id p.base p.lanes p.records p.seat.me.0 × IsPassSeat (face A.parts B.parts) p.lane p.lent p.seat.me };
 }
 
 // The place of a word of a record.

@@ -1,9 +1,10 @@
-//! A table is opened again in its own memory, in the part beside the one that was at work.
+//! A table is opened again in its own memory, in a part beside the one that was at work.
 ghost use Rattle.std.specs.Prelude.{◌≡◌, ℕ, ◌+◌, ◌<◌, ◌≤◌, ◌^◌, [], true, List};
 ghost use Rattle.aug_core.specs.Faces.{face};
 ghost use Rattle.aug_core.specs.Eras.{opening_with};
 ghost use Rattle.aug_core.specs.Layout.{IsLayout};
 ghost use Rattle.aug_core.specs.Renewals.{HoldsAll, IsOpened, Reopens};
+ghost use Rattle.aug_words.specs.Leads.{MayOpen};
 ghost use Rattle.aug_words.specs.Rests.{OpensAgain};
 ghost use Rattle.aug_words.specs.Seats.{AreTogether};
 ghost use Rattle.aug_words.specs.inside.Laying.{OpensOver, words_in};
@@ -37,11 +38,12 @@ fn reopen<A: Monoid, B: Monoid>(
 impl<A: Monoid, B: Monoid> Words<A, B> {
     /// Ends the era, once all passes that its lead handed out are back, and opens the table again, in its other part, over the set of the last cut that
     /// the lead knows. It has room for all keys. The lead hands out all lanes anew. What [`Lead::prepare`] has left to do is done first, and what is right already
-    /// is not stored. Then a load of the first word of that part opens it. The call takes no memory.
+    /// is not stored. Then a load of the first word of that part opens it. The call takes no memory. Readers that are out read on.
     pub fn open_again(&self, lead: Lead<A, B>) -> Lead<A, B>
         requires together { AreTogether self.now lead }
         requires room { 2 ^ self.now.shape.bits ≤ self.now.shape.members }
         requires all { HoldsAll lead.view }
+        requires free { MayOpen lead }
         ensures together { AreTogether self.now result }
         ensures opens { OpensAgain (face A.parts B.parts) lead.view result.view }
     {
@@ -50,9 +52,14 @@ impl<A: Monoid, B: Monoid> Words<A, B> {
             base,
             root,
             mut draft,
+            mut parts,
             sums,
             ..
         } = lead;
+        let size = self.layout.words() as usize;
+        if !draft.aim(&mut parts, size) {
+            unreachable!()
+        }
         draft.left = None;
         let (top, universe) = (self.lanes - 1, self.lanes / 2 + 1);
         self.bring(
@@ -68,12 +75,15 @@ impl<A: Monoid, B: Monoid> Words<A, B> {
         self.lay_shared(&mut seat, next);
         self.free_lanes(&mut seat, next);
         reopen(&self.table.shared, &mut seat, next);
+        draft.turn(base);
+        parts.swap();
         Lead {
             seat,
             base: next,
             next: 0,
             root: self.own_number(top),
-            draft: draft.blank(base),
+            draft,
+            parts,
             sums,
         }
     }

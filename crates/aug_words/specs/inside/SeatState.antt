@@ -1,17 +1,20 @@
 -- What the fields of a table, of a lead and of a pass keep.
-use Rattle.std.specs.Prelude.{◌≡◌, ℕ, ◌+◌, ◌^◌, ◌<◌, ◌≤◌, true, Some, None, List, [], length}
+use Rattle.std.specs.Prelude.{◌≡◌, ◌≢◌, ◌⊎◌, ℕ, ◌+◌, ◌-◌, ◌*◌, ◌^◌, ◌<◌, ◌≤◌, true, Some, None, List, [], length, slice_index}
 use Rattle.atomic_table.specs.Seated.{TableId}
 use Rattle.aug_core.specs.Places.{Shape, lane_place, record_start, word_count}
 use Rattle.aug_core.specs.Layout.{IsLayout}
 use Rattle.aug_core.specs.Lanes.{block_size}
 use Rattle.aug_core.specs.Book.{At}
 use Rattle.aug_core.specs.Effects.{Sat, HoldsOnly, KnowsTable}
+use Rattle.aug_core.specs.Readers.{times_in}
+use Rattle.aug_core.specs.Rule.{Lists}
 use Rattle.aug_core.specs.declared.opening.TableKey.{TableKey}
 use Rattle.aug_core.specs.declared.view.Entry.{Entry}
 use Rattle.aug_core.specs.declared.view.Held.{Held}
 use Rattle.aug_core.specs.declared.view.SeatView.{SeatView}
 use Rattle.aug_core.specs.declared.view.LaneState.TheVariants.{Taken}
 use Rattle.aug_words.specs.Seats.{NamesRoot}
+use Rattle.aug_words.specs.declared.parts.Parts.{Parts}
 use Rattle.aug_words.specs.inside.Laying.{Drafts}
 
 -- what a table's fields keep: it was made with this layout, of which one part or more has room there, and in each part lanes and records begin at these words
@@ -24,11 +27,13 @@ pub record IsStore (table : TableId) (made : TableKey) (layout : Shape) (lanes r
   pub lanes_are : lanes ≡ lane_place layout 0
   pub records_are : records ≡ record_start layout 0
 
--- a seat works in the part of its table that begins at this word
+-- a seat works in the part of its table that begins at this word, and the parts lie one behind the other
 pub record IsPlaced (table : TableId) (base : ℕ) (v : SeatView) : Type 0 where
   pub base_is : base ≡ v.base
   pub wide : v.base + word_count v.shape ≤ table.words
   pub few : table.words < 2 ^ 60
+  pub part : ℕ
+  pub starts : v.base ≡ part * word_count v.shape
 
 -- a seat sits at its table, in whose part lanes and records begin at these words
 pub record SitsAt (seat_table table : TableId) (base lanes records : ℕ) (v : SeatView) : Type 0 where
@@ -49,9 +54,28 @@ pub record IsNoteSeat (me : Sat) : Type 0 where
   pub no_lane : me.0.held ≡ []
   pub follows : me.0.spare ≡ None
 
+-- so many readers are counted: as many as there are, or the greatest number that a count has, of that many and more
+abbrev pub IsCount : ℕ → ℕ → Type 0
+IsCount counted many = (counted ≡ many) ⊎ ((counted ≡ 2 ^ 32 - 1) × (2 ^ 32 - 1 ≤ many))
+
+-- a pass counts the readers for which it answers, all of which read in the part that begins at this word
+pub record LendsHere (counted base : ℕ) (lent : List ℕ) : Type 0 where
+  pub count : IsCount counted (length lent)
+  pub few : counted ≤ 2 ^ 32 - 1
+  pub here : (b : ℕ) → Lists lent b → b ≡ base
+
+-- a lead counts the readers for which it answers in each part of its table, where `base` begins the one at work, and `other` the one that is laid out next
+pub record ArePartsOf (table : TableId) (parts : Parts) (base other : ℕ) (s : Shape) (lent : List ℕ) : Type 0 where
+  pub whole : table.words ≡ length parts.out.items * word_count s
+  pub own : parts.own < length parts.out.items
+  pub at_work : base ≡ parts.own * word_count s
+  pub next : 2 ^ s.bits ≤ s.members → (parts.next < length parts.out.items) × (parts.next ≢ parts.own) × (other ≡ parts.next * word_count s)
+  pub counted : (k : ℕ) → k < length parts.out.items → IsCount (slice_index parts.out.items k) (times_in (k * word_count s) lent)
+  pub starts : (b : ℕ) → Lists lent b → (k : ℕ) × (k < length parts.out.items) × (b ≡ k * word_count s)
+
 module _ (face : ℕ → ℕ → List (ℕ × ℕ) → List ℕ) where
-  -- what holds for the seat of a pass: it has one lane, which is taken, and all words of its records, and knows its table
-  pub record IsPassSeat (lane : ℕ) (me : Sat) : Type 0 where
+  -- what holds for the seat of a pass: it has one lane, which is taken, and all words of its records, hands none out, and knows its table
+  pub record IsPassSeat (lane lent : ℕ) (me : Sat) : Type 0 where
     pub live : me.0.live ≡ true
     pub no_slot : me.1 ≡ []
     pub held : Held
@@ -62,7 +86,16 @@ module _ (face : ℕ → ℕ → List (ℕ × ℕ) → List ℕ) where
     pub exists : lane < me.0.shape.workers
     pub knows : KnowsTable face me.0
     pub follows : me.0.spare ≡ None
-    pub none_lent : me.0.lent ≡ []
+    pub lends : LendsHere lent me.0.base me.0.lent
+
+  -- what holds for the seat of a reader: it reads, holds no lane and hands none out, and knows its table
+  pub record IsReaderSeat (me : Sat) : Type 0 where
+    pub live : me.0.live ≡ true
+    pub no_slot : me.1 ≡ []
+    pub reads : me.0.reads ≡ true
+    pub no_lane : me.0.held ≡ []
+    pub follows : me.0.spare ≡ None
+    pub knows : KnowsTable face me.0
 
   -- what holds for the seat of a lead: it hands out the lanes from the next one on, knows its table, and has the number of the root's newest record
   pub record IsLeadSeat (next root : ℕ) (me : Sat) : Type 0 where
@@ -71,8 +104,8 @@ module _ (face : ℕ → ℕ → List (ℕ × ℕ) → List ℕ) where
     pub hands_out : me.0.spare ≡ Some next
     pub knows : KnowsTable face me.0
     pub names_root : NamesRoot me.0 root
-    pub none_lent : me.0.lent ≡ []
 
-  -- what holds for a lead: it works in a part of its table, has all words beside that, and has noted what is laid out of the part that begins at `other`
-  abbrev pub IsLead : TableId → ℕ → ℕ → ℕ → ℕ → List ℕ → Sat → Type 0
-  IsLead table base next root other shown me = IsPlaced table base me.0 × IsLeadSeat next root me × (length me.0.whole ≡ table.words) × Drafts face table other shown me.0
+  -- what holds for a lead: it works in a part of its table, has all words beside that, has noted what is laid out of the part that begins at `other`, and
+  -- counts the readers of each
+  abbrev pub IsLead : TableId → ℕ → ℕ → ℕ → ℕ → List ℕ → Parts → Sat → Type 0
+  IsLead table base next root other shown parts me = IsPlaced table base me.0 × IsLeadSeat next root me × (length me.0.whole ≡ table.words) × Drafts face table other shown me.0 × ArePartsOf table parts base other me.0.shape me.0.lent

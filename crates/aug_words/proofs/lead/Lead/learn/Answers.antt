@@ -22,7 +22,7 @@ join_seat-requires g c = let here = c.requires.together.one_table ∙ ap (λ (s 
 )
 
 pub invariant_of-self : goal.invariant_of-self
-invariant_of-self g c = lead_learnt (face g.A.Monoid.parts g.B.Monoid.parts) _ _ c.self.inside.base c.self.inside.next c.self.inside.root c.self.inside.draft.base c.self.inside.draft.shown.items c.self.inside.seat.me c.join_seat.new.seat.me c.self.invariant c.join_seat.ensures.0 c.note.inside.seat.me.0
+invariant_of-self g c = lead_learnt (face g.A.Monoid.parts g.B.Monoid.parts) _ _ c.self.inside.base c.self.inside.next c.self.inside.root c.self.inside.draft.base c.self.inside.draft.shown.items c.self.inside.parts c.self.inside.seat.me c.join_seat.new.seat.me c.self.invariant c.join_seat.ensures.0 c.note.inside.seat.me.0
     (ap (λ (z : Sat). z.0) c.join_seat.ensures.2) (ap (λ (z : Sat). z.1) c.join_seat.ensures.2)
 
 pub returns-clause-learns : goal.returns-clause-learns

@@ -27,7 +27,7 @@ load-requires g c =
 pub invariant_of-self : goal.invariant_of-self
 invariant_of-self g c = let w = c.words.invariant in let sits = sits_at _ _ _ _ c.self.inside.base c.words.inside.lanes c.words.inside.records c.self.view_is c.words.view_is c.requires.together c.self.invariant.0 w.lanes_are w.records_are in let begins = sits.records_are in let at = c.record_word-place.ensures in
     let told = c.load.ensures.2 (record_start c.self.inside.seat.me.0.shape c.args.number + c.offset.result) (omega arith) in
-    lead_looked (face g.A.Monoid.parts g.B.Monoid.parts) _ _ c.self.inside.base c.self.inside.next c.self.inside.root c.self.inside.draft.base c.self.inside.draft.shown.items c.self.inside.seat.me c.load.new.seat.me c.self.invariant c.load.ensures.0 _ told.1.stepped told.0
+    lead_looked (face g.A.Monoid.parts g.B.Monoid.parts) _ _ c.self.inside.base c.self.inside.next c.self.inside.root c.self.inside.draft.base c.self.inside.draft.shown.items c.self.inside.parts c.self.inside.seat.me c.load.new.seat.me c.self.invariant c.load.ensures.0 _ told.1.stepped told.0
 
 pub returns-clause-view : goal.returns-clause-view
 returns-clause-view g c =

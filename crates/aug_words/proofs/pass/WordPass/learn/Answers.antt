@@ -17,8 +17,8 @@ join_seat-requires g c = let seated = c.self.invariant.0.seated in (
   seated,
   ap (λ (k : Known). k.table) c.note.view_is ∙ c.requires.table ∙ ap (λ (k : Known). k.table) (sym c.self.view_is) ∙ seated,
   c.note.invariant.no_slot,
-  pass_has_words _ _ _ _ _ _ _ _ c.self.invariant.0 c.self.invariant.1,
-  learns_in_its_era _ _ _ _ _ _ (works_on _ _ _ c.self.invariant.1) c.self.invariant.1.live c.note.invariant.live c.note.invariant.no_lane c.note.invariant.follows,
+  pass_has_words _ _ _ _ _ _ _ _ _ c.self.invariant.0 c.self.invariant.1,
+  learns_in_its_era _ _ _ _ _ _ (works_on _ _ _ _ c.self.invariant.1) c.self.invariant.1.live c.note.invariant.live c.note.invariant.no_lane c.note.invariant.follows,
 )
 
 pub returns-clause-learns : goal.returns-clause-learns

@@ -16,7 +16,7 @@ pub load-requires : goal.load-requires
 load-requires g c =
     let sits = c.self.invariant.0 in let wide = sits.placed.wide in let begins = sits.lanes_are in let s : Shape = c.self.inside.seat.me.0.shape in let t = twice s.bits in let bits = c.self.invariant.1.knows.laid_out.bits in
     let low = (root_inner s bits.0 bits.1).inside in
-    (sits.seated, omega arith, loads_after_note _ _ _ _ (root_place s) _ _ (works_on _ _ _ c.self.invariant.1) c.self.invariant.1.live c.self.invariant.1.no_slot (omega arith) (omega arith))
+    (sits.seated, omega arith, loads_after_note _ _ _ _ (root_place s) _ _ (works_on _ _ _ _ c.self.invariant.1) c.self.invariant.1.live c.self.invariant.1.no_slot (omega arith) (omega arith))
 
 pub overflow_sub-self-inside : goal.overflow_sub-self-inside
 overflow_sub-self-inside g c = let begins = c.self.invariant.0.lanes_are in let s : Shape = c.self.inside.seat.me.0.shape in let t = twice s.bits in let some = some_leaf s.bits in omega arith
@@ -25,7 +25,7 @@ pub invariant_of-self : goal.invariant_of-self
 invariant_of-self g c = let f = face g.A.Monoid.parts g.B.Monoid.parts in
     let begins = c.self.invariant.0.lanes_are in let s : Shape = c.self.inside.seat.me.0.shape in let t = twice s.bits in let some = some_leaf s.bits in let bits = c.self.invariant.1.knows.laid_out.bits in
     let told = (c.load.ensures.2 (root_place s) (omega arith)).0 in
-    pass_loaded_node f _ _ _ _ _ _ _ c.self.inside.seat.me c.load.new.seat.me c.self.invariant c.load.ensures.0 (root_place s) c.load.result told.0 (told.1 (root_inner s bits.0 bits.1))
+    pass_loaded_node f _ _ _ _ _ _ _ _ c.self.inside.seat.me c.load.new.seat.me c.self.invariant c.load.ensures.0 (root_place s) c.load.result told.0 (told.1 (root_inner s bits.0 bits.1))
 
 pub returns-clause-view : goal.returns-clause-view
 returns-clause-view g c = let f = face g.A.Monoid.parts g.B.Monoid.parts in

@@ -13,9 +13,9 @@ compare_exchange-found-requires g c = let m = g.A.Monoid in let n = g.B.Monoid i
     let inner = subst (λ (k : Known). IsInner k.view.shape c.args.node) (sym c.self.view_is) c.requires.inner in let low = inner.inside in
     let may = subst (λ (k : Known). MayStore k.view c.args.number) (sym c.self.view_is) c.requires.own in
     let filled = subst (λ (k : Known). IsFilled f k.view c.args.node c.args.from c.args.number) (sym c.self.view_is) c.requires.filled in
-    (sits.seated, omega arith, tries_node f _ _ _ c.args.node _ _ _ _ c.self.invariant.1.live c.self.invariant.1.no_slot (omega arith) (omega arith) inner (has_taken _ _ _ c.self.invariant.1) may filled)
+    (sits.seated, omega arith, tries_node f _ _ _ c.args.node _ _ _ _ c.self.invariant.1.live c.self.invariant.1.no_slot (omega arith) (omega arith) inner (has_taken _ _ _ _ c.self.invariant.1) may filled)
 
 pub invariant_of-self : goal.invariant_of-self
 invariant_of-self g c = let m = g.A.Monoid in let n = g.B.Monoid in let f = face m.parts n.parts in
     let told = c.compare_exchange-found.ensures.2 c.args.node (ap (λ (z : ℕ). z + c.args.node) c.self.invariant.0.placed.base_is) in
-    pass_tried_node f _ _ _ _ _ _ _ c.self.inside.seat.me c.compare_exchange-found.new.seat.me c.self.invariant c.compare_exchange-found.ensures.0 c.args.node c.args.from c.args.number c.compare_exchange-found.result told.0 told.1
+    pass_tried_node f _ _ _ _ _ _ _ _ c.self.inside.seat.me c.compare_exchange-found.new.seat.me c.self.invariant c.compare_exchange-found.ensures.0 c.args.node c.args.from c.args.number c.compare_exchange-found.result told.0 told.1

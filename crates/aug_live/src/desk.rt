@@ -1,5 +1,5 @@
 //! The desk: the round that goes on, and the roller's ends of all lanes.
-ghost use Rattle.std.specs.Prelude.{◌≡◌, ◌+◌, ◌<◌, ◌≤◌, IfOk, IfErr, length};
+ghost use Rattle.std.specs.Prelude.{◌≡◌, ◌+◌, ◌<◌, ◌≤◌, true, IfOk, IfErr, length};
 ghost use Rattle.std.specs.Arc.{arc_value};
 ghost use mathlib.Core.Option.{some};
 ghost use lib.ListN.{get_elem?};
@@ -47,7 +47,7 @@ pub(crate) struct Working<A: Monoid, B: Monoid> {
 }
 
 impl<A: Monoid, B: Monoid> Model for Working<A, B> {
-    ghost use Rattle.std.specs.Prelude.{◌≡◌, ◌+◌, ◌++◌, ◌≤◌, ◌^◌, [], map, reverse, vec_len, vec_capacity, false};
+    ghost use Rattle.std.specs.Prelude.{◌≡◌, ◌+◌, ◌++◌, ◌<◌, ◌≤◌, ◌^◌, [], map, reverse, vec_len, vec_capacity, true, false};
     ghost use Rattle.std.specs.Arc.{arc_value};
     ghost use Rattle.aug_trie.specs.Crew.{crew_chain};
     ghost use Rattle.aug_live.specs.LiveTries.{TrieFacts};
@@ -61,7 +61,8 @@ impl<A: Monoid, B: Monoid> Model for Working<A, B> {
     ghost invariant = { λ w. IsWorking w.plan.lanes w.plan.updates w.counts (arc_value w.round) w.crew (w.ports.items ++ reverse w.held.items) (vec_len w.ports + vec_len w.held)
         × (w.idle.items ≡ []) × (vec_len w.ports + vec_len w.held ≤ vec_capacity w.ports) × (vec_len w.ports + vec_len w.held ≤ vec_capacity w.held)
         × (vec_len w.ports + vec_len w.held ≤ vec_capacity w.idle)
-        × (w.list.items ≡ []) × (2 ^ (arc_value w.round).bits ≤ vec_capacity w.list) × ((arc_value w.round).bits ≡ w.bits) };
+        × (w.list.items ≡ []) × (2 ^ (arc_value w.round).bits ≤ vec_capacity w.list) × ((arc_value w.round).bits ≡ w.bits)
+        × (0 < vec_len w.held → w.crew.free ≡ true) };
 }
 
 impl<A: Monoid, B: Monoid> Working<A, B> {
@@ -99,13 +100,14 @@ impl<A: Monoid, B: Monoid> Working<A, B> {
     }
 
     /// Ends the round and begins the next one in its memory, so that nothing is asked for. If a handle works or looks, the lanes that were taken stay
-    /// so, for whoever rolls the round over next. If the counts might not go further, the round goes on.
+    /// so, for whoever rolls the round over next. If the counts might not go further, the round goes on. So it does, with `false`, if readers are out in
+    /// each other part of the table.
     pub(crate) fn roll<W: Patience>(
         self,
         how: &W,
-    ) -> (Working<A, B>, Result<(), TryError<W::GaveUp>>)
+    ) -> (Working<A, B>, Result<bool, TryError<W::GaveUp>>)
         ensures goes_on { KeepsHandles self result.0 }
-        ensures rolls { IfOk result.1 (λ _. length self.rounds.past < length result.0.rounds.past) }
+        ensures rolls { IfOk result.1 (λ rolled. rolled ≡ true → length self.rounds.past < length result.0.rounds.past) }
         ensures settled { IfOk result.1 (λ _. result.0.held ≡ 0) }
         ensures refused { IfErr result.1 (IfRefused (RefusesRoll result.0)) }
     {
@@ -116,6 +118,9 @@ impl<A: Monoid, B: Monoid> Working<A, B> {
             || counts.removals > MOST_BEFORE
         {
             return (working, Err(TryError::Refused(LiveError::Exhausted)));
+        }
+        if working.held.is_empty() && !working.crew.may_renew(&working.round) {
+            return (working, Ok(false));
         }
         if let Err(missed) = take_all(how, &mut working.ports, &mut working.held) {
             return (working, Err(TryError::Again(missed)));
@@ -150,7 +155,7 @@ impl<A: Monoid, B: Monoid> Working<A, B> {
             idle,
             list,
         };
-        (working, Ok(()))
+        (working, Ok(true))
     }
 
     /// Has the crew lay the next round out further, by about so many nodes, if this round is near its end. Where a roll-over was begun it does
@@ -193,19 +198,21 @@ impl<A: Monoid, B: Monoid> Working<A, B> {
         ensures refused { IfErr result.1 (IfRefused (RefusesRoll result.0)) }
     {
         if self.held.is_empty() {
-            (self, Ok(()))
-        } else {
-            self.roll(how)
+            return (self, Ok(()));
+        }
+        match self.roll(how) {
+            (working, Ok(_)) => (working, Ok(())),
+            (working, Err(cause)) => (working, Err(cause)),
         }
     }
 
     /// Rolls the round over if that was begun, and then sees to it that a lane has a pass, if it was spent in this era: that of a newer round, a spare
-    /// lane of the same, or one of the next, which then begins.
+    /// lane of the same, or one of the next, which then begins. False if that cannot begin, as `roll` says.
     pub(crate) fn refill<W: Patience>(
         self,
         how: &W,
         spent: Option<(u64, usize)>,
-    ) -> (Working<A, B>, Result<(), TryError<W::GaveUp>>)
+    ) -> (Working<A, B>, Result<bool, TryError<W::GaveUp>>)
         ensures goes_on { KeepsHandles self result.0 }
         ensures refused { IfErr result.1 (IfRefused (RefusesRoll result.0)) }
     {
@@ -214,10 +221,10 @@ impl<A: Monoid, B: Monoid> Working<A, B> {
             return (working, Err(cause));
         }
         let Some((era, lane)) = spent else {
-            return (working, Ok(()));
+            return (working, Ok(true));
         };
         match working.goes_on(how, era, lane) {
-            Ok(true) => (working, Ok(())),
+            Ok(true) => (working, Ok(true)),
             Ok(false) => working.roll(how),
             Err(missed) => (working, Err(TryError::Again(missed))),
         }

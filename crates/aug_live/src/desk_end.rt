@@ -178,12 +178,12 @@ impl<A: Monoid, B: Monoid> NewDesk<A, B> {
 
 impl<A: Monoid, B: Monoid> DeskEnd<A, B> {
     /// Rolls the round over if that was begun, and then sees to it that a lane has a pass, if it was spent in this era, as `Working::refill` does. Refused
-    /// with `Closed` if there is no round, and with `Exhausted`.
+    /// with `Closed` if there is no round, and with `Exhausted`. False as there.
     pub(crate) fn refill<W: Patience>(
         &mut self,
         how: &W,
         spent: Option<(u64, usize)>,
-    ) -> Result<(), TryError<W::GaveUp>>
+    ) -> Result<bool, TryError<W::GaveUp>>
         ensures more { KnowsMore self.old self.new }
         ensures refused { IfErr result (IfRefused (RefusesRound self.new)) }
     {

@@ -52,6 +52,9 @@ pub enum Busy {
 
     /// The lane was spent, got another pass, and was spent or taken again.
     Round,
+
+    /// The round has to roll over, and looks of an earlier round are open in each other part of the table.
+    Look,
 }
 
 /// Why a call that waits for nobody made nothing.

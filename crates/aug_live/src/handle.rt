@@ -499,12 +499,12 @@ impl<A: Monoid, B: Monoid> Handle<A, B> {
         self.pace = Pace::after(after);
     }
 
-    // Sees to what is in the way: with the next round, or a spare lane of this one.
+    // Sees to what is in the way: with the next round, or a spare lane of this one. False if the next round cannot begin, as readers are out.
     fn refill<W: Patience>(
         &mut self,
         how: &W,
         obstacle: Obstacle,
-    ) -> Result<(), TryError<W::GaveUp>>
+    ) -> Result<bool, TryError<W::GaveUp>>
         requires seen { Seen obstacle self.old.who.replaced }
         ensures follows { Follows self.old self.new }
         ensures refused { IfErr result (IfRefused (RefusesCall self.new)) }
@@ -523,7 +523,11 @@ impl<A: Monoid, B: Monoid> Handle<A, B> {
         ensures refused { IfErr result (RefusesCall self.new) }
     {
         match self.refill(&Waits(rt), obstacle) {
-            Ok(()) => Ok(()),
+            Ok(true) => Ok(()),
+            Ok(false) => {
+                self.desk.lock.pause(rt);
+                Ok(())
+            }
             Err(TryError::Refused(cause)) => Err(cause),
             Err(TryError::Again(never)) => match never {},
         }
@@ -536,7 +540,8 @@ impl<A: Monoid, B: Monoid> Handle<A, B> {
         ensures refused { IfErr result (IfRefused (RefusesCall self.new)) }
     {
         match self.refill(&Tries, obstacle) {
-            Ok(()) => Ok(()),
+            Ok(true) => Ok(()),
+            Ok(false) => Err(TryError::Again(Busy::Look)),
             Err(TryError::Refused(cause)) => Err(TryError::Refused(cause)),
             Err(TryError::Again(lock)) => Err(TryError::Again(Busy::Lock(lock))),
         }

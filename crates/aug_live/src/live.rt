@@ -1,5 +1,5 @@
 //! A shared trie whose rounds roll over.
-ghost use Rattle.std.specs.Prelude.{◌≡◌, ◌≢◌, ◌↔◌, ◌⊎◌, ℕ, ◌+◌, ◌<◌, ◌≤◌, ◌^◌, [], map, All, IsErr, IsErrOf, IfOk, IfErr, length, vec_len, vec_capacity};
+ghost use Rattle.std.specs.Prelude.{◌≡◌, ◌≢◌, ◌↔◌, ◌⊎◌, ℕ, ◌+◌, ◌<◌, ◌≤◌, ◌^◌, [], map, All, IsErr, IsErrOf, IfOk, IfErr, length, vec_len, vec_capacity, true};
 ghost use Rattle.std.specs.Arc.{arc_value};
 ghost use Rattle.ruled_lock.specs.Locks.{HoldsNothing, IsSameKey, client_of};
 ghost use Rattle.aug_core.specs.Layout.{IsRefused, IsLayout, IsWithin, IsOutside};
@@ -24,7 +24,7 @@ use crate::desk_end::{
     take_settled,
 };
 use crate::end::{Berth, End};
-use crate::error::{LiveError, OpenError, TryError};
+use crate::error::{Busy, LiveError, OpenError, TryError};
 use crate::handle::Handle;
 use crate::held::{Emptied, Held};
 use crate::plan::Plan;
@@ -190,21 +190,30 @@ impl<A: Monoid, B: Monoid> Live<A, B> {
         ensures rolls { IfOk result (λ _. length self.old.rounds.past < length self.new.rounds.past) }
         ensures refused { IfErr result (RefusesRoll self.new) }
     {
-        match self.roll_over(&Waits(rt)) {
-            Ok(()) => Ok(()),
-            Err(TryError::Refused(cause)) => Err(cause),
-            Err(TryError::Again(never)) => match never {},
+        for _ in rt.forever() {
+            match self.roll_over(&Waits(rt)) {
+                Ok(true) => return Ok(()),
+                Ok(false) => self.lock.pause(rt),
+                Err(TryError::Refused(cause)) => return Err(cause),
+                Err(TryError::Again(never)) => match never {},
+            }
         }
+        unreachable!()
     }
 
     /// The same, and waits for nobody: `Again` if somebody has the desk, or another handle is in a call or holds a look. The lanes that it took then
     /// stay taken until the round has rolled over, which whoever comes to one of them tries.
-    pub fn try_roll(&mut self) -> Result<(), TryError<WasOut>>
+    pub fn try_roll(&mut self) -> Result<(), TryError<Busy>>
         ensures goes_on { KeepsHandles self.old self.new }
         ensures rolls { IfOk result (λ _. length self.old.rounds.past < length self.new.rounds.past) }
         ensures refused { IfErr result (IfRefused (RefusesRoll self.new)) }
     {
-        self.roll_over(&Tries)
+        match self.roll_over(&Tries) {
+            Ok(true) => Ok(()),
+            Ok(false) => Err(TryError::Again(Busy::Look)),
+            Err(TryError::Again(lock)) => Err(TryError::Again(Busy::Lock(lock))),
+            Err(TryError::Refused(cause)) => Err(TryError::Refused(cause)),
+        }
     }
 
     /// Lays a piece of the next round out, if the round is near its end, for an owner with a processor to spare: the roll-over then has less to do, and
@@ -219,10 +228,10 @@ impl<A: Monoid, B: Monoid> Live<A, B> {
         }
     }
 
-    // Rolls the round over.
-    fn roll_over<W: Patience>(&mut self, how: &W) -> Result<(), TryError<W::GaveUp>>
+    // Rolls the round over. False if readers are out in each other part of the table.
+    fn roll_over<W: Patience>(&mut self, how: &W) -> Result<bool, TryError<W::GaveUp>>
         ensures goes_on { KeepsHandles self.old self.new }
-        ensures rolls { IfOk result (λ _. length self.old.rounds.past < length self.new.rounds.past) }
+        ensures rolls { IfOk result (λ rolled. rolled ≡ true → length self.old.rounds.past < length self.new.rounds.past) }
         ensures refused { IfErr result (IfRefused (RefusesRoll self.new)) }
     {
         match take_own(how, &self.lock, &mut self.key) {

@@ -65,7 +65,7 @@ fn held_up(cause: TryError<WasOut>) -> Reply {
 /// Why a call of a handle was not made.
 fn missed(cause: TryError<Busy>) -> Reply {
     match cause {
-        TryError::Again(Busy::Lock(_)) => Reply::Later,
+        TryError::Again(Busy::Lock(_) | Busy::Look) => Reply::Later,
         TryError::Again(Busy::Round) => Reply::Anew,
         TryError::Refused(cause) => refused(cause),
     }
@@ -202,7 +202,7 @@ pub fn rolled<R: Wait>(rt: &R, live: &mut LiveOf, waits: bool) -> Reply {
     if waits {
         live.roll(rt).map_or_else(refused, |()| Reply::Done)
     } else {
-        live.try_roll().map_or_else(held_up, |()| Reply::Done)
+        live.try_roll().map_or_else(missed, |()| Reply::Done)
     }
 }
 

@@ -181,6 +181,12 @@ impl<T, V, P: LockRule<T, V>> RuledLock<T, V, P> {
         unreachable!()
     }
 
+    /// Sleeps for a while, unless a key has the value.
+    pub fn pause<R: Wait>(&self, rt: &R) {
+        let pause = Duration::from_micros(PAUSE);
+        self.table.shared.park_timeout(rt, WORD, 0, pause);
+    }
+
     /// Puts a value back, in the place of the one that was taken.
     #[inline(always)]
     pub fn put<M: Transition<T, V>>(&self, key: &mut Key<T, V>, value: T)

@@ -119,7 +119,7 @@ impl<A: Monoid, B: Monoid> Working<A, B> {
         {
             return (working, Err(TryError::Refused(LiveError::Exhausted)));
         }
-        if working.held.is_empty() && !working.crew.may_renew(&working.round) {
+        if !working.crew.may_renew(&working.round) {
             return (working, Ok(false));
         }
         if let Err(missed) = take_all(how, &mut working.ports, &mut working.held) {

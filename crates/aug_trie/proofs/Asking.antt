@@ -4,6 +4,7 @@ use Rattle.atomic_table.specs.Seated.{TableId}
 use Rattle.aug_monoid.specs.Parts.{Parts}
 use Rattle.aug_model.specs.Folds.{summary_of}
 use Rattle.aug_core.specs.Counts.{changes_of}
+use Rattle.aug_core.specs.Effects.{KnowsTable}
 use Rattle.aug_core.specs.Faces.{face}
 use Rattle.aug_words.specs.Seats.{Known}
 use Rattle.aug_trie.specs.Node.{Reads}
@@ -14,7 +15,7 @@ use Rattle.aug_trie.specs.inside.Counted.{HasCounts}
 use Rattle.aug_trie.specs.inside.Goes.{Looks}
 use Rattle.aug_trie.specs.inside.NamedCuts.{cut_named}
 use Rattle.aug_trie.specs.inside.PassState.{pass_facts, known_in, HoldsPass}
-use Rattle.aug_trie.specs.inside.SnapshotWalk.{set_seen, HasWalk, Walking}
+use Rattle.aug_trie.specs.inside.SnapshotWalk.{set_seen, HasWalk, IsWalk, Walking}
 use Rattle.aug_trie.specs.declared.queries.snapshot.Snapshot.{Snapshot}
 use Rattle.aug_trie.proofs.Passing.{pass_told}
 use Rattle.aug_trie.proofs.SnapshotWalks.{WalkDescends}
@@ -26,25 +27,22 @@ same_set words walk s left now there same facts =
     ap (λ (z : Snapshot). set_seen walk.words.view z) same ∙ ap (λ (z : Option Known). set_at (pass_facts (known_in z) left) s) (sym there) ∙ ap (λ (z : PassFacts). set_at z s) facts
 
 module _ {A B : Type 0} (parts_a : Parts A) (parts_b : Parts B) where
+  -- who knows a table and has a snapshot may walk it
+  pub walks_by : (k : Known) (bits left : ℕ) (s : Snapshot) → KnowsTable (face parts_a parts_b) k.view → bits ≡ k.view.shape.bits → HasSnapshot (pass_facts k left) s.number → IsWalk (face parts_a parts_b) k.view s bits
+  walks_by k bits left s kn bits_are has = record {
+    bits_are = bits_are;
+    top = record {
+      knows_table = kn;
+      is_tree_set = named_set (face parts_a parts_b) k.view s.number kn;
+      node = subst (λ (z : ℕ). IsNodeAt k.view.shape k.view.seen (cut_named k.view.shape k.view.seen s.number) z 0 s.number) (sym bits_are) (top_is parts_a parts_b k left s.number kn has);
+    };
+  }
+
   -- a pass that holds its words may be walked
   pub may_walk : (words : Option Known) (leaves bits next left : ℕ) (now : PassFacts) (s : Snapshot) → HoldsPass (face parts_a parts_b) words leaves bits next left → pass_facts (known_in words) left ≡ now → HasSnapshot now s.number → HasWalk (face parts_a parts_b) words s bits
   may_walk words leaves bits next left now s h facts has =
-      let f = face parts_a parts_b in let k : Known = h.known in
-      let t = pass_told f words k leaves bits next left now h h.there facts in let p = t.0 in
-      let has_so = subst (λ (z : PassFacts). HasSnapshot z s.number) (sym t.1) has in
-      let top = top_is parts_a parts_b k left s.number p.knows_table has_so in
-      record {
-        known = k;
-        there = h.there;
-        is_walk = record {
-          bits_are = p.bits_are;
-          top = record {
-            knows_table = p.knows_table;
-            is_tree_set = named_set f k.view s.number p.knows_table;
-            node = subst (λ (z : ℕ). IsNodeAt k.view.shape k.view.seen (cut_named k.view.shape k.view.seen s.number) z 0 s.number) (sym p.bits_are) top;
-          };
-        };
-      }
+      let k : Known = h.known in let t = pass_told (face parts_a parts_b) words k leaves bits next left now h h.there facts in
+      record { known = k; there = h.there; is_walk = walks_by k bits left s t.0.knows_table t.0.bits_are (subst (λ (z : PassFacts). HasSnapshot z s.number) (sym t.1) has) }
 
   -- what a descent loaded, the pass looked at
   pub looks_of : (n c s p : ℕ) (walk new : Walking) → WalkDescends (face parts_a parts_b) n c s p walk new → Looks (n + c + 3 * s + 2 * p) walk.words.view new.words.view

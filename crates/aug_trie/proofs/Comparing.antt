@@ -27,7 +27,7 @@ use Rattle.aug_trie.specs.Comparing.{both_at, compare_steps}
 use Rattle.aug_trie.specs.Node.{Reads}
 use Rattle.aug_trie.specs.Pass.{PassFacts}
 use Rattle.aug_trie.specs.Snapshot.{HasSnapshot}
-use Rattle.aug_trie.specs.inside.BothWalk.{top_of, both_seen, IsNamedUnder, IsNamedInBoth, IsBothWalk, HasBothWalk, WalkingBoth, KeepsBoth}
+use Rattle.aug_trie.specs.inside.BothWalk.{top_of, both_seen, IsNamedUnder, IsNamedInBoth, IsBothWalk, WalkingBoth, KeepsBoth}
 use Rattle.aug_trie.specs.inside.BothWalkLaws.{word_is}
 use Rattle.aug_trie.specs.inside.Counted.{HasCounts}
 use Rattle.aug_trie.specs.inside.Goes.{Looks}
@@ -173,15 +173,14 @@ module _ {A B : Type 0} (parts_a : Parts A) (parts_b : Parts B) where
         };
       }
 
-  -- a pass that holds its words may compare two of its snapshots
-  pub may_walk_both : (words : Option Known) (leaves bits next left : ℕ) (now : PassFacts) (earlier later : Snapshot) → HoldsPass (face parts_a parts_b) words leaves bits next left → pass_facts (known_in words) left ≡ now
-      → HasSnapshot now earlier.number → HasSnapshot now later.number → HasBothWalk (face parts_a parts_b) words earlier later bits
-  may_walk_both words leaves bits next left now earlier later h facts one other =
-      let f = face parts_a parts_b in let k : Known = h.known in
-      let t = pass_told f words k leaves bits next left now h h.there facts in let p = t.0 in
+  -- who knows a table may compare two of its snapshots
+  pub walks_both : (k : Known) (bits left : ℕ) (now : PassFacts) (earlier later : Snapshot) → KnowsTable (face parts_a parts_b) k.view → bits ≡ k.view.shape.bits → pass_facts k left ≡ now → HasSnapshot now earlier.number → HasSnapshot now later.number
+      → IsBothWalk (face parts_a parts_b) k.view earlier later bits
+  walks_both k bits left now earlier later kn bits_are facts one other =
+      let f = face parts_a parts_b in
       let has : (s : Snapshot) → HasSnapshot now s.number → IsNamedUnder f k.view s bits 0 s.number = λ s has.
-      subst (λ (z : ℕ). IsNamedUnder f k.view s z 0 s.number) (sym p.bits_are) (top_under k left s p.knows_table (subst (λ (z : PassFacts). HasSnapshot z s.number) (sym t.1) has)) in
-      record { known = k; there = h.there; is_walk = record { bits_are = p.bits_are; tops = record { in_earlier = has earlier one; in_later = has later other } } }
+      subst (λ (z : ℕ). IsNamedUnder f k.view s z 0 s.number) (sym bits_are) (top_under k left s kn (subst (λ (z : PassFacts). HasSnapshot z s.number) (sym facts) has)) in
+      record { bits_are = bits_are; tops = record { in_earlier = has earlier one; in_later = has later other } }
 
   -- the pass is one still, with the same counts
   pub still_pass_both : (words : Option Known) (walk new : WalkingBoth) (leaves bits next left inserts removals n : ℕ) → HoldsPass (face parts_a parts_b) words leaves bits next left → HasCounts (changes_of (known_in words).view.held) inserts removals → words ≡ Some walk.words

@@ -1,5 +1,5 @@
 -- A crew as its round begins, and as it hands passes out.
-use Rattle.std.proofs.Common.{◌≡◌, ◌≢◌, ℕ, ◌+◌, ◌-◌, ◌*◌, ◌%◌, ◌^◌, ◌<◌, ◌≤◌, List, [], ◌∷◌, All, length, sym, refl, ap, ◌∙◌, subst, arith}
+use Rattle.std.proofs.Common.{◌≡◌, ◌≢◌, ℕ, Bool, ◌+◌, ◌-◌, ◌*◌, ◌%◌, ◌^◌, ◌<◌, ◌≤◌, List, [], ◌∷◌, All, length, sym, refl, ap, ◌∙◌, subst, arith}
 use Rattle.std.specs.Prelude.{unwrap_or, Some, map, Option, option_map}
 use Rattle.std.specs.List.{range_with_len}
 use Rattle.std.proofs.lemmas.Nat.{one_shl}
@@ -109,11 +109,11 @@ module _ (face : ℕ → ℕ → List (ℕ × ℕ) → List ℕ) where
     hands_counts = counted_none
 
     -- what contracts see of it
-    pub hands_out_is : (table : TableId) (left : ℕ) → c.handed < old.shape.workers → left ≡ old.shape.updates → KnowsRound pass → HandsOut (crew_facts (record { table = table; view = old })) (crew_facts (record { table = table; view = new })) (pass_facts (record { table = table; view = pass }) left)
-    hands_out_is table left low full known = let out = c.is_crew.hands_out in let at : unwrap_or old.spare 0 ≡ c.handed = ap (λ (z : Option ℕ). unwrap_or z 0) out in record {
+    pub hands_out_is : (table : TableId) (free : Bool) (left : ℕ) → c.handed < old.shape.workers → left ≡ old.shape.updates → KnowsRound pass → HandsOut (crew_facts (record { table = table; view = old }) free) (crew_facts (record { table = table; view = new }) free) (pass_facts (record { table = table; view = pass }) left)
+    hands_out_is table free left low full known = let out = c.is_crew.hands_out in let at : unwrap_or old.spare 0 ≡ c.handed = ap (λ (z : Option ℕ). unwrap_or z 0) out in record {
       knows = handed_out_is face old b r c.is_crew.knows_table l place;
       crew_is = let one_more : unwrap_or new.spare 0 ≡ unwrap_or old.spare 0 + 1 = ap (λ (z : Option ℕ). unwrap_or (option_map (λ n. n + 1) z) 0) (same_spare ∙ out) ∙ ap (λ n. n + 1) (sym at) in
-          let facts : CrewFacts = crew_facts (record { table = table; view = new }) in
+          let facts : CrewFacts = crew_facts (record { table = table; view = new }) free in
           λ i. record facts { round = round_of table (record old { era = (same_eras i).0; shape = same_shape i; members = same_members i }); past = past_rounds (same_shape i) (same_eras i).1; handed = one_more i; back = length (same_held i) };
       weights = λ key serial weight. weighs_later old.seen b.seen key serial weight l.sees.later;
       pass_is = let fresh : b.shape.updates - left ≡ 0 = let e : b.shape.updates ≡ old.shape.updates = ap (λ (z : Shape). z.updates) same_shape in omega arith in
@@ -126,27 +126,27 @@ module _ (face : ℕ → ℕ → List (ℕ × ℕ) → List ℕ) where
     }
 
   -- a lead that handed a pass out is a crew still, and the pass has its lane's records, and no change
-  pub record PassOut (now : CrewFacts) (lead pass : Known) (back inserts removals leaves bits next updates : ℕ) : Type 0 where
+  pub record PassOut (now : CrewFacts) (lead pass : Known) (free : Bool) (back inserts removals leaves bits next updates : ℕ) : Type 0 where
     pub crew : HoldsCrew face lead.view back inserts removals
     pub is_pass : IsPass face pass.view leaves bits next updates
     pub counts : HasCounts (changes_of pass.view.held) 0 0
-    pub hands_out : HandsOut now (crew_facts lead) (pass_facts pass updates)
+    pub hands_out : HandsOut now (crew_facts lead free) (pass_facts pass updates)
 
   -- so it is after its words' call, if not all lanes of the round's table were handed out
-  pub pass_out : (store : Store) (old lead pass : Known) (s : Shape) (now : CrewFacts) (table : TableFacts) (lane workers shift : ℕ) {back inserts removals bits next updates : ℕ} → crew_facts old ≡ now → table_of now.round ≡ table → facts_of store ≡ table → s ≡ store.shape
+  pub pass_out : (store : Store) (old lead pass : Known) (s : Shape) (now : CrewFacts) (table : TableFacts) (lane workers shift : ℕ) {free : Bool} {back inserts removals bits next updates : ℕ} → crew_facts old free ≡ now → table_of now.round ≡ table → facts_of store ≡ table → s ≡ store.shape
       → HoldsCrew face old.view back inserts removals → old.view.spare ≡ Some lane → workers ≡ s.workers → lane ≢ workers → HandsLaneOut face old.view lead.view pass.view → lead.table ≡ old.table → pass.table ≡ old.table
-      → shift ≡ s.bits → bits ≡ s.bits → next ≡ first_record s lane → next + lane_records s ≤ record_count s → updates ≡ s.updates → PassOut now lead pass back inserts removals (1 * 2 ^ shift % 18446744073709551616) bits next updates
-  pass_out store old lead pass s now table lane workers shift {back} {inserts} {removals} {bits} {next} {updates} is one store_is shape holds spare workers_are other h lead_table pass_table shift_is bits_are first within updates_are =
+      → shift ≡ s.bits → bits ≡ s.bits → next ≡ first_record s lane → next + lane_records s ≤ record_count s → updates ≡ s.updates → PassOut now lead pass free back inserts removals (1 * 2 ^ shift % 18446744073709551616) bits next updates
+  pass_out store old lead pass s now table lane workers shift {free} {back} {inserts} {removals} {bits} {next} {updates} is one store_is shape holds spare workers_are other h lead_table pass_table shift_is bits_are first within updates_are =
       let v : SeatView = old.view in let place : ℕ = own_lane_place (handed_out h.between) in let leaves : ℕ = 1 * 2 ^ shift % 18446744073709551616 in let shaped : v.shape ≡ s = (of_round store old now table is one store_is).one_shape ∙ sym shape in
       let at : holds.handed ≡ lane = ap (λ (z : Option ℕ). unwrap_or z 0) (sym holds.is_crew.hands_out ∙ spare) in
       let low : holds.handed < v.shape.workers = let all : v.shape.workers ≡ s.workers = ap (λ (z : Shape). z.workers) shaped in let few = holds.few in omega arith in
       let most = (subst IsLayout shaped holds.is_crew.knows_table.laid_out).bits.1 in let full : leaves ≡ 2 ^ s.bits = one_shl shift 64 (omega arith) ∙ ap (λ (z : ℕ). 2 ^ z) shift_is in
       let p = hands_pass v h.between h.found back inserts removals place holds h.loaded s lane leaves next shaped spare full first within in
-      let out = hands_out_is v h.between h.found back inserts removals place holds h.loaded old.table updates low (updates_are ∙ sym (ap (λ (z : Shape). z.updates) shaped)) p.knowledge in record {
+      let out = hands_out_is v h.between h.found back inserts removals place holds h.loaded old.table free updates low (updates_are ∙ sym (ap (λ (z : Shape). z.updates) shaped)) p.knowledge in record {
         crew = subst (λ (z : SeatView). HoldsCrew face z back inserts removals) (sym h.lead_is) (hands_crew v h.between h.found back inserts removals place holds h.loaded low);
         is_pass = subst (λ (z : SeatView × ℕ × ℕ). IsPass face z.0 leaves z.1 next z.2) (λ j. (sym h.pass_is j, sym bits_are j, sym updates_are j)) p;
         counts = subst (λ (z : SeatView). HasCounts (changes_of z.held) 0 0) (sym h.pass_is) (hands_counts v h.between h.found back inserts removals place holds h.loaded);
-        hands_out = subst (λ (z : CrewFacts × Known × Known). HandsOut z.0 (crew_facts z.1) (pass_facts z.2 updates))
+        hands_out = subst (λ (z : CrewFacts × Known × Known). HandsOut z.0 (crew_facts z.1 free) (pass_facts z.2 updates))
             (λ j. (is j, record { table = sym lead_table j; view = sym h.lead_is j }, record { table = sym pass_table j; view = sym h.pass_is j })) out;
       }
 
@@ -177,10 +177,10 @@ module _ (face : ℕ → ℕ → List (ℕ × ℕ) → List ℕ) where
     }
 
     -- what contracts see of it
-    pub takes_back_is : (table other : TableId) (left : ℕ) → TakesBack (crew_facts (record { table = table; view = old })) (crew_facts (record { table = table; view = w })) (pass_facts (record { table = other; view = p }) left)
-    takes_back_is table other left = record {
+    pub takes_back_is : (table other : TableId) (free : Bool) (left : ℕ) → TakesBack (crew_facts (record { table = table; view = old }) free) (crew_facts (record { table = table; view = w }) free) (pass_facts (record { table = other; view = p }) left)
+    takes_back_is table other free left = record {
       knows = back_knows;
-      crew_is = let facts : CrewFacts = crew_facts (record { table = table; view = w }) in
+      crew_is = let facts : CrewFacts = crew_facts (record { table = table; view = w }) free in
           λ i. record facts { round = round_of table (l.stepped i); past = past_rounds (l.stepped i).shape (l.stepped i).past; handed = unwrap_or (l.stepped i).spare 0; back = one_back i };
       weights = λ key serial weight. weighs_later old.seen w.seen key serial weight l.sees.later;
       weights_of_pass = λ key serial weight. weighs_later p.seen w.seen key serial weight l.sees.also_later;

@@ -1,5 +1,5 @@
 -- How a round ends, and the trie that no round ended.
-use Rattle.std.proofs.Common.{◌≡◌, ℕ, zero, suc, ◌+◌, ◌-◌, ◌*◌, ◌%◌, ◌^◌, ◌<◌, ◌≤◌, eqb, List, [], ◌∷◌, ◌++◌, flat_map, All, get_or, length, length-append, refl, sym, ap, ◌∙◌, subst, arith, Option, Some}
+use Rattle.std.proofs.Common.{◌≡◌, ℕ, Bool, zero, suc, ◌+◌, ◌-◌, ◌*◌, ◌%◌, ◌^◌, ◌<◌, ◌≤◌, eqb, List, [], ◌∷◌, ◌++◌, flat_map, All, get_or, length, length-append, refl, sym, ap, ◌∙◌, subst, arith, Option, Some}
 use Rattle.std.specs.Prelude.{unwrap_or}
 use Rattle.std.proofs.Math.Nat.{mod-eq_of_lt}
 use mathlib.Core.Option.{some}
@@ -88,9 +88,9 @@ module _ (face : ℕ → ℕ → List (ℕ × ℕ) → List ℕ) (v : SeatView) 
   Accounts missing = (t : TalliesWithLost v.shape.updates missing (opening_cut v.shape.bits v.members) (last_cut (knows v).history) (knows v).history (changes_of v.held))
       × IsLedger (record { shape = v.shape; book = v.seen }) v.shape.bits v.members (knows v).history (changes_of v.held ++ flat_map (λ list. list) t.lost)
 
-  pub ends_so : (table : TableId) (ended : EndedFacts) → ended.bits ≡ v.shape.bits → ended.members ≡ pairs_of_cut (last_cut (knows v).history) → ended.inserts ≡ inserts → ended.removals ≡ removals → ended.missing ≡ c.handed - back → ended.calls ≡ 0
-      → Ends (crew_facts (record { table = table; view = v })) ended
-  ends_so table ended bits members ins rem miss loads = let spare : unwrap_or v.spare 0 ≡ c.handed = ap (λ (z : Option ℕ). unwrap_or z 0) c.is_crew.hands_out in
+  pub ends_so : (table : TableId) (free : Bool) (ended : EndedFacts) → ended.bits ≡ v.shape.bits → ended.members ≡ pairs_of_cut (last_cut (knows v).history) → ended.inserts ≡ inserts → ended.removals ≡ removals → ended.missing ≡ c.handed - back → ended.calls ≡ 0
+      → Ends (crew_facts (record { table = table; view = v }) free) ended
+  ends_so table free ended bits members ins rem miss loads = let spare : unwrap_or v.spare 0 ≡ c.handed = ap (λ (z : Option ℕ). unwrap_or z 0) c.is_crew.hands_out in
       let both : Accounts ended.missing = subst Accounts (ap (λ (z : ℕ). c.handed - z) (sym back_exact) ∙ sym miss)
       (accounts_at_end face s id c.handed v r at c.is_crew.hands_out c.is_crew.knows_table c.is_crew.knowledge.stands (length v.held) refl risen) in record {
         bits = bits;
@@ -105,14 +105,14 @@ module _ (face : ℕ → ℕ → List (ℕ × ℕ) → List ℕ) (v : SeatView) 
       }
 
   -- so where no pass is missing, the set grew by the insertions and shrank by the removals
-  pub sizes_so : (table : TableId) (ended : EndedFacts) → Ends (crew_facts (record { table = table; view = v })) ended → ended.missing ≡ 0 → length ended.members + ended.removals ≡ length v.members + ended.inserts
-  sizes_so table ended e none = let first : Cut = opening_cut v.shape.bits v.members in let last : Cut = last_cut (knows v).history in let all : List Change = changes_of v.held in
+  pub sizes_so : (table : TableId) (free : Bool) (ended : EndedFacts) → Ends (crew_facts (record { table = table; view = v }) free) ended → ended.missing ≡ 0 → length ended.members + ended.removals ≡ length v.members + ended.inserts
+  sizes_so table free ended e none = let first : Cut = opening_cut v.shape.bits v.members in let last : Cut = last_cut (knows v).history in let all : List Change = changes_of v.held in
       let tally = none_lost_tallies v.shape.updates first last (knows v).history all (subst (λ (z : ℕ). TalliesWithLost v.shape.updates z first last (knows v).history all) none e.tallies) in
       let sum = sizes first last all risen tally in let opened : length (set_of_cut first) ≡ length v.members = ap (λ (z : List ℕ). length z) (set_of_cut-opening v.shape.bits v.members c.is_crew.knows_table.key_set) ∙ length-keys_of v.members in
       let members : length ended.members ≡ length (set_of_cut last) = ap (λ (z : List (ℕ × ℕ)). length z) e.members ∙ length-pairs_of (weight_at last) (set_of_cut last) in let ins = e.inserts in let rem = e.removals in omega arith
 
 -- the lead of a round whose table is at rest: what is left is the round's end, and its sizes tally where no pass is missing
-module _ (face : ℕ → ℕ → List (ℕ × ℕ) → List ℕ) (lead : Known) (now : CrewFacts) (handed : ℕ) {back inserts removals : ℕ} {words : List ℕ} (is : crew_facts lead ≡ now)
+module _ (face : ℕ → ℕ → List (ℕ × ℕ) → List ℕ) (lead : Known) (now : CrewFacts) {free : Bool} (handed : ℕ) {back inserts removals : ℕ} {words : List ℕ} (is : crew_facts lead free ≡ now)
     (holds : HoldsCrew face lead.view back inserts removals) (spare : lead.view.spare ≡ Some handed) (e : EndWith face (opening_of lead.view) lead.view words) where
   pub no_more_back : back ≤ handed
   no_more_back = let at : holds.handed ≡ handed = ap (λ (z : Option ℕ). unwrap_or z 0) (sym holds.is_crew.hands_out ∙ spare) in let few = back_few face lead.view back inserts removals holds e.state e.kept e.seat e.view_is in omega arith
@@ -124,8 +124,8 @@ module _ (face : ℕ → ℕ → List (ℕ × ℕ) → List ℕ) (lead : Known) 
   pub round_ended : (ended : EndedFacts) → ended.bits ≡ lead.view.shape.bits → ended.members ≡ pairs_of_cut (last_cut (knows lead.view).history) → ended.inserts ≡ inserts → ended.removals ≡ removals → ended.missing ≡ handed - back → ended.calls ≡ 0
       → Ends now ended × (ended.missing ≡ 0 → length ended.members + ended.removals ≡ length now.round.members + ended.inserts)
   round_ended ended bits members ins rem miss loads =
-      let ends = ends_so face lead.view back inserts removals holds e.state e.kept e.seat e.view_is lead.table ended bits members ins rem (miss ∙ ap (λ (z : Option ℕ). unwrap_or z 0 - back) (sym spare ∙ holds.is_crew.hands_out)) loads in
-      let sizes = sizes_so face lead.view back inserts removals holds e.state e.kept e.seat e.view_is lead.table ended ends in
+      let ends = ends_so face lead.view back inserts removals holds e.state e.kept e.seat e.view_is lead.table free ended bits members ins rem (miss ∙ ap (λ (z : Option ℕ). unwrap_or z 0 - back) (sym spare ∙ holds.is_crew.hands_out)) loads in
+      let sizes = sizes_so face lead.view back inserts removals holds e.state e.kept e.seat e.view_is lead.table free ended ends in
       subst (λ (z : CrewFacts). Ends z ended × (ended.missing ≡ 0 → length ended.members + ended.removals ≡ length z.round.members + ended.inserts)) is (ends, sizes)
 
 -- ---- the empty trie

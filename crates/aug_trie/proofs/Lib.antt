@@ -31,11 +31,13 @@ pub mod Popping
 pub mod Noting
 pub mod SnapshotWalks
 pub mod RoundLemmas
+pub mod Freeing
 pub mod Refusals
 pub mod CrewWalks
 pub mod Crews
 pub mod CutLemmas
 pub mod Comparing
+pub mod Lending
 pub mod TallyLemmas
 pub mod Versions
 pub mod Endings

@@ -1,5 +1,5 @@
 -- What a note and a pass or a crew that learns it come to, each as one record, from what their words' calls say.
-use Rattle.std.proofs.Common.{◌≡◌, Option, Some, ℕ, ◌-◌, ◌*◌, ◌%◌, ◌^◌, ◌<◌, ◌≤◌, List, [], ◌∷◌, ◌++◌, append_assoc, length, All, sym, refl, ap, ◌∙◌, subst, ⊎_elim, arith}
+use Rattle.std.proofs.Common.{Bool, ◌≡◌, Option, Some, ℕ, ◌-◌, ◌*◌, ◌%◌, ◌^◌, ◌<◌, ◌≤◌, List, [], ◌∷◌, ◌++◌, append_assoc, length, All, sym, refl, ap, ◌∙◌, subst, ⊎_elim, arith}
 use Rattle.std.proofs.lemmas.Bool.{cases_eq}
 use Rattle.std.proofs.lemmas.List.{map-append}
 use Rattle.std.specs.Prelude.{unwrap_or}
@@ -184,7 +184,7 @@ module _ {A B : Type 0} (parts_a : Parts A) (parts_b : Parts B) (words : Option 
 -- ---- crews
 
 module _ (f : ℕ → ℕ → List (ℕ × ℕ) → List ℕ) where
-  module _ (old n w : Known) (now : CrewFacts) (note : NoteFacts) (found back inserts removals : ℕ) (c : HoldsCrew f old.view back inserts removals) (facts : crew_facts old ≡ now) (note_is : note_facts n ≡ note) (kn : KnowsTable f n.view) (l : LearnsNote f old.view n.view found w.view) where
+  module _ (old n w : Known) (now : CrewFacts) (note : NoteFacts) {free : Bool} (found back inserts removals : ℕ) (c : HoldsCrew f old.view back inserts removals) (facts : crew_facts old free ≡ now) (note_is : note_facts n ≡ note) (kn : KnowsTable f n.view) (l : LearnsNote f old.view n.view found w.view) where
     abbrev v : SeatView
     v = old.view
 
@@ -205,12 +205,12 @@ module _ (f : ℕ → ℕ → List (ℕ × ℕ) → List ℕ) where
     }
 
     -- what contracts see of it
-    pub crew_learns : w.table ≡ old.table → CrewLearns now (crew_facts w) note
+    pub crew_learns : w.table ≡ old.table → CrewLearns now (crew_facts w free) note
     crew_learns table = let both : HasLearnt v.era (view_chain v) (knows v) (note_facts n) (view_chain w.view) (knows w.view) = learns_both f v n.view w.view found c.is_crew.knows_table kn l n.table in
         let known = learnt_knowledge f v n.view w.view found c.is_crew.knows_table kn l c.is_crew.knowledge in
-        subst (λ (z : CrewFacts × NoteFacts). CrewLearns z.0 (crew_facts w) z.1) (λ j. (facts j, note_is j)) record {
+        subst (λ (z : CrewFacts × NoteFacts). CrewLearns z.0 (crew_facts w free) z.1) (λ j. (facts j, note_is j)) record {
           learns = both;
-          crew_is = let after : CrewFacts = crew_facts w in
+          crew_is = let after : CrewFacts = crew_facts w free in
               λ i. record after { round = round_of (table i) (l.loaded.stepped i); past = past_rounds (l.loaded.stepped i).shape (l.loaded.stepped i).past; handed = unwrap_or (l.loaded.stepped i).spare 0; back = length (l.loaded.stepped i).held };
           weights = λ key serial weight. weighs_later v.seen w.view.seen key serial weight l.loaded.sees.later;
           knowledge = record { is_history = known.is_history; stands = known.stands };

@@ -1,5 +1,5 @@
 -- The crew of a round that goes on in the memory of the round before.
-use Rattle.std.proofs.Common.{◌≡◌, ◌+◌, ◌%◌, ◌^◌, ◌≤◌, ◌∙◌, ℕ, List, [], ◌∷◌, ◌++◌, All, length, refl, ap, sym, subst}
+use Rattle.std.proofs.Common.{Bool, false, ◌≡◌, ◌+◌, ◌%◌, ◌^◌, ◌≤◌, ◌∙◌, ℕ, List, [], ◌∷◌, ◌++◌, All, length, append_assoc, refl, ap, sym, subst}
 use Rattle.std.proofs.lemmas.List.{map-append}
 use Rattle.std.specs.Prelude.{Option, unwrap_or}
 use Rattle.aug_monoid.specs.Weighted.{FitsPair}
@@ -16,14 +16,12 @@ use Rattle.aug_core.specs.Layout.{IsLayout}
 use Rattle.aug_core.specs.Opening.{Opening}
 use Rattle.aug_core.specs.Places.{Shape, word_count}
 use Rattle.aug_core.specs.Renewals.{EndWith, reopening}
+use Rattle.aug_core.specs.declared.step.StepTaken.{StepTaken}
 use Rattle.aug_core.specs.declared.view.SeatView.{SeatView}
 use Rattle.aug_core.proofs.Openings.{opener}
 use Rattle.aug_words.specs.Seats.{Store, Known, AreTogether}
 use Rattle.aug_trie.specs.Chains.{chapters}
-use Rattle.aug_query.specs.Tree.{IsTreeSet}
-use Rattle.aug_model.proofs.Boundaries.{IsKeySet-few}
-use Rattle.aug_model.proofs.Pairs.{length-keys_of}
-use Rattle.aug_trie.specs.Crew.{CrewFacts, CrewLooks, CrewPrepares, crew_chain, Ends, IsOver, set_of_crew}
+use Rattle.aug_trie.specs.Crew.{CrewFacts, CrewLooks, CrewPrepares, crew_chain, Ends, IsOver}
 use Rattle.aug_trie.specs.Ended.{EndedFacts}
 use Rattle.aug_trie.specs.History.{IsHistory, last_cut}
 use Rattle.aug_trie.specs.Knowledge.{IsKnowledge, inserts_of, removals_of}
@@ -67,17 +65,17 @@ module _ (face : ℕ → ℕ → List (ℕ × ℕ) → List ℕ) (store : Store)
       ∙ (λ j. record { table = (sym is j).table; era = now.era + 1; bits = (sym is j).bits; members = list; workers = (sym is j).workers; updates = (sym is j).updates; room = (sym is j).room })
 
   -- and the crew knows the opening cut alone, and has handed nothing out
-  pub next_facts : crew_facts lead ≡ record { round = round_of lead.table lead.view; past = past_rounds lead.view.shape lead.view.past; knows = record { history = opening_cut store.shape.bits list ∷ []; accepted = [] }; steps = lead.view.steps; handed = 0; back = 0; words = (crew_facts lead).words }
+  pub next_facts : crew_facts lead false ≡ record { round = round_of lead.table lead.view; past = past_rounds lead.view.shape lead.view.past; knows = record { history = opening_cut store.shape.bits list ∷ []; accepted = [] }; steps = lead.view.steps; handed = 0; back = 0; words = (crew_facts lead false).words; free = false }
   next_facts =
       let first = begins_history face o laid_out set fit few in
       let knew : knows lead.view ≡ record { history = opening_cut o.shape.bits o.members ∷ []; accepted = [] } = ap knows opener_is ∙ (λ j. record { history = first j; accepted = [] }) in
       let none_out : unwrap_or lead.view.spare 0 ≡ 0 = ap (λ (z : SeatView). unwrap_or z.spare 0) opener_is in
       let none_back : length lead.view.held ≡ 0 = ap (λ (z : SeatView). length z.held) opener_is in
-      λ j. record { round = round_of lead.table lead.view; past = past_rounds lead.view.shape lead.view.past; knows = knew j; steps = lead.view.steps; handed = none_out j; back = none_back j; words = (crew_facts lead).words }
+      λ j. record { round = round_of lead.table lead.view; past = past_rounds lead.view.shape lead.view.past; knows = knew j; steps = lead.view.steps; handed = none_out j; back = none_back j; words = (crew_facts lead false).words; free = false }
 
 -- ---- the round that ended
 
-module _ (face : ℕ → ℕ → List (ℕ × ℕ) → List ℕ) (lead : Known) (now : CrewFacts) (back inserts removals found : ℕ) (last : SeatView) (is : crew_facts lead ≡ now) (holds : HoldsCrew face lead.view back inserts removals) (l : LoadsNode face lead.view (root_place lead.view.shape) found last) where
+module _ (face : ℕ → ℕ → List (ℕ × ℕ) → List ℕ) (lead : Known) (now : CrewFacts) {free : Bool} (back inserts removals found : ℕ) (last : SeatView) (is : crew_facts lead free ≡ now) (holds : HoldsCrew face lead.view back inserts removals) (l : LoadsNode face lead.view (root_place lead.view.shape) found last) where
   abbrev known : Known
   known = record { table = lead.table; view = last }
 
@@ -98,16 +96,16 @@ module _ (face : ℕ → ℕ → List (ℕ × ℕ) → List ℕ) (lead : Known) 
   }
 
   -- what contracts see of that crew
-  pub last_is : crew_facts known ≡ record now { knows = knows last; steps = last.steps; words = (crew_facts known).words }
-  last_is = (λ i. let after : CrewFacts = crew_facts known in
+  pub last_is : crew_facts known free ≡ record now { knows = knows last; steps = last.steps; words = (crew_facts known free).words }
+  last_is = (λ i. let after : CrewFacts = crew_facts known free in
       record after { round = round_of lead.table (l.stepped i); past = past_rounds (l.stepped i).shape (l.stepped i).past; handed = unwrap_or (l.stepped i).spare 0; back = length (l.stepped i).held })
-      ∙ ap (λ (z : CrewFacts). record z { knows = knows last; steps = last.steps; words = (crew_facts known).words }) is
+      ∙ ap (λ (z : CrewFacts). record z { knows = knows last; steps = last.steps; words = (crew_facts known free).words }) is
 
   pub last_goes_on : IsPrefix now.knows.history (knows last).history
   last_goes_on = subst (λ (z : CrewFacts). IsPrefix z.knows.history (knows last).history) is (knows_on face lead.view last holds.is_crew.knows_table (ap (λ (z : SeatView). z.shape) l.stepped) l.sees.later)
 
-  pub last_weights : KeepWeights now.words (crew_facts known).words
-  last_weights = subst (λ (z : CrewFacts). KeepWeights z.words (crew_facts known).words) is (λ key serial weight. weighs_later lead.view.seen last.seen key serial weight l.sees.later)
+  pub last_weights : KeepWeights now.words (crew_facts known free).words
+  last_weights = subst (λ (z : CrewFacts). KeepWeights z.words (crew_facts known free).words) is (λ key serial weight. weighs_later lead.view.seen last.seen key serial weight l.sees.later)
 
   pub last_changes : changes_of last.held ≡ now.knows.accepted
   last_changes = ap (λ (z : SeatView). changes_of z.held) l.stepped ∙ ap (λ (z : CrewFacts). z.knows.accepted) is
@@ -115,15 +113,15 @@ module _ (face : ℕ → ℕ → List (ℕ × ℕ) → List ℕ) (lead : Known) 
   pub last_loads : last.steps ≡ now.steps ++ load_node (root_of now.round) found ∷ []
   last_loads = ap (λ (z : SeatView). z.steps) l.stepped ∙ ap (λ (z : CrewFacts). z.steps ++ load_node (root_of z.round) found ∷ []) is
 
-  pub last_looks : CrewLooks now (crew_facts known)
+  pub last_looks : CrewLooks now (crew_facts known free)
   last_looks = record { crew_is = last_is; weights = last_weights; goes_on = last_goes_on; same_changes = last_changes; knowledge = let k = last_crew.is_crew.knowledge in record { is_history = k.is_history; stands = k.stands }; loads = (found, last_loads) }
 
   -- the rounds that are over then
-  pub over_now : (past : List PastEra) (s : Shape) → past ≡ last.past ++ record { members = last.members; book = last.seen } ∷ [] → s ≡ last.shape → past_rounds s past ≡ chapters (crew_chain (crew_facts known))
+  pub over_now : (past : List PastEra) (s : Shape) → past ≡ last.past ++ record { members = last.members; book = last.seen } ∷ [] → s ≡ last.shape → past_rounds s past ≡ chapters (crew_chain (crew_facts known free))
   over_now past s is_past is_shape = (λ i. past_rounds (is_shape i) (is_past i)) ∙ map-append (λ (z : PastEra). record { members = z.members; history = root_history last.shape z.book }) last.past (record { members = last.members; book = last.seen } ∷ [])
 
   -- so where the table then met the rule, and all passes are back, the account of the round is closed
-  pub closes_account : (words : List ℕ) → EndWith face (opening_of last) last words → now.back ≡ now.handed → IsOver now (crew_facts known) inserts removals
+  pub closes_account : (words : List ℕ) → EndWith face (opening_of last) last words → now.back ≡ now.handed → IsOver now (crew_facts known free) inserts removals
   closes_account words ends all_back =
       let crew = last_crew in let spare = crew.is_crew.hands_out in
       let all : length last.held ≡ crew.handed = ap (λ (z : CrewFacts). z.back) last_is ∙ all_back ∙ sym (ap (λ (z : CrewFacts). z.handed) last_is) ∙ ap (λ (z : Option ℕ). unwrap_or z 0) spare in
@@ -137,7 +135,7 @@ module _ (face : ℕ → ℕ → List (ℕ × ℕ) → List ℕ) (lead : Known) 
         rest = record { shape = last.shape; words = words };
         root = 0;
       } in
-      let t = round_ended face known (crew_facts known) crew.handed refl crew spare ends ended refl refl refl refl (none_left face known (crew_facts known) crew.handed refl crew spare ends all) refl in record {
+      let t = round_ended face known (crew_facts known free) crew.handed refl crew spare ends ended refl refl refl refl (none_left face known (crew_facts known free) crew.handed refl crew spare ends all) refl in record {
         last_is = last_is;
         weights = last_weights;
         goes_on = last_goes_on;
@@ -153,10 +151,10 @@ module _ (face : ℕ → ℕ → List (ℕ × ℕ) → List ℕ) (lead : Known) 
 
 -- ---- a crew that laid the next round out
 
-module _ (face : ℕ → ℕ → List (ℕ × ℕ) → List ℕ) (lead : Known) (now : CrewFacts) (back inserts removals : ℕ) (is : crew_facts lead ≡ now) (holds : HoldsCrew face lead.view back inserts removals) (v : SeatView)
+module _ (face : ℕ → ℕ → List (ℕ × ℕ) → List ℕ) (lead : Known) (now : CrewFacts) {free : Bool} (back inserts removals : ℕ) (is : crew_facts lead free ≡ now) (holds : HoldsCrew face lead.view back inserts removals) (v : SeatView)
     (stepped : v ≡ record lead.view { whole = v.whole; steps = v.steps }) where
-  pub prepared_facts : crew_facts (record { table = lead.table; view = v }) ≡ record now { steps = v.steps }
-  prepared_facts = subst (λ (z : SeatView). crew_facts (record { table = lead.table; view = z }) ≡ record now { steps = v.steps }) (sym stepped) (ap (λ (z : CrewFacts). record z { steps = v.steps }) is)
+  pub prepared_facts : crew_facts (record { table = lead.table; view = v }) free ≡ record now { steps = v.steps }
+  prepared_facts = subst (λ (z : SeatView). crew_facts (record { table = lead.table; view = z }) free ≡ record now { steps = v.steps }) (sym stepped) (ap (λ (z : CrewFacts). record z { steps = v.steps }) is)
 
   pub prepared_holds : HoldsCrew face v back inserts removals
   prepared_holds = let c = holds.is_crew in let k = c.knowledge in subst (λ (z : SeatView). HoldsCrew face z back inserts removals) (sym stepped) record {
@@ -181,15 +179,15 @@ prepares old between new l is steps = record {
   goes_on = subst (λ (z : CrewFacts). IsPrefix old.knows.history z.knows.history) (sym is) l.goes_on;
   same_changes = ap (λ (z : CrewFacts). z.knows.accepted) is ∙ l.same_changes;
   knowledge = subst (λ (z : CrewFacts). IsKnowledge z.round.bits z.round.members z.knows) (sym is) l.knowledge;
-  steps_stay = prefix_trans old.steps between.steps new.steps (load_node (root_of old.round) l.loads.0 ∷ [], l.loads.1) steps;
+  loads = (l.loads.0, steps.0, steps.1 ∙ ap (λ (z : List StepTaken). z ++ steps.0) l.loads.1 ∙ append_assoc old.steps (load_node (root_of old.round) l.loads.0 ∷ []) steps.0);
 }
 
 -- ---- the set of a crew
 
 -- the set of the newest cut that its lead knows
-pub crew_set : (face : ℕ → ℕ → List (ℕ × ℕ) → List ℕ) (lead : Known) (crew : CrewFacts) (index : ℕ) (entry : Entry) → crew_facts lead ≡ crew → IsNewest lead.view.seen (root_place lead.view.shape) index entry
+pub crew_set : (face : ℕ → ℕ → List (ℕ × ℕ) → List ℕ) (lead : Known) (crew : CrewFacts) {free : Bool} (index : ℕ) (entry : Entry) → crew_facts lead free ≡ crew → IsNewest lead.view.seen (root_place lead.view.shape) index entry
     → pairs_of_cut (root_cut lead.view.shape lead.view.seen index) ≡ pairs_of_cut (last_cut crew.knows.history)
-crew_set face lead crew index entry is newest = ap pairs_of_cut (sym (last_is_cut lead.view.shape lead.view.seen index newest.last)) ∙ ap (λ (z : CrewFacts). pairs_of_cut (last_cut z.knows.history)) is
+crew_set face lead crew {free} index entry is newest = ap pairs_of_cut (sym (last_is_cut lead.view.shape lead.view.seen index newest.last)) ∙ ap (λ (z : CrewFacts). pairs_of_cut (last_cut z.knows.history)) is
 
 -- ---- a crew that closed its account, and closes it again after steps by which it learned nothing
 
@@ -238,18 +236,3 @@ module _ (old first between last : CrewFacts) (inserts removals inserts' removal
     },
     set_stays,
   )
-
--- ---- the list of a crew
-
--- it is a set of keys of so many bits
-pub record IsListed (bits : ℕ) (list : List (ℕ × ℕ)) : Type 0 where
-  pub keys : IsKeySet bits (keys_of list)
-  pub fit : All FitsPair list
-  pub few : length list ≤ 2 ^ bits
-
-pub listed : (crew : CrewFacts) (bits : ℕ) (list : List (ℕ × ℕ)) → IsTreeSet (set_of_crew crew) → crew.round.bits ≡ bits → list ≡ (set_of_crew crew).pairs → IsListed bits list
-listed crew bits list tree same is = subst (λ (z : ℕ × List (ℕ × ℕ)). IsListed z.0 z.1) (λ j. (same j, sym is j)) record {
-  keys = tree.is_key_set;
-  fit = tree.fit;
-  few = let pairs : List (ℕ × ℕ) = (set_of_crew crew).pairs in subst (λ (z : ℕ). z ≤ 2 ^ crew.round.bits) (length-keys_of pairs) (IsKeySet-few crew.round.bits (keys_of pairs) tree.is_key_set);
-}

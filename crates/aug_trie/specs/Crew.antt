@@ -1,5 +1,5 @@
 -- What contracts see of a crew: how its round begins, how its passes come and go, and how the round ends.
-use Rattle.std.specs.Prelude.{◌≡◌, ℕ, ◌+◌, ◌<◌, ◌≤◌, List, [], ◌∷◌, ◌++◌, length, flat_map}
+use Rattle.std.specs.Prelude.{◌≡◌, Bool, false, ℕ, ◌+◌, ◌<◌, ◌≤◌, List, [], ◌∷◌, ◌++◌, length, flat_map}
 use Rattle.aug_model.specs.Keys.{SetFacts}
 use Rattle.aug_core.specs.Cuts.{opening_cut, pairs_of_cut}
 use Rattle.aug_core.specs.Kinds.{load_node}
@@ -16,8 +16,8 @@ use Rattle.aug_trie.specs.Pass.{PassFacts, WordsSeen, KeepWeights}
 use Rattle.aug_trie.specs.Tallies.{TalliesWithLost}
 use Rattle.aug_trie.specs.Ended.{EndedFacts}
 
--- a crew: its round, the rounds before in its table, what it knows, its atomic steps, how many passes it handed out and took back, and the words that it
--- has seen
+-- a crew: its round, the rounds before in its table, what it knows, its atomic steps, how many passes it handed out and took back, the words that it has
+-- seen, and whether a part of the table is known beside the one at work in which nobody reads
 pub record CrewFacts : Type 0 where
   pub round : RoundFacts
   pub past : List Chapter
@@ -26,6 +26,7 @@ pub record CrewFacts : Type 0 where
   pub handed : ℕ
   pub back : ℕ
   pub words : WordsSeen
+  pub free : Bool
 
 -- what it knows of the rounds of its table
 abbrev pub crew_chain : CrewFacts → Chain
@@ -36,11 +37,15 @@ crew_chain crew = chain crew.past crew.round.members crew.knows.history
 pub record BeginsIn (room : ℕ) (members : List (ℕ × ℕ)) (bits workers updates : ℕ) (table : TableFacts) (crew : CrewFacts) : Type 0 where
   pub round_is : crew.round ≡ record { table = table.table; era = 0; bits = bits; members = members; workers = workers; updates = updates; room = room }
   pub together : table_of crew.round ≡ table
-  pub crew_is : crew ≡ record { round = crew.round; past = []; knows = record { history = opening_cut bits members ∷ []; accepted = [] }; steps = crew.steps; handed = 0; back = 0; words = crew.words }
+  pub crew_is : crew ≡ record { round = crew.round; past = []; knows = record { history = opening_cut bits members ∷ []; accepted = [] }; steps = crew.steps; handed = 0; back = 0; words = crew.words; free = false }
 
 -- the crew's one step loads the root's word
 abbrev pub LoadsRoot : CrewFacts → CrewFacts → Type 0
 LoadsRoot old new = (found : ℕ) × (new.steps ≡ old.steps ++ load_node (root_of old.round) found ∷ [])
+
+-- its first step does
+abbrev pub LoadsRootFirst : CrewFacts → CrewFacts → Type 0
+LoadsRootFirst old new = (found : ℕ) × (more : List StepTaken) × (new.steps ≡ old.steps ++ load_node (root_of old.round) found ∷ more)
 
 -- the crew hands out its next lane, after it loaded the root
 pub record HandsOut (old new : CrewFacts) (pass : PassFacts) : Type 0 where
@@ -90,7 +95,7 @@ pub record CrewPrepares (old new : CrewFacts) : Type 0 where
   pub goes_on : IsPrefix old.knows.history new.knows.history
   pub same_changes : new.knows.accepted ≡ old.knows.accepted
   pub knowledge : IsKnowledge new.round.bits new.round.members new.knows
-  pub steps_stay : IsPrefix old.steps new.steps
+  pub loads : LoadsRootFirst old new
 
 -- the crew made at most `most` steps, from which it learned nothing new
 pub record CrewReads (most : ℕ) (old new : CrewFacts) : Type 0 where
@@ -142,4 +147,4 @@ pub record RollsOver (old crew : CrewFacts) (inserts removals : ℕ) : Type 0 wh
   pub inserts_are : inserts ≡ ended.inserts
   pub removals_are : removals ≡ ended.removals
   pub round_is : crew.round ≡ record old.round { era = old.round.era + 1; members = ended.members }
-  pub crew_is : crew ≡ record { round = crew.round; past = chapters (crew_chain last); knows = record { history = opening_cut old.round.bits ended.members ∷ []; accepted = [] }; steps = crew.steps; handed = 0; back = 0; words = crew.words }
+  pub crew_is : crew ≡ record { round = crew.round; past = chapters (crew_chain last); knows = record { history = opening_cut old.round.bits ended.members ∷ []; accepted = [] }; steps = crew.steps; handed = 0; back = 0; words = crew.words; free = false }

@@ -15,6 +15,7 @@ pub mod Ledger
 pub mod Snapshot
 pub mod Comparing
 pub mod Node
+pub mod Reader
 pub mod View
 pub mod Ended
 pub mod Crew

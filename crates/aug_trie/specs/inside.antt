@@ -20,6 +20,7 @@ pub mod NoteState
 pub mod PassState
 pub mod Points
 pub mod Popping
+pub mod ReaderState
 pub mod RoundState
 pub mod SnapshotWalk
 pub mod SnapshotWalkLaws

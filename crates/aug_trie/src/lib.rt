@@ -21,6 +21,7 @@ pub use rounds::members::{AllMembers, Members};
 pub use rounds::note::Note;
 pub use rounds::pass::Pass;
 pub use rounds::pop::{Pop, Side};
+pub use rounds::reader::Reader;
 pub use rounds::round::Round;
 pub use turns::climb::{Climb, Turn};
 pub use updates::request::Request;

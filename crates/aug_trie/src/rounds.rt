@@ -10,4 +10,5 @@ pub(crate) mod members;
 pub(crate) mod note;
 pub(crate) mod pass;
 pub(crate) mod pop;
+pub(crate) mod reader;
 pub(crate) mod round;

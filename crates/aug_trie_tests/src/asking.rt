@@ -62,7 +62,7 @@ pub(super) fn look_closer(
 }
 
 // Makes an update of a key, if one is left. A snapshot is one still.
-fn set(pass: &mut Pass<Sum, Extent>, s: Snapshot, universe: u32, change: Change)
+pub(super) fn set(pass: &mut Pass<Sum, Extent>, s: Snapshot, universe: u32, change: Change)
     requires universe { universe ≡ 2 ^ pass.old.round.bits }
     requires snapshot { HasSnapshot pass.old s.number }
     ensures round { pass.new.round ≡ pass.old.round }

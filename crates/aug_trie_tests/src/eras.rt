@@ -1,6 +1,6 @@
 //! A renewed round is another round than the one before, though of the same table: a half of that one has to be back before, and a note of it is
 //! of that one alone. No test module, so that a wrong body of it can be tried.
-ghost use Rattle.std.specs.Prelude.{◌≡◌, ◌≢◌, ◌+◌, ◌≤◌};
+ghost use Rattle.std.specs.Prelude.{◌≡◌, ◌≢◌, ◌+◌, ◌≤◌, true};
 ghost use Rattle.aug_trie.specs.Round.{table_of};
 
 use aug_monoid::{Extent, Sum};
@@ -20,6 +20,7 @@ pub fn gone_on(
     requires half { half.round ≡ crew.round }
     requires one_out { crew.back + 1 ≡ crew.handed }
     requires note { note.now.round ≡ crew.round }
+    requires free { crew.free ≡ true }
     ensures bits { result.round.bits ≡ 4 }
     ensures together { table_of result.round ≡ round.now }
     ensures table { note.now.round.table ≡ result.round.table }
@@ -43,6 +44,7 @@ pub fn kept_over(
     requires together { table_of crew.round ≡ round.now }
     requires all_back { crew.back ≡ crew.handed }
     requires half { half.round ≡ crew.round }
+    requires free { crew.free ≡ true }
 {
     let (crew, _, _) = round.renew(crew);
     drop(half);

@@ -13,6 +13,8 @@ mod granting;
 #[cfg(test)]
 mod playing;
 #[cfg(test)]
+mod reading;
+#[cfg(test)]
 mod refused;
 #[cfg(test)]
 mod renewing;

@@ -5,7 +5,7 @@ ghost use Rattle.aug_trie.specs.Round.{table_of};
 use super::asking::seen_weight;
 use super::playing::changed;
 use super::rounds::{CrewOf, RoundOf};
-use crate::assertions::equal;
+use crate::assertions::{equal, holds};
 use crate::eras::{closed_over, gone_on};
 use aug_query::descent::{Size, Weight};
 use aug_trie::Outcome::Accepted;
@@ -17,7 +17,7 @@ use std::alloc::Global;
 use std::process::Abort;
 
 // A round of two lanes with two updates each, with room for all keys.
-fn begun(alloc: Global, set: Members) -> Result<(RoundOf, CrewOf), Members>
+pub(super) fn begun(alloc: Global, set: Members) -> Result<(RoundOf, CrewOf), Members>
     requires { set.bits ≡ 4 }
     ensures bits { IfOk result (λ t. t.1.round.bits ≡ 4) }
     ensures room { IfOk result (λ t. 16 ≤ t.1.round.room) }
@@ -52,6 +52,7 @@ fn renewed(
     changed(&mut pass, 16, changes.1);
     crew.prepare(round, nodes);
     crew.back(pass);
+    holds(rt, crew.may_renew(round));
     let (crew, _, _) = round.renew(crew);
     crew
 }
@@ -104,6 +105,7 @@ fn a_note_of_the_round_before_is_of_another_round(rt: HostRuntime) -> Result<(),
     equal(&rt, changed(&mut pass, 16, Insert(5)), Came(Accepted));
     let note = pass.note();
     let half = pass.into_half();
+    holds(&rt, crew.may_renew(&round));
     let mut crew = gone_on(&round, crew, half, &note);
     equal(&rt, crew.ask(&round, Size), 1);
     let mut pass = crew.pass(&round).expect(&rt, "lane 0 of the next round");

@@ -1,5 +1,5 @@
--- What a walk over two snapshots at once keeps of the words of their pass, and which names of nodes it has.
-use Rattle.std.specs.Prelude.{◌≡◌, ℕ, ◌+◌, ◌*◌, ◌≤◌, Option, Some, List, ◌++◌, length}
+-- What a walk over two snapshots at once keeps of the words of who walks, and which names of nodes it has.
+use Rattle.std.specs.Prelude.{◌≡◌, ℕ, ◌+◌, ◌*◌, ◌≤◌, List, ◌++◌, length}
 use Rattle.aug_core.specs.Effects.{KnowsTable}
 use Rattle.aug_core.specs.inside.RootCuts.{root_cut}
 use Rattle.aug_core.specs.declared.step.StepTaken.{StepTaken}
@@ -40,12 +40,6 @@ module _ (face : ℕ → ℕ → List (ℕ × ℕ) → List ℕ) where
   pub record IsBothWalk (v : SeatView) (earlier later : Snapshot) (bits : ℕ) : Type 0 where
     pub bits_are : bits ≡ v.shape.bits
     pub tops : IsNamedInBoth v earlier later bits 0 (earlier.number, later.number)
-
-  -- the words are there, and a walk goes by them
-  pub record HasBothWalk (words : Option Known) (earlier later : Snapshot) (bits : ℕ) : Type 0 where
-    pub known : Known
-    pub there : words ≡ Some known
-    pub is_walk : IsBothWalk known.view earlier later bits
 
 -- a walk as contracts see it: what its pass knows of the words, both snapshots, the bits of their keys, and how often children were loaded
 pub record WalkingBoth : Type 0 where

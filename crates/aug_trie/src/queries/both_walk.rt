@@ -1,58 +1,58 @@
-//! Two snapshots as a comparison walks them at once, over the words of their pass.
-ghost use Rattle.std.specs.Prelude.{◌≡◌, ℕ, ◌+◌, ◌*◌, Some};
+//! Two snapshots as a comparison walks them at once, over the words of whoever has taken them.
+ghost use Rattle.std.specs.Prelude.{◌≡◌, ℕ, ◌+◌, ◌*◌};
 ghost use Rattle.aug_core.specs.Effects.{KnowsTable};
 ghost use Rattle.aug_core.specs.Faces.{face};
 ghost use Rattle.aug_model.specs.Queries.{weight_of};
-ghost use Rattle.aug_trie.specs.inside.BothWalk.{HasBothWalk, top_of};
+ghost use Rattle.aug_trie.specs.inside.BothWalk.{IsBothWalk, top_of};
 ghost use Rattle.aug_trie.specs.inside.Goes.{Looks};
 ghost use Rattle.aug_trie.specs.inside.LeafPairs.{leaf_pairs};
 ghost use Rattle.aug_trie.specs.inside.NodesUnder.{IsNodeUnder};
 
+use crate::queries::record_words::RecordWords;
 use crate::queries::snapshot::Snapshot;
 use crate::updates::leaf_words::{leaf_serial, leaf_weight};
 use aug_core::RecordField;
 use aug_monoid::Monoid;
 use aug_query::{Calls, DescendBoth};
-use aug_words::WordPass;
-use std::marker::Model;
+use std::marker::{Model, PhantomData};
 
 // The word of the left child, at this level, of the node at this place one level higher in a snapshot's tree. The node is given by its word; snapshot,
 // level and place are for the contract alone.
 #[inline(always)]
-fn left_under<A: Monoid, B: Monoid>(
-    pass: &mut WordPass<A, B>,
+fn left_under<A: Monoid, B: Monoid, W: RecordWords>(
+    words: &mut W,
     snapshot: Snapshot,
     level: u32,
     place: u32,
     word: u64,
 ) -> u64
-    requires knows { KnowsTable (face A.parts B.parts) pass.old.view }
-    requires node { IsNodeUnder pass.old.view.shape pass.old.view.seen (top_of pass.old.view snapshot) (level + 1) place word }
-    ensures table { pass.new.table ≡ pass.old.table }
-    ensures looks { Looks 1 pass.old.view pass.new.view }
-    ensures node { IsNodeUnder pass.old.view.shape pass.old.view.seen (top_of pass.old.view snapshot) level (2 * place) result }
+    requires knows { KnowsTable (face A.parts B.parts) (W.known words.old).view }
+    requires node { IsNodeUnder (W.known words.old).view.shape (W.known words.old).view.seen (top_of (W.known words.old).view snapshot) (level + 1) place word }
+    ensures table { (W.known words.new).table ≡ (W.known words.old).table }
+    ensures looks { Looks 1 (W.known words.old).view (W.known words.new).view }
+    ensures node { IsNodeUnder (W.known words.old).view.shape (W.known words.old).view.seen (top_of (W.known words.old).view snapshot) level (2 * place) result }
 {
     let _ = (snapshot, level, place);
-    pass.load_record_word(word, RecordField::Left)
+    words.load_word(word, RecordField::Left)
 }
 
 // The word of the right child.
 #[inline(always)]
-fn right_under<A: Monoid, B: Monoid>(
-    pass: &mut WordPass<A, B>,
+fn right_under<A: Monoid, B: Monoid, W: RecordWords>(
+    words: &mut W,
     snapshot: Snapshot,
     level: u32,
     place: u32,
     word: u64,
 ) -> u64
-    requires knows { KnowsTable (face A.parts B.parts) pass.old.view }
-    requires node { IsNodeUnder pass.old.view.shape pass.old.view.seen (top_of pass.old.view snapshot) (level + 1) place word }
-    ensures table { pass.new.table ≡ pass.old.table }
-    ensures looks { Looks 1 pass.old.view pass.new.view }
-    ensures node { IsNodeUnder pass.old.view.shape pass.old.view.seen (top_of pass.old.view snapshot) level (2 * place + 1) result }
+    requires knows { KnowsTable (face A.parts B.parts) (W.known words.old).view }
+    requires node { IsNodeUnder (W.known words.old).view.shape (W.known words.old).view.seen (top_of (W.known words.old).view snapshot) (level + 1) place word }
+    ensures table { (W.known words.new).table ≡ (W.known words.old).table }
+    ensures looks { Looks 1 (W.known words.old).view (W.known words.new).view }
+    ensures node { IsNodeUnder (W.known words.old).view.shape (W.known words.old).view.seen (top_of (W.known words.old).view snapshot) level (2 * place + 1) result }
 {
     let _ = (snapshot, level, place);
-    pass.load_record_word(word, RecordField::Right)
+    words.load_word(word, RecordField::Right)
 }
 
 // The weight of the key whose leaf has this word, if it is a member. The key is for the contract alone.
@@ -67,63 +67,59 @@ fn weight_by_word(key: u32, word: u64) -> Option<u32>
     None
 }
 
-/// Two snapshots of a pass, while its words are taken out. The nodes of both at a level and a place are named by the words that their parents' records
+/// Two snapshots of a pass or of a reader, while its words are taken out. The nodes of both at a level and a place are named by the words that their parents' records
 /// have for them: where these are equal, all that is below is the same. A call for children loads one word of each tree.
 #[derive(Drop)]
-pub(crate) struct BothWalk<'r, A: Monoid, B: Monoid> {
-    words: WordPass<'r, A, B>,
+pub(crate) struct BothWalk<W: RecordWords, A: Monoid, B: Monoid> {
+    words: W,
     earlier: Snapshot,
     later: Snapshot,
     bits: u32,
     loaded: Calls,
+    monoids: PhantomData<(A, B)>,
 }
 
-impl<'r, A: Monoid, B: Monoid> Model for BothWalk<'r, A, B> {
+impl<W: RecordWords, A: Monoid, B: Monoid> Model for BothWalk<W, A, B> {
     ghost use Rattle.aug_core.specs.Faces.{face};
     ghost use Rattle.aug_trie.specs.inside.BothWalk.{IsBothWalk, WalkingBoth};
 
     ghost Value = { WalkingBoth };
 
-    ghost view = { λ w. record { words = w.words; earlier = w.earlier; later = w.later; bits = w.bits; loaded = w.loaded } };
+    ghost view = { λ w. record { words = W.known w.words; earlier = w.earlier; later = w.later; bits = w.bits; loaded = w.loaded } };
 
-    ghost invariant = { λ w. IsBothWalk (face A.parts B.parts) w.words.view w.earlier w.later w.bits };
+    ghost invariant = { λ w. IsBothWalk (face A.parts B.parts) (W.known w.words).view w.earlier w.later w.bits };
 }
 
-impl<'r, A: Monoid, B: Monoid> BothWalk<'r, A, B> {
-    // A walk over two snapshots of the pass that has these words.
+impl<W: RecordWords, A: Monoid, B: Monoid> BothWalk<W, A, B> {
+    // A walk over two snapshots of the pass or the reader that has these words.
     #[inline(always)]
-    pub(crate) fn over(
-        words: Option<WordPass<'r, A, B>>,
-        earlier: Snapshot,
-        later: Snapshot,
-        bits: u32,
-    ) -> BothWalk<'r, A, B>
-        requires { HasBothWalk (face A.parts B.parts) words earlier later bits }
-        ensures words { words.entry ≡ Some result.words }
+    pub(crate) fn over(words: W, earlier: Snapshot, later: Snapshot, bits: u32) -> BothWalk<W, A, B>
+        requires { IsBothWalk (face A.parts B.parts) (W.known words).view earlier later bits }
+        ensures words { result.words ≡ W.known words }
         ensures earlier { result.earlier ≡ earlier }
         ensures later { result.later ≡ later }
     {
-        let Some(words) = words else { unreachable!() };
         BothWalk {
             words,
             earlier,
             later,
             bits,
             loaded: Calls::new(),
+            monoids: PhantomData,
         }
     }
 
     // The words again.
     #[inline(always)]
-    pub(crate) fn into_words(self) -> Option<WordPass<'r, A, B>>
-        ensures { result ≡ Some self.entry.words }
+    pub(crate) fn into_words(self) -> W
+        ensures { W.known result ≡ self.words }
     {
         let BothWalk { words, .. } = self;
-        Some(words)
+        words
     }
 }
 
-impl<A: Monoid, B: Monoid> DescendBoth for BothWalk<'_, A, B> {
+impl<W: RecordWords, A: Monoid, B: Monoid> DescendBoth for BothWalk<W, A, B> {
     type Name = (u64, u64);
 
     ghost use Rattle.aug_trie.specs.inside.BothWalk.{both_seen, IsNamedInBoth, KeepsBoth};
@@ -157,16 +153,16 @@ impl<A: Monoid, B: Monoid> DescendBoth for BothWalk<'_, A, B> {
     #[inline(always)]
     fn lefts(&mut self, level: u32, place: u32, nodes: &(u64, u64)) -> (u64, u64) {
         self.loaded = self.loaded.one_more();
-        let earlier = left_under(&mut self.words, self.earlier, level, place, nodes.0);
-        let later = left_under(&mut self.words, self.later, level, place, nodes.1);
+        let earlier = left_under::<A, B, W>(&mut self.words, self.earlier, level, place, nodes.0);
+        let later = left_under::<A, B, W>(&mut self.words, self.later, level, place, nodes.1);
         (earlier, later)
     }
 
     #[inline(always)]
     fn rights(&mut self, level: u32, place: u32, nodes: &(u64, u64)) -> (u64, u64) {
         self.loaded = self.loaded.one_more();
-        let earlier = right_under(&mut self.words, self.earlier, level, place, nodes.0);
-        let later = right_under(&mut self.words, self.later, level, place, nodes.1);
+        let earlier = right_under::<A, B, W>(&mut self.words, self.earlier, level, place, nodes.0);
+        let later = right_under::<A, B, W>(&mut self.words, self.later, level, place, nodes.1);
         (earlier, later)
     }
 

@@ -1,4 +1,4 @@
-//! How two snapshots of a pass are compared.
+//! How two snapshots are compared.
 ghost use Rattle.std.specs.Prelude.{◌≡◌, take};
 ghost use Rattle.aug_model.specs.Differences.{changes_from};
 ghost use Rattle.aug_model.specs.Folds.{summary_of};
@@ -25,9 +25,12 @@ impl<'r, A: Monoid, B: Monoid> Pass<'r, A, B> {
         ensures reads { Reads (summary_of A.parts B.parts) (compare_steps self.old earlier later from) self.old self.new }
         ensures none { earlier ≡ later → self.new.steps ≡ self.old.steps }
     {
-        let mut walk = BothWalk::over(self.words.take(), earlier, later, self.account.bits);
+        let Some(words) = self.words.take() else {
+            unreachable!()
+        };
+        let mut walk: BothWalk<_, A, B> = BothWalk::over(words, earlier, later, self.account.bits);
         let page = next_changes(&mut walk, from);
-        self.words = walk.into_words();
+        self.words = Some(walk.into_words());
         page
     }
 }

@@ -15,10 +15,10 @@ use crate::queries::snapshot::Snapshot;
 use crate::updates::leaf_words::leaf_serial;
 use aug_core::RecordField;
 use aug_monoid::Monoid;
-use aug_words::{Lead, WordPass, Words};
+use aug_words::{Lead, WordPass, WordReader, Words};
 use std::marker::Model;
 
-/// Who may load words of records: a pass, or a crew that has the words of its round at hand.
+/// Who may load words of records: a pass, or a crew or a reader that has the words of its round at hand.
 pub(crate) trait RecordWords {
     // What it knows of its table.
     ghost known: { Self → Known };
@@ -62,6 +62,32 @@ impl<A: Monoid, B: Monoid> RecordWords for CrewWords<'_, A, B> {
     #[inline(always)]
     fn load_word(&mut self, number: u64, field: RecordField) -> u64 {
         self.lead.load_record_word(self.words, number, field)
+    }
+}
+
+/// The words of a round, with the seat of one of its readers taken out.
+#[derive(Drop)]
+pub(crate) struct ReaderWords<'r, A: Monoid, B: Monoid> {
+    pub(crate) reader: WordReader<A, B>,
+    pub(crate) words: &'r Words<A, B>,
+}
+
+impl<'r, A: Monoid, B: Monoid> Model for ReaderWords<'r, A, B> {
+    ghost use Rattle.aug_words.specs.Seats.{AreTogether, Known};
+
+    ghost Value = { Known };
+
+    ghost view = { λ r. r.reader };
+
+    ghost invariant = { λ r. AreTogether r.words.now r.reader };
+}
+
+impl<A: Monoid, B: Monoid> RecordWords for ReaderWords<'_, A, B> {
+    ghost known = { λ r. r };
+
+    #[inline(always)]
+    fn load_word(&mut self, number: u64, field: RecordField) -> u64 {
+        self.reader.load_record_word(self.words, number, field)
     }
 }
 

@@ -1,4 +1,4 @@
-//! A snapshot as a descent walks it, over the words of its pass or of its crew.
+//! A snapshot as a descent walks it, over the words of its pass, of its crew or of a reader.
 ghost use Rattle.std.specs.Prelude.{◌≡◌, Some};
 ghost use Rattle.aug_core.specs.Effects.{KnowsTable};
 ghost use Rattle.aug_core.specs.Faces.{face};
@@ -6,16 +6,18 @@ ghost use Rattle.aug_words.specs.Seats.{AreTogether, NamesRoot};
 ghost use Rattle.aug_trie.specs.inside.SnapshotWalk.{HasWalk, IsWalk};
 
 use crate::queries::nodes::summary_at;
-use crate::queries::record_words::{CrewWords, RecordWords, count_at, left_word, right_word};
+use crate::queries::record_words::{
+    CrewWords, ReaderWords, RecordWords, count_at, left_word, right_word,
+};
 use crate::queries::snapshot::Snapshot;
 use crate::updates::leaf_words::leaf_weight;
 use aug_model::Summary;
 use aug_monoid::Monoid;
 use aug_query::{Descend, Loaded};
-use aug_words::{Lead, WordPass, Words};
+use aug_words::{Lead, WordPass, WordReader, Words};
 use std::marker::{Model, PhantomData};
 
-/// A snapshot of a pass or of a crew, while its words are taken out: what names a node is the word that its parent's record has of it. So the
+/// A snapshot of a pass, a crew or a reader, while its words are taken out: what names a node is the word that its parent's record has of it. So the
 /// words stay in registers, and each call loads one word, and `summary`, `past_left`, `past_right` and `child_past` three.
 #[derive(Drop)]
 pub(crate) struct SnapshotWalk<W: RecordWords, A: Monoid, B: Monoid> {
@@ -38,7 +40,7 @@ impl<W: RecordWords, A: Monoid, B: Monoid> Model for SnapshotWalk<W, A, B> {
 }
 
 impl<W: RecordWords, A: Monoid, B: Monoid> SnapshotWalk<W, A, B> {
-    // A walk over a snapshot of the pass or the crew that has these words.
+    // A walk over a snapshot of who has these words.
     #[inline(always)]
     pub(crate) fn over(words: W, snapshot: Snapshot, bits: u32) -> SnapshotWalk<W, A, B>
         requires { IsWalk (face A.parts B.parts) (W.known words).view snapshot bits }
@@ -106,6 +108,33 @@ impl<'r, A: Monoid, B: Monoid> SnapshotWalk<CrewWords<'r, A, B>, A, B> {
     {
         let CrewWords { lead, .. } = self.into_words();
         lead
+    }
+}
+
+impl<'r, A: Monoid, B: Monoid> SnapshotWalk<ReaderWords<'r, A, B>, A, B> {
+    // A walk over a snapshot of the reader with this seat.
+    #[inline(always)]
+    pub(crate) fn of_reader(
+        reader: WordReader<A, B>,
+        words: &'r Words<A, B>,
+        snapshot: Snapshot,
+        bits: u32,
+    ) -> SnapshotWalk<ReaderWords<'r, A, B>, A, B>
+        requires together { AreTogether words.now reader }
+        requires walk { IsWalk (face A.parts B.parts) reader.view snapshot bits }
+        ensures words { result.words ≡ reader }
+        ensures snapshot { result.snapshot ≡ snapshot }
+    {
+        SnapshotWalk::over(ReaderWords { reader, words }, snapshot, bits)
+    }
+
+    // The seat again.
+    #[inline(always)]
+    pub(crate) fn into_reader(self) -> WordReader<A, B>
+        ensures { result ≡ self.entry.words }
+    {
+        let ReaderWords { reader, .. } = self.into_words();
+        reader
     }
 }
 

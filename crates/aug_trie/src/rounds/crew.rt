@@ -1,5 +1,5 @@
 //! The crew of a round, which hands its passes out and takes them back.
-ghost use Rattle.std.specs.Prelude.{◌≡◌, ◌↔◌, ◌^◌, ◌≤◌, [], IsErr, OnErr, IfOk, vec_capacity};
+ghost use Rattle.std.specs.Prelude.{true, ◌≡◌, ◌↔◌, ◌^◌, ◌≤◌, [], IsErr, OnErr, IfErr, IfOk, vec_capacity};
 ghost use Rattle.aug_query.specs.Tree.{IsTreeSet};
 ghost use Rattle.aug_trie.specs.Crew.{HandsOut, TakesBack, CrewLooks, CrewPrepares, CrewReads, IsOver, set_of_crew};
 ghost use Rattle.aug_trie.specs.Node.{steps_for};
@@ -9,6 +9,7 @@ use crate::error::CrewError;
 use crate::queries::snapshot_walk::SnapshotWalk;
 use crate::rounds::account::Account;
 use crate::rounds::pass::Pass;
+use crate::rounds::reader::Reader;
 use crate::rounds::round::Round;
 use aug_monoid::Monoid;
 use aug_query::{Query, descent};
@@ -25,6 +26,8 @@ pub struct Crew<A: Monoid, B: Monoid> {
     pub(crate) back: u32,
     pub(crate) inserts: u32,
     pub(crate) removals: u32,
+    // Whether a part of the table is known in which the next round can begin.
+    pub(crate) free: bool,
 }
 
 impl<A: Monoid, B: Monoid> Model for Crew<A, B> {
@@ -35,9 +38,9 @@ impl<A: Monoid, B: Monoid> Model for Crew<A, B> {
 
     ghost Value = { CrewFacts };
 
-    ghost view = { λ c. crew_facts (known_in c.lead) };
+    ghost view = { λ c. crew_facts (known_in c.lead) c.free };
 
-    ghost invariant = { λ c. HasCrew (face A.parts B.parts) c.lead c.back c.inserts c.removals };
+    ghost invariant = { λ c. HasCrew (face A.parts B.parts) c.lead c.back c.inserts c.removals c.free };
 }
 
 impl<A: Monoid, B: Monoid> Crew<A, B> {
@@ -108,6 +111,47 @@ impl<A: Monoid, B: Monoid> Crew<A, B> {
             unreachable!()
         };
         lead.prepare(&round.words, nodes)
+    }
+
+    /// Whether the next round can begin: whether there is a part of the table beside the one at work in which no reader is out for whom the crew answers.
+    /// Those that passes lent which are still out read in the part at work. Once true, it stays so until the round is renewed. It makes no step.
+    pub fn may_renew(&mut self, round: &Round<A, B>) -> bool
+        requires together { table_of self.old.round ≡ round.now }
+        requires room { 2 ^ self.old.round.bits ≤ self.old.round.room }
+        ensures crew { self.new ≡ record self.old { free = result } }
+        ensures stays { self.old.free ≡ true → result ≡ true }
+    {
+        let Some(lead) = &mut self.lead else {
+            unreachable!()
+        };
+        self.free = lead.may_open(&round.words);
+        self.free
+    }
+
+    /// Takes a reader back that a pass of this table lent, once the crew took that pass back. Any other comes back: one of a pass that is out, and one that its
+    /// pass took back in its place.
+    pub fn take_reader(
+        &mut self,
+        round: &Round<A, B>,
+        reader: Reader<A, B>,
+    ) -> Result<(), Reader<A, B>>
+        requires together { table_of self.old.round ≡ round.now }
+        requires reader { table_of reader.round ≡ round.now }
+        ensures crew { self.new ≡ self.old }
+        ensures same { IfErr result (λ r. r ≡ reader) }
+    {
+        let Reader { words, bits } = reader;
+        let Some(words) = words else { unreachable!() };
+        let Some(lead) = &mut self.lead else {
+            unreachable!()
+        };
+        match lead.take(&round.words, words) {
+            Ok(()) => Ok(()),
+            Err(words) => Err(Reader {
+                words: Some(words),
+                bits,
+            }),
+        }
     }
 
     /// Asks the set of the last cut that the crew knows. It makes as many steps as [`Pass::ask`] with the same query.

@@ -1,5 +1,5 @@
 //! A round: the table that its passes share.
-ghost use Rattle.std.specs.Prelude.{◌≡◌, ◌≢◌, ◌↔◌, ◌+◌, ◌^◌, ◌<◌, ◌≤◌, [], length, All, IsErrOf, IfOk, IfErr, vec_capacity};
+ghost use Rattle.std.specs.Prelude.{◌≡◌, ◌≢◌, true, ◌↔◌, ◌+◌, ◌^◌, ◌<◌, ◌≤◌, [], length, All, IsErrOf, IfOk, IfErr, vec_capacity};
 ghost use Rattle.aug_monoid.specs.Weighted.{FitsPair};
 ghost use Rattle.aug_model.specs.Keys.{IsKeySet, keys_of};
 ghost use Rattle.aug_core.specs.Layout.{IsLayout, IsWithin, IsOutside, IsRefused};
@@ -185,6 +185,7 @@ impl<A: Monoid, B: Monoid> Round<A, B> {
             back: 0,
             inserts: 0,
             removals: 0,
+            free: false,
         };
         Ok((Round { words, layout }, crew))
     }
@@ -203,6 +204,7 @@ impl<A: Monoid, B: Monoid> Round<A, B> {
             back,
             inserts,
             removals,
+            free: _,
         } = crew;
         let Some(lead) = lead else { unreachable!() };
         let handed = lead.handed();
@@ -214,12 +216,13 @@ impl<A: Monoid, B: Monoid> Round<A, B> {
     }
 
     /// Ends the round, to which all passes have come back, and begins the next over its set, in the same memory and with the same
-    /// numbers. What `Crew::prepare` has left to do is done first. Returns the crew of the next round, and how many keys the round that ended put in and
+    /// numbers, where nobody reads (`Crew::may_renew`). Readers that are out read on. What `Crew::prepare` has left to do is done first. Returns the crew of the next round, and how many keys the round that ended put in and
     /// took out. The call takes no memory and has no refusal.
     pub fn renew(&self, crew: Crew<A, B>) -> (Crew<A, B>, u32, u32)
         requires together { table_of crew.round ≡ self.now }
         requires all_back { crew.back ≡ crew.handed }
         requires room { 2 ^ crew.round.bits ≤ crew.round.room }
+        requires free { crew.free ≡ true }
         ensures { RollsOver crew result.0 result.1 result.2 }
     {
         let mut crew = crew;
@@ -232,6 +235,7 @@ impl<A: Monoid, B: Monoid> Round<A, B> {
             back: 0,
             inserts: 0,
             removals: 0,
+            free: false,
         };
         (crew, inserts, removals)
     }

@@ -20,8 +20,8 @@ invariant_of-self g c = let i = c.self.inside in
 
 pub returns-clause-descends : goal.returns-clause-descends
 returns-clause-descends g c = let f = face g.A.Monoid.parts g.B.Monoid.parts in let i = c.self.inside in
-    let first : WalkingBoth = record { words = i.words; earlier = i.earlier; later = i.later; bits = i.bits; loaded = i.loaded } in
-    descends_children f first c.args.self.now c.left_under-later.new.pass c.one_more-self-inside.result c.self.view_is (c.left_under-later.ensures.table ∙ c.left_under-earlier.ensures.table) (looks_on 1 1 2 _ _ _ (omega arith) c.left_under-earlier.ensures.looks c.left_under-later.ensures.looks) c.one_more-self-inside.ensures
+    let first : WalkingBoth = record { words = g.W.RecordWords.known i.words; earlier = i.earlier; later = i.later; bits = i.bits; loaded = i.loaded } in
+    descends_children f first c.args.self.now (g.W.RecordWords.known c.left_under-later.new.words) c.one_more-self-inside.result c.self.view_is (c.left_under-later.ensures.table ∙ c.left_under-earlier.ensures.table) (looks_on 1 1 2 _ _ _ (omega arith) c.left_under-earlier.ensures.looks c.left_under-later.ensures.looks) c.one_more-self-inside.ensures
 
 pub returns-clause-name : goal.returns-clause-name
 returns-clause-name g c = let f = face g.A.Monoid.parts g.B.Monoid.parts in let i = c.self.inside in

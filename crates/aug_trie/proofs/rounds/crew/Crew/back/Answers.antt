@@ -15,6 +15,7 @@ use Rattle.aug_trie.specs.Crew.{CrewFacts, TakesBack}
 use Rattle.aug_trie.specs.inside.CrewState.{crew_facts}
 use Rattle.aug_trie.proofs.Passing.{pass_told}
 use Rattle.aug_trie.proofs.Crews.{back_crew, takes_back_is}
+use Rattle.aug_trie.proofs.Freeing.{places_of, back_opens}
 use Rattle.aug_trie.proofs.RoundLemmas.{crew_told}
 use Rattle.aug_trie.proofs.rounds.crew.Crew.back.Goals as goal
 
@@ -30,6 +31,7 @@ invariant_of-self g c = let f = face g.A.Monoid.parts g.B.Monoid.parts in let i 
       there = refl;
       holds = back_crew f v p w place h.found i.back i.inserts i.removals j.account.inserts j.account.removals holds free.lane free.only shape is.knows_table is.knowledge counts h.loaded
           ((i.back + 1) % 4294967296) ((i.inserts + j.account.inserts) % 4294967296) ((i.removals + j.account.removals) % 4294967296) refl refl refl;
+      opens = λ is. back_opens k new c.join.ensures.table p.lent (ap places_of h.loaded.stepped) (crew.2 is);
     }
 
 pub returns : goal.returns
@@ -39,6 +41,6 @@ returns g c = let f = face g.A.Monoid.parts g.B.Monoid.parts in let i = c.self.i
     let round : round_of pk.table p ≡ round_of k.table v = ap (λ (z : PassFacts). z.round) facts ∙ c.requires.of_crew ∙ ap (λ (z : CrewFacts). z.round) (sym crew.1) in
     let shape : p.shape ≡ v.shape = ap (λ (z : RoundFacts). shape_of z.bits z.workers z.updates z.room) round in
     let counts : HasCounts (changes_of p.held) j.account.inserts j.account.removals = subst (λ (z : Option Known). HasCounts (changes_of (known_in z).view.held) j.account.inserts j.account.removals) c.in-Some.is c.pass.invariant.1 in
-    let back = takes_back_is f v p w place h.found i.back i.inserts i.removals j.account.inserts j.account.removals holds free.lane free.only shape is.knows_table is.knowledge counts h.loaded k.table pk.table j.account.left in
-    let joined : TakesBack (crew_facts k) (crew_facts new) (pass_facts pk j.account.left) = subst (λ (z : TableId). TakesBack (crew_facts k) (crew_facts (record { table = z; view = w })) (pass_facts pk j.account.left)) (sym c.join.ensures.table) back in
-    subst (λ (z : CrewFacts). TakesBack z (crew_facts new) c.args.pass) crew.1 (subst (λ (z : PassFacts). TakesBack (crew_facts k) (crew_facts new) z) facts joined)
+    let back = takes_back_is f v p w place h.found i.back i.inserts i.removals j.account.inserts j.account.removals holds free.lane free.only shape is.knows_table is.knowledge counts h.loaded k.table pk.table i.free j.account.left in
+    let joined : TakesBack (crew_facts k i.free) (crew_facts new i.free) (pass_facts pk j.account.left) = subst (λ (z : TableId). TakesBack (crew_facts k i.free) (crew_facts (record { table = z; view = w }) i.free) (pass_facts pk j.account.left)) (sym c.join.ensures.table) back in
+    subst (λ (z : CrewFacts). TakesBack z (crew_facts new i.free) c.args.pass) crew.1 (subst (λ (z : PassFacts). TakesBack (crew_facts k i.free) (crew_facts new i.free) z) facts joined)

@@ -1,14 +1,18 @@
-use Rattle.std.proofs.Common.{◌+◌, ◌∙◌, ◌∷◌, [], refl, sym}
+use Rattle.std.proofs.Common.{false, ◌≡◌, ℕ, ◌+◌, ◌∙◌, List, ◌∷◌, [], All, refl, sym, ap, subst}
+use Rattle.aug_monoid.specs.Weighted.{FitsPair}
+use Rattle.aug_model.specs.Keys.{IsKeySet, keys_of}
 use Rattle.aug_core.specs.Cuts.{opening_cut}
+use Rattle.aug_core.specs.Layout.{IsWithin}
+use Rattle.aug_core.specs.Places.{Shape}
 use Rattle.aug_trie.specs.Chains.{chapters}
 use Rattle.aug_trie.specs.Crew.{CrewFacts, crew_chain}
-use Rattle.aug_trie.specs.Round.{RoundFacts}
+use Rattle.aug_trie.specs.Round.{TableFacts, RoundFacts}
 use Rattle.aug_trie.proofs.rounds.round.Round.finish.Goals as goal
 
 pub returns-clause-rolls : goal.returns-clause-rolls
 returns-clause-rolls g c =
     let now : RoundFacts = c.args.crew.round in let last : CrewFacts = c.over-inserts.new.self in let a = c.over-inserts.ensures in let round : RoundFacts = record now { era = now.era + 1; members = a.ended.members } in
-    let next : CrewFacts = record { round = round; past = chapters (crew_chain last); knows = record { history = opening_cut now.bits a.ended.members ∷ []; accepted = [] }; steps = []; handed = 0; back = 0; words = last.words } in (
+    let next : CrewFacts = record { round = round; past = chapters (crew_chain last); knows = record { history = opening_cut now.bits a.ended.members ∷ []; accepted = [] }; steps = []; handed = 0; back = 0; words = last.words; free = false } in (
       next,
       record {
         last = last;
@@ -28,3 +32,9 @@ returns-clause-rolls g c =
       },
       c.list.ensures.set ∙ sym a.ends.members,
     )
+
+pub invariant_of-result : goal.invariant_of-result
+invariant_of-result g c =
+    let tree = c.list.ensures.is_set in
+    let bits : c.over-inserts.new.self.round.bits ≡ c.bits-bits.result = ap (λ (z : CrewFacts). z.round.bits) c.over-inserts.ensures.last_is ∙ ap (λ (z : TableFacts). z.bits) (c.requires.together ∙ sym c.self.view_is) ∙ ap (λ (z : Shape). z.bits) (sym c.self.invariant) ∙ sym c.bits-bits.ensures in
+    subst (λ (z : ℕ × List (ℕ × ℕ)). IsWithin 1 16 z.0 × IsKeySet z.0 (keys_of z.1) × All FitsPair z.1) (λ j. (bits j, sym c.list.ensures.set j)) ((tree.some_bits, tree.few_bits), tree.is_key_set, tree.fit)

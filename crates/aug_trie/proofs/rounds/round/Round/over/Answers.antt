@@ -1,5 +1,6 @@
-use Rattle.std.proofs.Common.{arith, rules, ap, subst, sym, refl, ◌∙◌, ◌≡◌, [], ◌∷◌, length}
+use Rattle.std.proofs.Common.{false, arith, rules, ap, subst, sym, refl, ◌∙◌, ◌≡◌, [], ◌∷◌, length}
 use Rattle.std.specs.Prelude.{unwrap_or}
+use Rattle.std.proofs.lemmas.Bool.{false≢true}
 use Rattle.aug_core.specs.Cuts.{opening_cut}
 use Rattle.aug_core.specs.Faces.{face}
 use Rattle.aug_core.specs.Layout.{IsLayout}
@@ -15,7 +16,7 @@ use Rattle.aug_trie.proofs.rounds.round.Round.over.Goals as goal
 pub invariant_of-crew : goal.invariant_of-crew
 invariant_of-crew g c = let f = face g.A.Monoid.parts g.B.Monoid.parts in let e = c.in_ok-words.ensures in let o : Opening = record { shape = c.args.layout; members = c.args.members.now } in
     let laid : IsLayout o.shape = search rules in let room = c.requires.few in let is = e.lead in
-    record { known = c.in_ok-words.lead; there = refl; holds = subst (λ (z : SeatView). HoldsCrew f z 0 0 0) (sym is) (begins_crew f o laid c.requires.keys c.requires.fit (omega arith) [] 0 0 [] [] _) }
+    record { known = c.in_ok-words.lead; there = refl; holds = subst (λ (z : SeatView). HoldsCrew f z 0 0 0) (sym is) (begins_crew f o laid c.requires.keys c.requires.fit (omega arith) [] 0 0 [] [] _); opens = λ is. absurd (false≢true is) }
 
 pub returns : goal.returns
 returns g c = let f = face g.A.Monoid.parts g.B.Monoid.parts in let e = c.in_ok-words.ensures in let o : Opening = record { shape = c.args.layout; members = c.args.members.now } in
@@ -28,5 +29,5 @@ returns g c = let f = face g.A.Monoid.parts g.B.Monoid.parts in let e = c.in_ok-
     record {
       round_is = λ j. round_of (tog.one_table j) (is j);
       together = λ j. facts_of (record { table = tog.one_table j; shape = tog.one_shape j });
-      crew_is = λ j. record { round = round_of lead.table lead.view; past = none_before j; knows = opening j; steps = lead.view.steps; handed = none_out j; back = none_back j; words = (crew_facts lead).words };
+      crew_is = λ j. record { round = round_of lead.table lead.view; past = none_before j; knows = opening j; steps = lead.view.steps; handed = none_out j; back = none_back j; words = (crew_facts lead false).words; free = false };
     }

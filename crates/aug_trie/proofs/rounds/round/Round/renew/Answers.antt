@@ -1,5 +1,6 @@
-use Rattle.std.proofs.Common.{◌≡◌, ◌+◌, ◌^◌, ◌≤◌, ◌++◌, ◌∙◌, ℕ, List, [], ◌∷◌, length, arith, ap, sym, subst, refl}
+use Rattle.std.proofs.Common.{false, ◌≡◌, ◌+◌, ◌^◌, ◌≤◌, ◌++◌, ◌∙◌, ℕ, List, [], ◌∷◌, length, arith, ap, sym, subst, refl}
 use Rattle.std.specs.Prelude.{Option, unwrap_or}
+use Rattle.std.proofs.lemmas.Bool.{false≢true}
 use Rattle.aug_model.proofs.Boundaries.{IsKeySet-few}
 use Rattle.aug_model.specs.Keys.{IsKeySet, keys_of}
 use Rattle.aug_model.proofs.Pairs.{length-keys_of}
@@ -30,6 +31,7 @@ open_again-lead-requires g c =
       together = of_round c.self.inside.words c.in-Some.lead first c.args.self.now told.1 here c.self.view_is;
       room = subst (λ (z : TableFacts). 2 ^ z.bits ≤ z.room) (c.requires.together ∙ sym c.self.view_is) c.requires.room;
       all = record { next = told.0.handed; hands_out = spare; all = ap (λ (z : CrewFacts). z.back) told.1 ∙ all ∙ sym (ap (λ (z : CrewFacts). z.handed) told.1) ∙ ap (λ (z : Option ℕ). unwrap_or z 0) spare };
+      free = told.2 (ap (λ (z : CrewFacts). z.free) told.1 ∙ ap (λ (z : CrewFacts). z.free) a.last_is ∙ c.requires.free);
     }
 
 pub invariant_of-crew : goal.invariant_of-crew
@@ -43,7 +45,7 @@ invariant_of-crew g c =
     let list : List (ℕ × ℕ) = pairs_of_cut (root_cut lead.view.shape lead.view.seen o.index) in let opened = o.opened ∙ ap (λ (z : List (ℕ × ℕ)). reopening f z o.base o.before) (root_pairs f lead.view.shape lead.view.seen told.0.is_crew.knows_table.book o.index o.entry o.newest.at) in let tree = tree_set f lead.view o.index told.0.is_crew.knows_table in
     let keys : IsKeySet s.bits (keys_of list) = subst (λ (z : Shape). IsKeySet z.bits (keys_of list)) together.one_shape tree.is_key_set in
     let few : length list ≤ s.members = (let all = IsKeySet-few s.bits (keys_of list) keys in let long = length-keys_of list in omega arith) in
-    record { known = next; there = refl; holds = next_crew f old next o.before o.base list e.together opened laid_out keys tree.fit few }
+    record { known = next; there = refl; holds = next_crew f old next o.before o.base list e.together opened laid_out keys tree.fit few; opens = λ is. absurd (false≢true is) }
 
 pub returns : goal.returns
 returns g c =
@@ -58,7 +60,7 @@ returns g c =
     let few : length list ≤ s.members = (let all = IsKeySet-few s.bits (keys_of list) keys in let long = length-keys_of list in omega arith) in
     let prepared : Known = record { table = lead.table; view = o.prepared } in let between : CrewFacts = record first { steps = o.prepared.steps } in
     let facts_between = prepared_facts f lead first i.back i.inserts i.removals told.1 told.0 o.prepared o.prepared_is in let holds = prepared_holds f lead first i.back i.inserts i.removals told.1 told.0 o.prepared o.prepared_is in
-    let r = o.rests in let last : SeatView = r.last in let after : CrewFacts = crew_facts (record { table = lead.table; view = last }) in
+    let r = o.rests in let last : SeatView = r.last in let after : CrewFacts = crew_facts (record { table = lead.table; view = last }) i.free in
     let all : between.back ≡ between.handed = ap (λ (z : CrewFacts). z.back) a.last_is ∙ c.requires.all_back ∙ sym (ap (λ (z : CrewFacts). z.handed) a.last_is) in
     let b = closes_account f prepared between i.back i.inserts i.removals r.root last facts_between holds r.loaded _ r.rule all in
     let again = over_again c.args.crew first between after c.over-inserts.result.0 c.over-inserts.result.1 i.inserts i.removals a refl b in let one = again.0 in
@@ -84,5 +86,5 @@ returns g c =
       inserts_are = one.inserts_are;
       removals_are = one.removals_are;
       round_is = round ∙ (λ j. record now { era = now.era + 1; members = members j });
-      crew_is = facts ∙ (λ j. record { round = round_of next.table next.view; past = over j; knows = record { history = opening_cut (bits j) (members j) ∷ []; accepted = [] }; steps = next.view.steps; handed = 0; back = 0; words = (crew_facts next).words });
+      crew_is = facts ∙ (λ j. record { round = round_of next.table next.view; past = over j; knows = record { history = opening_cut (bits j) (members j) ∷ []; accepted = [] }; steps = next.view.steps; handed = 0; back = 0; words = (crew_facts next false).words; free = false });
     }

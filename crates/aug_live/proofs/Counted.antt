@@ -1,7 +1,7 @@
 -- The counts of rounds, one round after another; and what is known of a trie, as it goes on.
 use Rattle.std.specs.Prelude.{Result, Ok, Err, IfOk, flat_map}
 use Rattle.std.specs.List.{sum_by}
-use Rattle.std.proofs.Common.{◌≡◌, ◌⊎◌, ℕ, ◌+◌, ◌^◌, ◌<◌, ◌≤◌, List, [], ◌∷◌, ◌++◌, length, length-append, All, false, sym, refl, ap, ◌∙◌, subst, arith}
+use Rattle.std.proofs.Common.{Bool, true, ◌≡◌, ◌⊎◌, ℕ, ◌+◌, ◌^◌, ◌<◌, ◌≤◌, List, [], ◌∷◌, ◌++◌, length, length-append, All, false, sym, refl, ap, ◌∙◌, subst, arith}
 use Rattle.std.proofs.lemmas.List.{append-nil}
 use Rattle.aug_core.specs.Cuts.{opening_cut}
 use Rattle.aug_core.specs.Prefixes.{IsPrefix}
@@ -161,8 +161,8 @@ pub no_longer : (early late : Chain) → IsPart early late → length early.past
 no_longer early late part = let e = begins_short early.past early.now (chapters late) part in let f = length-append late.past (late.now ∷ []) in omega (arith, e, f)
 
 -- where a state of a trie has more rounds before its last one than one that was known, it has more than what was known of that
-pub rolls_on : {X E : Type 0} (r : Result X E) (own t t' new : TrieFacts) → KnowsMore own t → new ≡ t' → IfOk r (λ _. length t.rounds.past < length t'.rounds.past) → IfOk r (λ _. length own.rounds.past < length new.rounds.past)
-rolls_on (Ok x) own t t' new more is rolls = let e = no_longer own.rounds t.rounds more.part in let f = ap (λ (z : TrieFacts). length z.rounds.past) is in omega (arith, e, f, rolls)
+pub rolls_on : {E : Type 0} (r : Result Bool E) (own t t' new : TrieFacts) → KnowsMore own t → new ≡ t' → IfOk r (λ rolled. rolled ≡ true → length t.rounds.past < length t'.rounds.past) → IfOk r (λ rolled. rolled ≡ true → length own.rounds.past < length new.rounds.past)
+rolls_on (Ok x) own t t' new more is rolls = λ rolled. let e = no_longer own.rounds t.rounds more.part in let f = ap (λ (z : TrieFacts). length z.rounds.past) is in let g = rolls rolled in omega (arith, e, f, g)
 rolls_on (Err x) own t t' new more is rolls = rolls
 
 -- the counts of a trie on the desk might not go further

@@ -1,11 +1,12 @@
 -- The desk as a round ends, as the next begins, and as the first does.
-use Rattle.std.proofs.Common.{◌≡◌, true, ◌<◌, ℕ, ◌+◌, ◌^◌, ◌≤◌, List, [], ◌∷◌, ◌++◌, get_or, length, length-append, All, sym, ap, ◌∙◌, subst, arith}
+use Rattle.std.proofs.Common.{◌≡◌, Bool, true, ◌<◌, ℕ, ◌+◌, ◌^◌, ◌≤◌, List, [], ◌∷◌, ◌++◌, get_or, length, length-append, All, sym, ap, ◌∙◌, subst, arith}
 use Rattle.std.specs.Prelude.{map, flat_map, reverse}
 use Rattle.aug_core.specs.Cuts.{Cut}
 use Rattle.aug_model.specs.Keys.{SetFacts}
 use Rattle.aug_core.specs.Layout.{IsLayout}
 use Rattle.aug_core.specs.Places.{shape_of}
-use Rattle.aug_trie.specs.Chains.{Chapter}
+use Rattle.aug_trie.specs.Chains.{Chapter, IsPart}
+use Rattle.aug_trie.proofs.Chaining.{part_refl}
 use Rattle.aug_trie.specs.Round.{TableFacts, RoundFacts, table_of}
 use Rattle.aug_trie.specs.Crew.{CrewFacts, BeginsIn, RollsOver, crew_chain}
 use Rattle.aug_live.specs.declared.counts.LiveCounts.{LiveCounts}
@@ -157,3 +158,26 @@ taken_of P held' all is each = subst (All P) (ap reverse (sym is) ∙ reverse-re
 
 pub kept_taken : (idle held' all : List EndFacts) → map kept_of idle ≡ map kept_of held' → reverse held' ≡ all → map kept_of (reverse idle) ≡ map kept_of all
 kept_taken idle held' all same is = map_reverse kept_of idle ∙ ap reverse same ∙ sym (map_reverse kept_of held') ∙ ap (map kept_of) is
+
+-- a crew was asked whether the next round can begin
+pub asked_on : {lanes updates : ℕ} {counts : LiveCounts} {table : TableFacts} {ports : List EndFacts} {count : ℕ} (crew crew' : CrewFacts) (free : Bool) → crew' ≡ record crew { free = free } → IsWorking lanes updates counts table crew ports count
+    → IsWorking lanes updates counts table crew' ports count
+asked_on {lanes} {updates} {counts} {table} {ports} {count} crew crew' free is w = let a = w.accounts in subst (λ (z : CrewFacts). IsWorking lanes updates counts table z ports count) (sym is) record {
+  together = w.together;
+  workers = w.workers;
+  all_out = w.all_out;
+  within = w.within;
+  of_round = w.of_round;
+  led = w.led;
+  counted = w.counted;
+  rounds_are = w.rounds_are;
+  accounts = record { past = a.past; now = a.now; dates = a.dates; handles = a.handles; missing = a.missing; numbers = a.numbers };
+  few_inserts = w.few_inserts;
+  few_removals = w.few_removals;
+  laid_out = w.laid_out;
+  room = w.room;
+}
+
+-- so it knows of its rounds what it knew
+pub asked_part : (crew crew' : CrewFacts) (free : Bool) → crew' ≡ record crew { free = free } → IsPart (crew_chain crew) (crew_chain crew')
+asked_part crew crew' free is = subst (λ (z : CrewFacts). IsPart (crew_chain crew) (crew_chain z)) (sym is) (part_refl (crew_chain crew))

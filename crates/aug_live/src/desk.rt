@@ -19,7 +19,7 @@ use crate::error::{LiveError, TryError};
 use crate::handle::Handle;
 use crate::held::{Emptied, Held};
 use crate::plan::Plan;
-use crate::rolling::{deal_all, finish, give_all, take_all};
+use crate::rolling::{deal_all, finish, give_all, put_all_back, take_all};
 use crate::work::SharedRound;
 use aug_monoid::Monoid;
 use aug_trie::{Crew, Members, Note};
@@ -47,7 +47,7 @@ pub(crate) struct Working<A: Monoid, B: Monoid> {
 }
 
 impl<A: Monoid, B: Monoid> Model for Working<A, B> {
-    ghost use Rattle.std.specs.Prelude.{◌≡◌, ◌+◌, ◌++◌, ◌<◌, ◌≤◌, ◌^◌, [], map, reverse, vec_len, vec_capacity, true, false};
+    ghost use Rattle.std.specs.Prelude.{◌≡◌, ◌+◌, ◌++◌, ◌≤◌, ◌^◌, [], map, reverse, vec_len, vec_capacity, false};
     ghost use Rattle.std.specs.Arc.{arc_value};
     ghost use Rattle.aug_trie.specs.Crew.{crew_chain};
     ghost use Rattle.aug_live.specs.LiveTries.{TrieFacts};
@@ -61,8 +61,7 @@ impl<A: Monoid, B: Monoid> Model for Working<A, B> {
     ghost invariant = { λ w. IsWorking w.plan.lanes w.plan.updates w.counts (arc_value w.round) w.crew (w.ports.items ++ reverse w.held.items) (vec_len w.ports + vec_len w.held)
         × (w.idle.items ≡ []) × (vec_len w.ports + vec_len w.held ≤ vec_capacity w.ports) × (vec_len w.ports + vec_len w.held ≤ vec_capacity w.held)
         × (vec_len w.ports + vec_len w.held ≤ vec_capacity w.idle)
-        × (w.list.items ≡ []) × (2 ^ (arc_value w.round).bits ≤ vec_capacity w.list) × ((arc_value w.round).bits ≡ w.bits)
-        × (0 < vec_len w.held → w.crew.free ≡ true) };
+        × (w.list.items ≡ []) × (2 ^ (arc_value w.round).bits ≤ vec_capacity w.list) × ((arc_value w.round).bits ≡ w.bits) };
 }
 
 impl<A: Monoid, B: Monoid> Working<A, B> {
@@ -101,7 +100,7 @@ impl<A: Monoid, B: Monoid> Working<A, B> {
 
     /// Ends the round and begins the next one in its memory, so that nothing is asked for. If a handle works or looks, the lanes that were taken stay
     /// so, for whoever rolls the round over next. If the counts might not go further, the round goes on. So it does, with `false`, if readers are out in
-    /// each other part of the table.
+    /// each other part of the table; then no lane stays taken.
     pub(crate) fn roll<W: Patience>(
         self,
         how: &W,
@@ -120,6 +119,7 @@ impl<A: Monoid, B: Monoid> Working<A, B> {
             return (working, Err(TryError::Refused(LiveError::Exhausted)));
         }
         if !working.crew.may_renew(&working.round) {
+            put_all_back(&mut working.ports, &mut working.held);
             return (working, Ok(false));
         }
         if let Err(missed) = take_all(how, &mut working.ports, &mut working.held) {

@@ -16,7 +16,7 @@ use aug_trie::PassHalf;
 use ruled_lock::{Key, Lesson, LockRule, Patience, RuledLock, Transition, Tries};
 use std::alloc::{AllocError, Global};
 use std::marker::Model;
-use std::sync::Arc;
+use std::sync::{Arc, Wait};
 
 /// The desk: the round that goes on, unless the trie was closed or is not open yet.
 #[derive(Drop)]
@@ -214,6 +214,11 @@ impl<A: Monoid, B: Monoid> DeskEnd<A, B> {
         ensures { self.new ≡ self.old }
     {
         prepare_on(how, &self.lock, &mut self.key, nodes)
+    }
+
+    /// Sleeps for a while, unless somebody has the desk.
+    pub(crate) fn pause<R: Wait>(&self, rt: &R) {
+        self.lock.pause(rt);
     }
 }
 

@@ -522,15 +522,15 @@ impl<A: Monoid, B: Monoid> Handle<A, B> {
         ensures follows { Follows self.old self.new }
         ensures refused { IfErr result (RefusesCall self.new) }
     {
-        match self.refill(&Waits(rt), obstacle) {
-            Ok(true) => Ok(()),
-            Ok(false) => {
-                self.desk.lock.pause(rt);
-                Ok(())
-            }
-            Err(TryError::Refused(cause)) => Err(cause),
+        let refilled = match self.refill(&Waits(rt), obstacle) {
+            Ok(refilled) => refilled,
+            Err(TryError::Refused(cause)) => return Err(cause),
             Err(TryError::Again(never)) => match never {},
+        };
+        if !refilled {
+            self.desk.pause(rt);
         }
+        Ok(())
     }
 
     // The same, and waits for nobody.

@@ -7,7 +7,7 @@ ghost use Rattle.aug_live.specs.inside.Rolls.{HasEnded, IsBackIn, IsOf, accepted
 
 use crate::end::{End, Out};
 use crate::lane::Lane;
-use crate::tie::{Deal, Leave};
+use crate::tie::{Deal, Keep, Leave};
 use crate::work::start;
 use aug_monoid::Monoid;
 use aug_trie::{Crew, Round};
@@ -50,6 +50,16 @@ impl<A: Monoid, B: Monoid> Model for Emptied<A, B> {
 }
 
 impl<A: Monoid, B: Monoid> Held<A, B> {
+    /// Lets the lane go as it was.
+    pub(crate) fn put_back(self) -> End<A, B>
+        ensures { result ≡ self }
+    {
+        let Held { out, lane } = self;
+        let Out { lock, mut key } = out;
+        lock.put::<Keep>(&mut key, lane);
+        End { lock, key }
+    }
+
     /// Gives the pass back to its crew: the lane without it.
     pub(crate) fn give_back(self, round: &Round<A, B>, crew: &mut Crew<A, B>) -> Emptied<A, B>
         requires together { table_of crew.old.round ≡ round.now }
@@ -62,6 +72,7 @@ impl<A: Monoid, B: Monoid> Held<A, B> {
         ensures round { rounds_in crew.new ≡ rounds_in crew.old }
         ensures handed { crew.new.handed ≡ crew.old.handed }
         ensures counted { crew.new.back ≡ crew.old.back + 1 }
+        ensures free { crew.new.free ≡ crew.old.free }
     {
         let Held { out, lane } = self;
         let (work, rest) = lane.into_work();

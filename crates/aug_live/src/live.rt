@@ -191,12 +191,15 @@ impl<A: Monoid, B: Monoid> Live<A, B> {
         ensures refused { IfErr result (RefusesRoll self.new) }
     {
         for _ in rt.forever() {
-            match self.roll_over(&Waits(rt)) {
-                Ok(true) => return Ok(()),
-                Ok(false) => self.lock.pause(rt),
+            let rolled = match self.roll_over(&Waits(rt)) {
+                Ok(rolled) => rolled,
                 Err(TryError::Refused(cause)) => return Err(cause),
                 Err(TryError::Again(never)) => match never {},
+            };
+            if rolled {
+                return Ok(());
             }
+            self.lock.pause(rt);
         }
         unreachable!()
     }

@@ -185,6 +185,23 @@ pub(crate) fn take_all<W: Patience, A: Monoid, B: Monoid>(
     Ok(())
 }
 
+/// Lets all lanes go that were taken, as they were.
+pub(crate) fn put_all_back<A: Monoid, B: Monoid>(
+    ports: &mut Vec<End<A, B>>,
+    held: &mut Vec<Held<A, B>>,
+)
+    requires room { vec_len ports.old + vec_len held.old ≤ vec_capacity ports.old }
+    ensures same { ports.new.items ++ reverse held.new.items ≡ ports.old.items ++ reverse held.old.items }
+    ensures len { vec_len ports.new + vec_len held.new ≡ vec_len ports.old + vec_len held.old }
+    ensures none { held.new.items ≡ [] }
+    ensures room { vec_capacity ports.new ≡ vec_capacity ports.old }
+    ensures held_room { vec_capacity held.new ≡ vec_capacity held.old }
+{
+    while let Some(one) = held.pop() {
+        ports.push_reserved(one.put_back());
+    }
+}
+
 /// Gives the pass of each lane that was taken back to its crew, from the last lane on.
 pub(crate) fn give_all<A: Monoid, B: Monoid>(
     era: u64,
@@ -208,6 +225,7 @@ pub(crate) fn give_all<A: Monoid, B: Monoid>(
     ensures round { rounds_in crew.new ≡ rounds_in crew.old }
     ensures handed { crew.new.handed ≡ crew.old.handed }
     ensures counted { crew.new.back ≡ crew.old.back + vec_len held.old }
+    ensures free { crew.new.free ≡ crew.old.free }
 {
     held.reverse();
     while let Some(one) = held.pop() {

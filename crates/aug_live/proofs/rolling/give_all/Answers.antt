@@ -34,6 +34,7 @@ loop-one-preserved g c =
       prefix_trans c.args.crew.now.knows.history c.loop-one.crew.knows.history c.give_back.new.crew.knows.history was.8 gave.goes_on,
       took_one c.pop.new.self.items c.loop-one.held.items c.loop-one.idle.items c.push_reserved.new.self.items c.in-Some.one c.give_back.result _ cut c.push_reserved.ensures.items gave.kept was.9,
       gave_one c.args.crew.now.knows.accepted c.loop-one.crew.knows.accepted c.give_back.new.crew.knows.accepted c.loop-one.idle.items c.push_reserved.new.self.items c.give_back.result c.push_reserved.ensures.items gave.changes was.10,
+      gave.free ∙ was.11,
     )
 
 pub returns-clause-kept : goal.returns-clause-kept

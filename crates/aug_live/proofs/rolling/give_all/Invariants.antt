@@ -16,6 +16,7 @@ invariant-loop-one g l =
     × IsPrefix l.fn.crew.knows.history l.crew.knows.history
     × (map kept_of l.held.items ++ map kept_of (reverse l.idle.items) ≡ map kept_of (reverse l.fn.held.items))
     × (l.crew.knows.accepted ≡ l.fn.crew.knows.accepted ++ flat_map accepted_by l.idle.items)
+    × (l.crew.free ≡ l.fn.crew.free)
 
 abbrev pub decreases-loop-one : goal.decreases-loop-one
 decreases-loop-one g l = vec_len l.held

@@ -1,9 +1,9 @@
 -- What the test of two passes on one node needs: a table of 1 bit has the leaves 0 and 1, and the node 2 over them.
-use Rattle.std.proofs.Common.{◌≡◌, ◌≢◌, ℕ, Bool, true, false, ◌+◌, ◌*◌, ◌/◌, ◌%◌, ◌^◌, ◌<◌, ◌≤◌, eqb, eq-eqb, ne_eqb, if◌then◌else◌, List, [], ◌∷◌, ◌++◌, length, get_or, refl, sym, ap, ◌∙◌, subst, arith}
+use Rattle.std.proofs.Common.{◌≡◌, ◌≢◌, ℕ, Bool, true, false, ◌+◌, ◌-◌, ◌*◌, ◌/◌, ◌%◌, ◌^◌, ◌<◌, ◌≤◌, eqb, eq-eqb, ne_eqb, if◌then◌else◌, List, [], ◌∷◌, ◌++◌, length, get_or, refl, sym, ap, ◌∙◌, subst, arith}
 use Rattle.aug_core.specs.Places.{Shape, shape_of, own_records}
-use Rattle.aug_core.specs.Addresses.{IsInner}
+use Rattle.aug_core.specs.Addresses.{IsInner, left_of, right_of}
 use Rattle.aug_core.specs.Lanes.{IsOfLane, block_size}
-use Rattle.aug_core.specs.Book.{IsSerial, IsBook}
+use Rattle.aug_core.specs.Book.{IsSerial, IsBook, IsNewest}
 use Rattle.aug_core.specs.inside.Refreshes.{HasNewest, SaysLoaded}
 use Rattle.aug_core.specs.Effects.{MayStore, TriesLeaf, LoadsLeaf, BeginsAtLeaf, LoadsNode, IsFilled}
 use Rattle.aug_core.specs.declared.view.Entry.{Entry}
@@ -26,8 +26,8 @@ no_own = refl
 pub first_lane : (lane n : ℕ) → 1 + lane * 1 ≤ n → n < 2 + lane * 1 → IsOfLane small lane n
 first_lane lane n low high = let own = no_own in record { from_first = omega arith; below_next = omega arith }
 
-pub node_inner : IsInner small 2
-node_inner = record { past_leaves = omega arith; inside = omega arith }
+pub node_inner : (s : Shape) → s.bits ≡ 1 → IsInner s 2
+node_inner s one = let e : 2 ^ s.bits ≡ 2 = ap (λ (b : ℕ). 2 ^ b) one in let f : 2 ^ (s.bits + 1) ≡ 4 = ap (λ (b : ℕ). 2 ^ (b + 1)) one in record { past_leaves = omega arith; inside = omega arith }
 
 -- the pairs below a leaf of this word: its key with the weight in the lower half, where the serial in the upper half is odd
 abbrev pub there : ℕ → ℕ → List (ℕ × ℕ)
@@ -89,51 +89,48 @@ module _ (face : ℕ → ℕ → List (ℕ × ℕ) → List ℕ) (v w : SeatView
     pub stores_on : (number : ℕ) → MayStore v number → MayStore x number
     stores_on number own = may_store_tried face w x key may.advance tried.found number told (may_store_same v w number (ap (λ (z : SeatView). z.shape) began.stepped) (ap (λ (z : SeatView). z.held) began.stepped) own)
 
-module _ (face : ℕ → ℕ → List (ℕ × ℕ) → List ℕ) (v v1 v2 v3 : SeatView) (from left right : ℕ) (shaped : v.shape ≡ small) (node : LoadsNode face v 2 from v1) (at_left : LoadsLeaf face v1 0 left v2) (at_right : LoadsLeaf face v2 1 right v3) where
-  shape1 : v1.shape ≡ small
-  shape1 = ap (λ (z : SeatView). z.shape) node.stepped ∙ shaped
+module _ (face : ℕ → ℕ → List (ℕ × ℕ) → List ℕ) (v v1 v2 v3 : SeatView) (from left right : ℕ) (one : v.shape.bits ≡ 1) (node : LoadsNode face v 2 from v1) (at_left : LoadsLeaf face v1 0 left v2) (at_right : LoadsLeaf face v2 1 right v3) where
+  shape1 : v1.shape ≡ v.shape
+  shape1 = ap (λ (z : SeatView). z.shape) node.stepped
 
-  shape2 : v2.shape ≡ small
+  shape2 : v2.shape ≡ v.shape
   shape2 = ap (λ (z : SeatView). z.shape) at_left.stepped ∙ shape1
 
-  pub shape3 : v3.shape ≡ small
+  pub shape3 : v3.shape ≡ v.shape
   shape3 = ap (λ (z : SeatView). z.shape) at_right.stepped ∙ shape2
 
   pub same_lane : v3.held ≡ v.held
   same_lane = ap (λ (z : SeatView). z.held) at_right.stepped ∙ ap (λ (z : SeatView). z.held) at_left.stepped ∙ ap (λ (z : SeatView). z.held) node.stepped
 
   pub still_stores : (number : ℕ) → MayStore v number → MayStore v3 number
-  still_stores number may = may_store_same v v3 number (shape3 ∙ sym shaped) same_lane may
+  still_stores number may = may_store_same v v3 number shape3 same_lane may
 
-  book1 : IsBook face small v1.seen
-  book1 = subst (λ (z : Shape). IsBook face z v1.seen) shaped node.sees.book
-
-  book2 : IsBook face small v2.seen
+  book2 : IsBook face v.shape v2.seen
   book2 = subst (λ (z : Shape). IsBook face z v2.seen) shape1 at_left.sees.book
 
-  book3 : IsBook face small v3.seen
+  book3 : IsBook face v.shape v3.seen
   book3 = subst (λ (z : Shape). IsBook face z v3.seen) shape2 at_right.sees.book
 
   abbrev has_node : HasNewest v1.seen 2 from
-  has_node = record { index = node.index; entry = node.entry; newest = node.newest; named = book1.named 2 node.index node.entry node_inner node.newest.at ∙ sym node.found; shown = node.shown }
+  has_node = record { index = node.index; entry = node.entry; newest = node.newest; named = node.sees.book.named 2 node.index node.entry (node_inner v.shape one) node.newest.at ∙ sym node.found; shown = node.shown }
 
   -- five words over the two leaves may be published
   module _ (five : List ℕ) (are : five ≡ face left right (there 0 left ++ there 1 right)) (first : get_or five 0 0 ≡ left) (second : get_or five 1 0 ≡ right) where
-    abbrev has_left : HasNewest v2.seen 0 (get_or five 0 0)
-    has_left = record { index = at_left.index; entry = at_left.entry; newest = at_left.newest; named = sym at_left.found ∙ sym first; shown = at_left.shown }
+    abbrev has_left : HasNewest v2.seen (left_of v.shape 2) (get_or five 0 0)
+    has_left = record { index = at_left.index; entry = at_left.entry; newest = subst (λ (q : ℕ). IsNewest v2.seen q at_left.index at_left.entry) (λ i. 2 * (2 - 2 ^ sym one i)) at_left.newest; named = sym at_left.found ∙ sym first; shown = at_left.shown }
 
-    abbrev has_right : HasNewest v3.seen 1 (get_or five 1 0)
-    has_right = record { index = at_right.index; entry = at_right.entry; newest = at_right.newest; named = sym at_right.found ∙ sym second; shown = at_right.shown }
+    abbrev has_right : HasNewest v3.seen (right_of v.shape 2) (get_or five 1 0)
+    has_right = record { index = at_right.index; entry = at_right.entry; newest = subst (λ (q : ℕ). IsNewest v3.seen q at_right.index at_right.entry) (λ i. 2 * (2 - 2 ^ sym one i) + 1) at_right.newest; named = sym at_right.found ∙ sym second; shown = at_right.shown }
 
     below_left : at_left.entry.pairs ≡ there 0 left
-    below_left = there_is 0 at_left.index left at_left.entry (book2.serials 0 at_left.index at_left.entry (omega arith) at_left.newest.at) (sym at_left.found)
+    below_left = let e : 2 ^ v.shape.bits ≡ 2 = ap (λ (b : ℕ). 2 ^ b) one in there_is 0 at_left.index left at_left.entry (book2.serials 0 at_left.index at_left.entry (omega arith) at_left.newest.at) (sym at_left.found)
 
     below_right : at_right.entry.pairs ≡ there 1 right
-    below_right = there_is 1 at_right.index right at_right.entry (book3.serials 1 at_right.index at_right.entry (omega arith) at_right.newest.at) (sym at_right.found)
+    below_right = let e : 2 ^ v.shape.bits ≡ 2 = ap (λ (b : ℕ). 2 ^ b) one in there_is 1 at_right.index right at_right.entry (book3.serials 1 at_right.index at_right.entry (omega arith) at_right.newest.at) (sym at_right.found)
 
-    says : SaysLoaded face small v3.seen 2 from five
+    says : SaysLoaded face v.shape v3.seen 2 from five
     says = record {
-      is_loaded = is_loaded face small v1.seen v2.seen v3.seen v3.seen 2 from (get_or five 0 0) (get_or five 1 0) node_inner at_left.sees.later at_right.sees.later (book_refl v3.seen) has_node has_left has_right book1;
+      is_loaded = is_loaded face v.shape v1.seen v2.seen v3.seen v3.seen 2 from (get_or five 0 0) (get_or five 1 0) (node_inner v.shape one) at_left.sees.later at_right.sees.later (book_refl v3.seen) has_node has_left has_right node.sees.book;
       left_named = has_left.named;
       right_named = has_right.named;
       five_are = are ∙ (λ i. face (sym first i) (sym second i) (sym below_left i ++ sym below_right i));

@@ -6,6 +6,8 @@ mod assertions;
 #[cfg(test)]
 mod opening;
 #[cfg(test)]
+mod reading;
+#[cfg(test)]
 mod reopening;
 #[cfg(test)]
 mod replacing;

@@ -4,7 +4,7 @@ ghost use Rattle.aug_core.specs.Places.{record_count};
 ghost use Rattle.aug_model.specs.Keys.{IsKeySet, keys_of};
 ghost use Rattle.aug_monoid.specs.Weighted.{FitsPair};
 
-use super::tables::{WordsOf, record_at};
+use super::tables::{WordsOf, next_era, record_at};
 use crate::assertions::equal;
 use aug_core::Layout;
 use aug_words::Rest;
@@ -31,8 +31,8 @@ fn opened_twice_again(
     lead.prepare(&words, 7);
     equal(rt, lead.prepare(&words, 100), true);
     equal(rt, lead.prepare(&words, 0), true);
-    let lead = words.open_again(lead);
-    let lead = words.open_again(lead);
+    let lead = next_era(rt, &words, lead, 0);
+    let lead = next_era(rt, &words, lead, 0);
     Ok(words.close(lead))
 }
 

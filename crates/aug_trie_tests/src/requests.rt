@@ -1,6 +1,6 @@
-//! How often rounds ask for memory. The number stands in a test's name: `tests/faults` counts. An empty trie asks three times, for its
-//! words while they are made, and for the two rows of its table (one row is empty), and so does a round over no members. A round over some members asks
-//! once more, for their list. Nothing else asks except a list, once.
+//! How often rounds ask for memory. The number stands in a test's name: `tests/faults` counts. An empty trie asks four times, for its
+//! words while they are made, for the counts of its readers, and for the two rows of its table (one row is empty), and so does a round over no members. A
+//! round over some members asks once more, for their list. Nothing else asks except a list, once.
 use super::rounds::Trie;
 use super::rows::{rows, rows_over};
 use crate::assertions::equal;
@@ -16,7 +16,7 @@ use aug_trie_testing::rows::Way::*;
 use aug_trie_testing::rows::{Line, Numbers, Way};
 
 #[test]
-fn an_empty_trie_asks_3_times_for_memory(rt: HostRuntime) -> Result<(), BeginError> {
+fn an_empty_trie_asks_4_times_for_memory(rt: HostRuntime) -> Result<(), BeginError> {
     let mut ended: Trie = Ended::empty(rt.alloc(), 4)?;
     equal(&rt, (ended.bits(), size(&mut ended)), (4, 0));
     Ok(())
@@ -25,7 +25,7 @@ fn an_empty_trie_asks_3_times_for_memory(rt: HostRuntime) -> Result<(), BeginErr
 const NO_MEMBERS: &[Line] = &[Round(Begin, (4, 3, 5), 0), Rest(Counts, Counted(0, 0, 0))];
 
 #[test]
-fn a_round_with_no_members_asks_6_times_for_memory(rt: HostRuntime) -> Result<(), BeginError> {
+fn a_round_with_no_members_asks_8_times_for_memory(rt: HostRuntime) -> Result<(), BeginError> {
     rows(&rt, NO_MEMBERS)
 }
 
@@ -59,7 +59,7 @@ fn behind_two(rt: &impl Host, lines: &[Line]) -> Result<(), BeginError> {
 }
 
 #[test]
-fn a_round_of_updates_and_queries_asks_6_times_for_memory(
+fn a_round_of_updates_and_queries_asks_8_times_for_memory(
     rt: HostRuntime,
 ) -> Result<(), BeginError> {
     behind_two(&rt, &[End(2, (3, 1, 0))])
@@ -81,12 +81,12 @@ fn second(way: Way, numbers: Numbers) -> [Line; 9] {
 }
 
 #[test]
-fn a_second_round_over_members_asks_10_times_for_memory(rt: HostRuntime) -> Result<(), BeginError> {
+fn a_second_round_over_members_asks_13_times_for_memory(rt: HostRuntime) -> Result<(), BeginError> {
     behind_two(&rt, &second(Begin, (4, 64, 1)))
 }
 
 #[test]
-fn a_round_over_a_list_asks_10_times_for_memory(rt: HostRuntime) -> Result<(), BeginError> {
+fn a_round_over_a_list_asks_13_times_for_memory(rt: HostRuntime) -> Result<(), BeginError> {
     behind_two(&rt, &second(OverList, (4, 1, 2)))
 }
 
@@ -96,7 +96,7 @@ const LISTS_AT_REST: &[Line] = &[
 ];
 
 #[test]
-fn two_lists_of_a_trie_at_rest_ask_8_times_for_memory(rt: HostRuntime) -> Result<(), BeginError> {
+fn two_lists_of_a_trie_at_rest_ask_10_times_for_memory(rt: HostRuntime) -> Result<(), BeginError> {
     behind_two(&rt, LISTS_AT_REST)
 }
 
@@ -107,6 +107,6 @@ const LISTS: &[Line] = &[
 ];
 
 #[test]
-fn two_lists_of_a_snapshot_ask_12_times_for_memory(rt: HostRuntime) -> Result<(), BeginError> {
+fn two_lists_of_a_snapshot_ask_15_times_for_memory(rt: HostRuntime) -> Result<(), BeginError> {
     behind_two(&rt, LISTS)
 }

@@ -1,8 +1,7 @@
-use Rattle.std.proofs.Common.{arith, ap, ◌≡◌, ◌≤◌, ◌^◌, length}
+use Rattle.std.proofs.Common.{arith}
 use Rattle.aug_model.specs.Keys.{keys_of}
 use Rattle.aug_model.proofs.Boundaries.{IsKeySet-few}
 use Rattle.aug_model.proofs.Pairs.{length-keys_of}
-use Rattle.aug_core.specs.Places.{Shape}
 use Rattle.aug_words_tests.proofs.reopening.opened_twice_again.Goals as goal
 
 pub open-requires-clause-few : goal.open-requires-clause-few

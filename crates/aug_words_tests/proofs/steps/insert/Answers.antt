@@ -1,6 +1,5 @@
 use Rattle.std.proofs.Common.{arith, ℕ, sym, subst, ◌∙◌, ◌^◌, ◌<◌}
 use Rattle.aug_core.specs.Faces.{face}
-use Rattle.aug_core.specs.Places.{Shape}
 use Rattle.aug_words_tests.proofs.StepTests.{may_insert, shape_stays, stores_on}
 use Rattle.aug_words_tests.proofs.steps.insert.Goals as goal
 

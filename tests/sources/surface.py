@@ -15,7 +15,8 @@ import textwrap
 from sources import TOP, calls, files, ghosts, read
 
 # The calls without a clause, each with its reason.
-UNTOLD = {"before of Gate": "no clause sees when a row runs; tests do", "after of Gate": "as before"}
+UNTOLD = {"before of Gate": "no clause sees when a row runs; tests do", "after of Gate": "as before",
+          "pause of RuledLock": "nothing is learnt by a sleep"}
 
 LIST = "tests/sources/surface.txt"
 HEAD = """# Public calls

@@ -67,8 +67,8 @@ fn weight_by_word(key: u32, word: u64) -> Option<u32>
     None
 }
 
-/// Two snapshots of a pass or of a reader, while its words are taken out. The nodes of both at a level and a place are named by the words that their parents' records
-/// have for them: where these are equal, all that is below is the same. A call for children loads one word of each tree.
+/// Two snapshots of a pass or of a reader, while its words are taken out. The nodes of both at a level and a place are named by the words that their
+/// parents' records have for them: where these are equal, all that is below is the same. A call for children loads one word of each tree.
 #[derive(Drop)]
 pub(crate) struct BothWalk<W: RecordWords, A: Monoid, B: Monoid> {
     words: W,

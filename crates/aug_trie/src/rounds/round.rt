@@ -216,8 +216,9 @@ impl<A: Monoid, B: Monoid> Round<A, B> {
     }
 
     /// Ends the round, to which all passes have come back, and begins the next over its set, in the same memory and with the same
-    /// numbers, where nobody reads (`Crew::may_renew`). Readers that are out read on. What `Crew::prepare` has left to do is done first. Returns the crew of the next round, and how many keys the round that ended put in and
-    /// took out. The call takes no memory and has no refusal.
+    /// numbers, where nobody reads (`Crew::may_renew`). Readers that are out read on. What `Crew::prepare` has left to do is done first.
+    /// Returns the crew of the next round, and how many keys the round that ended put in and took out. The call takes no memory and has
+    /// no refusal.
     pub fn renew(&self, crew: Crew<A, B>) -> (Crew<A, B>, u32, u32)
         requires together { table_of crew.round ≡ self.now }
         requires all_back { crew.back ≡ crew.handed }

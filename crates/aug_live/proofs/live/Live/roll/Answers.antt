@@ -1,5 +1,5 @@
 use Rattle.std.specs.Prelude.{Ok}
-use Rattle.std.proofs.Common.{Unit, refl}
+use Rattle.std.proofs.Common.{refl}
 use Rattle.aug_live.proofs.Counted.{rolls_on}
 use Rattle.aug_live.proofs.Lanes.{keeps_on, keeps_self}
 use Rattle.aug_live.proofs.live.Live.roll.Goals as goal

@@ -205,7 +205,7 @@ impl<A: Monoid, B: Monoid> Live<A, B> {
     }
 
     /// The same, and waits for nobody: `Again` if somebody has the desk, or another handle is in a call or holds a look. The lanes that it took then
-    /// stay taken until the round has rolled over, which whoever comes to one of them tries.
+    /// stay taken until the round has rolled over, which whoever comes to one of them tries. With `Busy::Look` none stays taken.
     pub fn try_roll(&mut self) -> Result<(), TryError<Busy>>
         ensures goes_on { KeepsHandles self.old self.new }
         ensures rolls { IfOk result (λ _. length self.old.rounds.past < length self.new.rounds.past) }

@@ -184,8 +184,8 @@ impl<A: Monoid, B: Monoid> Lead<A, B> {
             .aim(&mut self.parts, words.layout.words() as usize)
     }
 
-    /// Takes a reader back for which the lead answers: one that a pass of an earlier or of the present era lent, and did not take back before the lead took it in.
-    /// Any other reader comes back, and so does each while 2^32 - 1 and more are out in its part.
+    /// Takes a reader back for which the lead answers: one that a pass of this or an earlier era lent, and did not take back before the lead took the
+    /// pass in. Any other reader comes back, and so does each while 2^32 - 1 and more are out in its part.
     pub fn take(
         &mut self,
         words: &Words<A, B>,

@@ -13,9 +13,9 @@ use aug_core::{Lend, LoadAnyRecord, RecordField, SeatView, TakeReader};
 use aug_monoid::Monoid;
 use std::marker::{Model, PhantomData};
 
-/// A seat without a lane. It loads words of the records that its lender had seen for as long as it lives, beside all passes, and also once its era is over:
-/// where it reads, nothing is laid out for a later era until it was taken back. It names no lifetime, so a closure may own it. One that is dropped is never
-/// taken back.
+/// A seat without a lane. It loads words of the records that its lender had seen for as long as it lives, beside all passes, and also once its era is
+/// over: where it reads, nothing is laid out for a later era until it was taken back. It names no lifetime, so a closure may own it. One that is dropped
+/// is never taken back.
 #[derive(Drop)]
 pub struct WordReader<A: Monoid, B: Monoid> {
     pub(crate) seat: Seat<(), SeatView>,
@@ -54,8 +54,8 @@ impl<A: Monoid, B: Monoid> WordReader<A, B> {
 }
 
 impl<'r, A: Monoid, B: Monoid> WordPass<'r, A, B> {
-    /// Lends a reader, which has seen what the pass has seen. As many may be out as the caller likes. To lend it and to take it back costs a load of the table's
-    /// first word, which tells nothing.
+    /// Lends a reader, which has seen what the pass has seen. As many may be out as the caller likes. To lend it and to take it back costs a load of the
+    /// table's first word each, which tells nothing.
     pub fn lend(&mut self) -> WordReader<A, B>
         ensures table { self.new.table ≡ self.old.table }
         ensures lends { self.new.view ≡ lending self.old.view }

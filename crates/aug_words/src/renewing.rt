@@ -36,9 +36,9 @@ fn reopen<A: Monoid, B: Monoid>(
 }
 
 impl<A: Monoid, B: Monoid> Words<A, B> {
-    /// Ends the era, once all passes that its lead handed out are back, and opens the table again, in its other part, over the set of the last cut that
-    /// the lead knows. It has room for all keys. The lead hands out all lanes anew. What [`Lead::prepare`] has left to do is done first, and what is right already
-    /// is not stored. Then a load of the first word of that part opens it. The call takes no memory. Readers that are out read on.
+    /// Ends the era, once all passes that its lead handed out are back, and opens the table again, in another part, over the set of the last cut that
+    /// the lead knows. It has room for all keys. The lead hands out all lanes anew. What [`Lead::prepare`] has left to do is done first, and what is right
+    /// already is not stored. Then a load of the first word of that part opens it. The call takes no memory. Readers that are out read on.
     pub fn open_again(&self, lead: Lead<A, B>) -> Lead<A, B>
         requires together { AreTogether self.now lead }
         requires room { 2 ^ self.now.shape.bits ≤ self.now.shape.members }

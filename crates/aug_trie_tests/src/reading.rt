@@ -94,7 +94,7 @@ fn taken(round: &RoundOf, crew: &mut CrewOf, lent: Lent) -> Result<(), Lent>
         first,
         second,
     } = lent;
-    match crew.take(round, reader) {
+    match crew.take_reader(round, reader) {
         Ok(()) => Ok(()),
         Err(reader) => Err(Lent {
             reader,

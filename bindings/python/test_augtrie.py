@@ -781,9 +781,10 @@ def interrupted(trie, call):
         held()
 
 
-def longest_updates(seconds, read, update, yardstick):
-    """The longest times that an update and a yardstick took, one of these after ten of those, while three threads read again and again."""
-    end, longest = time.monotonic() + seconds, [0, 0]
+def waits_of_updates(seconds, read, update, yardstick):
+    """How long nine of ten of those updates took at most that took over a millisecond, and the longest yardstick, one of these after ten of those, while
+    three threads read again and again."""
+    end, took = time.monotonic() + seconds, ([0], [0])
 
     def read_on():
         while time.monotonic() < end:
@@ -794,20 +795,21 @@ def longest_updates(seconds, read, update, yardstick):
         for at in [0] * 10 + [1]:
             begin = time.monotonic()
             (update, yardstick)[at]()
-            longest[at] = max(longest[at], time.monotonic() - begin)
+            took[at].append(time.monotonic() - begin)
     assert ended() == [None] * 3
-    return longest
+    waits = sorted(it for it in took[0] if it > 0.001) or [0]
+    return waits[len(waits) * 9 // 10], max(took[1])
 
 
 def is_made_in_time(read, update, yardstick):
-    """Whether the longest update takes little longer than the longest yardstick, which says for how long a thread stands still on this machine. The
+    """Whether updates that wait take little longer than the longest yardstick, which says for how long a thread stands still on this machine. The
     best of some measurements counts, each twice as long as the one before it. One that is no longer than twice what is allowed says nothing, since an
     update that waits is made when it ends. What was measured follows."""
     told = []
     for seconds in (1, 2, 4, 8, 16):
-        longest, longest_yardstick = longest_updates(seconds, read, update, yardstick)
-        told.append((seconds, longest, longest_yardstick))
-        if longest <= 0.1 + 4 * longest_yardstick <= seconds / 2:
+        waited, longest_yardstick = waits_of_updates(seconds, read, update, yardstick)
+        told.append((seconds, waited, longest_yardstick))
+        if waited <= 0.1 + 4 * longest_yardstick <= seconds / 2:
             return True, told
     return False, told
 

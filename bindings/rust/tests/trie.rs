@@ -725,13 +725,13 @@ fn looks_agree_and_never_go_back_while_others_fill_the_table() -> Result<(), Err
     Ok(())
 }
 
-/// The longest times that an update took within a time, while three threads looked for a millisecond each, with no pause in between: of a trie, and of
-/// another one that nobody else has, by a thread that gives its processor away as one does that waits.
-fn longest_updates(length: Duration) -> Result<(Duration, Duration), Error> {
+/// How long nine of ten of those updates took at most within a time that took over a millisecond, while three threads looked for a millisecond each, with no
+/// pause in between; and how long the longest one took of another trie that nobody else has, by a thread that gives its processor away as one does that waits.
+fn waits_of_updates(length: Duration) -> Result<(Duration, Duration), Error> {
     let (trie, other) = (small(4, 4), small(4, 1));
     let end = Instant::now() + length;
     let (mut user, mut alone) = (trie.user()?, other.user()?);
-    let (mut longest, mut longest_alone) = (Duration::ZERO, Duration::ZERO);
+    let (mut waits, mut longest_alone) = (Vec::new(), Duration::ZERO);
     thread::scope(|scope| {
         for _ in 0..3 {
             let mut reader = trie.user()?;
@@ -746,14 +746,15 @@ fn longest_updates(length: Duration) -> Result<(Duration, Duration), Error> {
             for _ in 0..100 {
                 let begin = Instant::now();
                 user.add(3, 1)?;
-                longest = longest.max(begin.elapsed());
+                waits.extend(Some(begin.elapsed()).filter(|took| *took > Duration::from_millis(1)));
             }
             let begin = Instant::now();
             thread::yield_now();
             alone.add(3, 1)?;
             longest_alone = longest_alone.max(begin.elapsed());
         }
-        Ok((longest, longest_alone))
+        waits.sort();
+        Ok((waits.get(waits.len() * 9 / 10).copied().unwrap_or(Duration::ZERO), longest_alone))
     })
 }
 
@@ -764,14 +765,14 @@ fn an_update_does_not_wait_long_for_those_that_look_again_and_again() -> Result<
     let mut told = Vec::new();
     for turn in 0..5 {
         let length = Duration::from_secs(1 << turn);
-        let (longest, alone) = longest_updates(length)?;
+        let (waited, alone) = waits_of_updates(length)?;
         let limit = Duration::from_millis(100) + 4 * alone;
-        if longest <= limit && limit <= length / 2 {
+        if waited <= limit && limit <= length / 2 {
             return Ok(());
         }
-        told.push((length, longest, alone));
+        told.push((length, waited, alone));
     }
-    panic!("by the lengths of measurements, updates took, and one with nobody beside it: {told:?}");
+    panic!("by the lengths of measurements, nine of ten updates that waited took, and one with nobody beside it: {told:?}");
 }
 
 #[test]

@@ -7,7 +7,7 @@
 #include <string.h>
 
 // With so many bytes the table is not nearly full before all is done, so that no piece of the next round is laid out.
-enum { KEYS = 65536, BYTES = 1 << 27 };
+enum { KEYS = 65536, BYTES = 3 << 26 };
 
 static uint32_t half(uint32_t i) { return i * 20011u % (KEYS / 2); }
 static uint32_t key(uint32_t i) { return i * 40503u % KEYS; }

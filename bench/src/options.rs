@@ -5,7 +5,7 @@ use std::path::PathBuf;
 use std::time::Duration;
 
 /// In so many bytes each table has room for 64 updates of each thread, for as many threads as may be.
-pub const LEAST_BYTES: u64 = 13 << 20;
+pub const LEAST_BYTES: u64 = 19 << 20;
 
 /// What the command line asks for.
 pub struct Options {
@@ -29,7 +29,7 @@ usage: bench/run [OPTION..]
   --into FOLDER       where throughput.md goes, and throughput.svg by bench/picture (bench/out if not given)
   --passes N          how often each engine gets its turn (9)
   --slice MS          how long a turn is, in milliseconds (100); where threads are put aside, it is ten times as long
-  --bytes N           what the table of the trie may take, 13631488 to 536870912 (16777216)
+  --bytes N           what the table of the trie may take, 19922944 to 805306368 (25165824)
   --workload NAME     updates, tenth, queries, batches, suspended or crowded alone
   --threads N         so many threads alone, and not 1, 2 and 4; where threads are put aside, there are 4 or 16 all the same
   --check             compares the answers of all engines, and measures nothing
@@ -52,7 +52,7 @@ impl Options {
             renamed: None,
             passes: 9,
             slice: Duration::from_millis(100),
-            bytes: 1 << 24,
+            bytes: 3 << 23,
             workloads: Workload::ALL.into(),
             threads: vec![1, 2, 4],
             asides: Aside::ALL.into(),
@@ -87,7 +87,7 @@ impl Options {
                 "--rename" => options.renamed = Some((number()? as usize, words.next()?.parse().ok()?)),
                 "--passes" => options.passes = number().filter(|&it| it > 0)? as usize,
                 "--slice" => options.slice = Duration::from_millis(number().filter(|&it| it > 0)?.into()),
-                "--bytes" => options.bytes = number().map(u64::from).filter(|it| (LEAST_BYTES..=1 << 29).contains(it))?,
+                "--bytes" => options.bytes = number().map(u64::from).filter(|it| (LEAST_BYTES..=3 << 28).contains(it))?,
                 "--workload" => options.choose(&value)?,
                 "--threads" => options.threads = vec![number().filter(|it| (1..=64).contains(it))? as usize],
                 "--into" => options.into = value.into(),

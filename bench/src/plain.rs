@@ -63,7 +63,7 @@ impl<O: Orders> Engine for Plain<O> {
 
     fn new(threads: usize, bytes: u64) -> Plain<O> {
         let lanes = (0..threads).map(|_| Lane::default()).collect();
-        let mut plain = Plain { table: room(bytes / 2), next: AtomicU64::new(0), lanes, orders: PhantomData };
+        let mut plain = Plain { table: room(bytes / 3), next: AtomicU64::new(0), lanes, orders: PhantomData };
         plain.next = plain.words().open().into();
         plain
     }

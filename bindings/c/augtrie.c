@@ -22,7 +22,6 @@ int64_t aug_try_user_open(struct handle *trie, aug_user *user);
 int64_t aug_try_tend(struct handle *trie);
 int64_t aug_try_close(struct handle *trie, aug_report *report);
 int64_t aug_user_free(aug_user *user);
-int64_t aug_try_look_again(aug_user *user);
 int64_t aug_try_look_done(aug_user *user);
 int64_t aug_try_has(aug_user *user, uint32_t key);
 int64_t aug_try_weight(aug_user *user, uint32_t key);
@@ -59,12 +58,12 @@ const char *aug_error_text(int64_t code) {
         case AUG_NO_MEMORY: return "a request for memory was refused";
         case AUG_BAD_BITS: return "the bits are outside 1 to 16";
         case AUG_BAD_USERS: return "the users are outside 1 to 64";
-        case AUG_TOO_LARGE: return "the bytes are too few for these bits and users, or more than 2^30";
+        case AUG_TOO_LARGE: return "the bytes are too few for these bits and users, or more than 3 * 2^29";
         case AUG_NO_USER: return "all users of the trie are open";
         case AUG_OPEN: return "the handle is open already";
         case AUG_BAD_LENGTH: return "an array is missing or too short, or longer than there are keys or than memory";
-        case AUG_LOOKING: return "the user holds a look";
-        case AUG_NOT_LOOKING: return "the user holds no look";
+        case AUG_LOOKING: return "the user has a look already";
+        case AUG_NOT_LOOKING: return "the user has no look";
         case AUG_TOO_GREAT: return "the weight and the amount together are no weight of 32 bits";
         case AUG_TOO_LITTLE: return "the key is no member, or weighs less than the amount";
         default: return code < 0 ? "no code of this library" : "no refusal";
@@ -80,7 +79,7 @@ struct shared {
     unsigned idle_count;
     unsigned owners;               /* the trie's handle and each open user */
     uint32_t bits;                 /* of its keys; never changed */
-    atomic_uint waiting;           /* how many calls, and users by aug_wait_begin, wait until others have ended their calls and looks */
+    atomic_uint waiting;           /* how many calls, and users by aug_wait_begin, wait until others have ended their calls, or old looks */
 };
 
 /* What an open handle of a trie begins with, and what that of a user does. The proved calls have the same marks, so they open nothing over
@@ -228,7 +227,7 @@ int64_t aug_tend(aug_trie *trie) {
     return code;
 }
 
-/* Closes the trie with the lock held, unless a user is in a call or holds a look. */
+/* Closes the trie with the lock held, unless a user is in a call. */
 static int64_t try_close(struct shared *s, aug_report *report) {
     pthread_mutex_lock(&s->lock);
     int64_t code = aug_try_close(&s->trie, report);
@@ -278,7 +277,7 @@ static SELDOM int64_t slept(void) {
 int64_t aug_look_done(aug_user *user) {
     if (!user) return AUG_CLOSED;
     int64_t code = aug_try_look_done(user);
-    /* Whoever waits has to come while there is no look, and who looks again and again would leave them no time. */
+    /* Whoever waits may wait for this look, and goes on before this thread does. */
     if (code == AUG_OK && atomic_load(&((struct shared *)user->of)->waiting)) return slept();
     return code;
 }
@@ -292,10 +291,12 @@ static SELDOM int64_t remove_at_last(aug_user *user, uint32_t key, aug_told *tol
 static SELDOM int64_t put_at_last(aug_user *user, uint32_t key, uint32_t weight, aug_told *told) { AT_LAST(aug_try_put(user, key, weight, told)); }
 static SELDOM int64_t room_at_last(aug_user *user) { AT_LAST(aug_try_room(user)); }
 static SELDOM int64_t look_at_last(aug_user *user) { AT_LAST(aug_try_look(user)); }
+static SELDOM int64_t look_again_at_last(aug_user *user) { AT_LAST(aug_try_look_again(user)); }
 
 int64_t aug_insert(aug_user *user, uint32_t key) { OF_USER(aug_try_insert(user, key), insert_at_last(user, key)); }
 int64_t aug_room(aug_user *user) { OF_USER(aug_try_room(user), room_at_last(user)); }
 int64_t aug_look(aug_user *user) { OF_USER(aug_try_look(user), look_at_last(user)); }
+int64_t aug_look_again(aug_user *user) { OF_USER(aug_try_look_again(user), look_again_at_last(user)); }
 
 int64_t aug_remove(aug_user *user, uint32_t key, aug_told *told) {
     aug_told unwanted;
@@ -337,7 +338,6 @@ int64_t aug_pop_last(aug_user *user, aug_member *member) {
     OF_CHANGE(aug_try_pop_last(user, member ? member : &unwanted));
 }
 
-int64_t aug_look_again(aug_user *user) { return user ? aug_try_look_again(user) : AUG_CLOSED; }
 int64_t aug_has(aug_user *user, uint32_t key) { return user ? aug_try_has(user, key) : AUG_CLOSED; }
 int64_t aug_weight(aug_user *user, uint32_t key) { return user ? aug_try_weight(user, key) : AUG_CLOSED; }
 int64_t aug_size(aug_user *user) { return user ? aug_try_size(user) : AUG_CLOSED; }
@@ -374,10 +374,10 @@ static int64_t refuses(aug_user *user, const void *keys, size_t n, const void *o
 static uint64_t nowhere;
 #define ARRAY(places) ((places) ? (places) : (void *)&nowhere)
 
-/* What an update of no keys answers: that is no call on the trie, so a look says if the trie is closed. */
+/* What an update of no keys answers: that is no call on the trie, so another one says if the trie is closed. */
 static int64_t of_no_keys(aug_user *user) {
-    int64_t code = aug_look(user);
-    return code == AUG_OK ? aug_try_look_done(user) : code;
+    int64_t left = aug_room(user);
+    return left < 0 ? left : AUG_OK;
 }
 
 /* A call for an array that is made again, and goes on from where it came to, until all is done. */

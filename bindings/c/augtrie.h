@@ -5,7 +5,7 @@
  * and stays open for as many updates as they like.
  *
  *   aug_trie t = AUG_ZEROED;               the handle of a trie
- *   aug_open(&t, 12, 4, 1 << 20);          the empty trie for keys below 4096 and 4 users, with a table of at most 2^20 bytes
+ *   aug_open(&t, 12, 4, 1 << 21);          the empty trie for keys below 4096 and 4 users, with a table of at most 2^21 bytes
  *   aug_user u = AUG_ZEROED;
  *   aug_user_open(&t, &u);                 a user, for one thread at a time
  *   aug_insert(&u, 7);
@@ -15,12 +15,15 @@
  *
  * What a user sees of others. All updates of a trie are in one order. A look shows the set after a part of them: after its user's own so
  * far, and all that this user has seen before, so that no look goes back. That the updates of others which have returned are in it too is
- * proved on paper for the algorithm, and tested, but not proved of this code. A look stays as it is until it is done or taken again.
- * What waits for whom. Most calls wait for nobody. When the table is full, an update or look begins a new round of it, which waits for the
- * update that each other user is in and for each look; others wait for that. So end looks soon. The calls aug_try_.. never wait, and
- * answer AUG_AGAIN where the others would; these call again, and yield or sleep in between. Whoever calls again himself says so by
- * aug_wait_begin, or others who look again and again may leave him no time. aug_close waits for updates and looks too. A user that holds
- * no look and is in no call holds nobody up, nor does one whose thread ended so. aug_user_open, aug_user_close, aug_tend and aug_close of
+ * proved on paper for the algorithm, and tested, but not proved of this code. A look stays as it is until it is done or taken again, while
+ * its user and others update, over new rounds, and after aug_close.
+ * What waits for whom. Most calls wait for nobody. When the table is full, an update begins a new round of it, which waits for the call
+ * that each other user is in; others wait for that. Nobody waits for a look, with one exception: the table has three parts, each for a
+ * round, and a look keeps the part of its round. So while looks of two different earlier rounds are open, the round at work is the last: when
+ * that is full, updates wait until the looks of one of the two are done or taken again. Two users that update beside such looks of their own
+ * may wait for one another, so take a look again from time to time if you keep it while you update. The calls aug_try_.. never wait, and
+ * answer AUG_AGAIN where the others would; these call again, and yield or sleep in between. aug_close waits for calls too. A user that is in
+ * no call holds nobody up, nor does one whose thread ended so, but for an old look. aug_user_open, aug_user_close, aug_tend and aug_close of
  * a trie wait for one another.
  *
  * What you owe. Zero a handle before you open it, and never copy or change an open one. Give a user to one call at a time; it may go
@@ -64,7 +67,7 @@
 #define AUG_MOST_USERS 64u
 
 /* No table may take more bytes. */
-#define AUG_MOST_BYTES (UINT64_C(1) << 30)
+#define AUG_MOST_BYTES (UINT64_C(3) << 29)
 
 #ifdef __cplusplus
 extern "C" {
@@ -105,7 +108,7 @@ typedef struct aug_change {
 } aug_change;
 
 /* What a key weighed before an update, and what it weighs after it: AUG_NONE where it is no member. If nothing was stored, both are what the
-   update found. No update was made if the answer is AUG_CLOSED, AUG_BAD_KEY, AUG_LOOKING or AUG_AGAIN; then all stays as it was. */
+   update found. No update was made if the answer is AUG_CLOSED, AUG_BAD_KEY or AUG_AGAIN; then all stays as it was. */
 typedef struct aug_told {
     int64_t before;
     int64_t now;
@@ -141,12 +144,12 @@ enum {
     AUG_NO_MEMORY = -5,    /* a request for memory was refused */
     AUG_BAD_BITS = -6,     /* the bits are outside 1 to 16 */
     AUG_BAD_USERS = -7,    /* the users are outside 1 to 64 */
-    AUG_TOO_LARGE = -8,    /* the bytes are too few for these bits and users, or more than 2^30 */
+    AUG_TOO_LARGE = -8,    /* the bytes are too few for these bits and users, or more than 3 * 2^29 */
     AUG_NO_USER = -9,      /* all users of the trie are open */
     AUG_OPEN = -10,        /* the handle is open already */
     AUG_BAD_LENGTH = -11,  /* an array is missing or too short, or longer than there are keys or than memory */
-    AUG_LOOKING = -12,     /* the user holds a look */
-    AUG_NOT_LOOKING = -13, /* the user holds no look */
+    AUG_LOOKING = -12,     /* the user has a look already */
+    AUG_NOT_LOOKING = -13, /* the user has no look */
     AUG_TOO_GREAT = -14,   /* the weight and the amount together are no weight of 32 bits */
     AUG_TOO_LITTLE = -15   /* the key is no member, or weighs less than the amount */
 };
@@ -160,9 +163,9 @@ const char *aug_error_text(int64_t code);
 /* ---- The trie ---- */
 
 /* Opens the empty trie for keys of so many bits, 1 to 16, and so many users, 1 to 64, whose table takes at most so many bytes: twice as
-   many while it is opened. With more bytes it is full less often: 112 bytes go to each key below 2^bits, and each update takes 80 * bits of the
-   others until it is full. For as many updates as there are keys, 2^21 are enough with 11 bits, and 2^26 with 15; with 16 bits and 4 users, 2^26
-   give each user some 11,000 updates. Fewer bytes than 64 updates of each user take are AUG_TOO_LARGE, and so are more than AUG_MOST_BYTES. Answers
+   many while it is opened. With more bytes it is full less often: 168 bytes go to each key below 2^bits, and each update takes 120 * bits of the
+   others until it is full. For as many updates as there are keys, 2^22 are enough with 11 bits, and 2^26 with 15; with 16 bits and 4 users, 2^26
+   give each user some 7,000 updates. Fewer bytes than 64 updates of each user take are AUG_TOO_LARGE, and so are more than AUG_MOST_BYTES. Answers
    0, or AUG_OPEN, AUG_CLOSED, AUG_BAD_BITS, AUG_BAD_USERS, AUG_TOO_LARGE, AUG_NO_MEMORY. */
 AUG_NODISCARD int64_t aug_open(aug_trie *trie, uint32_t bits, uint32_t users, uint64_t bytes);
 
@@ -177,13 +180,13 @@ int64_t aug_user_close(aug_user *user);
    if there is more to do now, 0 if there is not or somebody else is at it, so that it may sleep a little, or AUG_CLOSED. */
 int64_t aug_tend(aug_trie *trie);
 
-/* Closes the trie. Updates and looks of its users answer AUG_CLOSED from then on. `report` may be null. Answers 0 or AUG_CLOSED. */
+/* Closes the trie. Updates and new looks of its users answer AUG_CLOSED from then on, but a look that is open is asked as before. `report` may be null.
+   Answers 0 or AUG_CLOSED. */
 int64_t aug_close(aug_trie *trie, aug_report *report);
 
-/* ---- Updates. A user that holds a look makes none: AUG_LOOKING. `told` may be null. ---- */
+/* ---- Updates. A user makes them beside its look too, which shows what it showed. `told` may be null. ---- */
 
-/* Puts a key in, with the key itself as its weight. Answers 1 if it was not there, 0 if it was, or AUG_CLOSED, AUG_BAD_KEY,
-   AUG_LOOKING. */
+/* Puts a key in, with the key itself as its weight. Answers 1 if it was not there, 0 if it was, or AUG_CLOSED, AUG_BAD_KEY. */
 AUG_NODISCARD int64_t aug_insert(aug_user *user, uint32_t key);
 
 /* Takes a key out. Answers 1 if it was there, 0 if it was not, or as aug_insert. Also 0 if another user changed the key meanwhile and nothing
@@ -204,7 +207,7 @@ AUG_NODISCARD int64_t aug_add(aug_user *user, uint32_t key, uint32_t amount, aug
 AUG_NODISCARD int64_t aug_sub(aug_user *user, uint32_t key, uint32_t amount, aug_told *told);
 
 /* Takes out the member with the least key, or the greatest, and writes it to `member`, which may be null. Answers 1, or AUG_NONE if there is
-   none, AUG_CLOSED, AUG_LOOKING. Each member comes to one caller. The call is made again as aug_add is. */
+   none, or AUG_CLOSED. Each member comes to one caller. The call is made again as aug_add is. */
 AUG_NODISCARD int64_t aug_pop_first(aug_user *user, aug_member *member);
 AUG_NODISCARD int64_t aug_pop_last(aug_user *user, aug_member *member);
 
@@ -220,16 +223,19 @@ AUG_NODISCARD int64_t aug_remove_all(aug_user *user, const uint32_t *keys, size_
 AUG_NODISCARD int64_t aug_put_all(aug_user *user, const uint32_t *keys, size_t n, const uint32_t *weights, size_t weight_count);
 
 /* How many updates are left to the user in its part of the table, and makes none. The next one after these takes a part that is spare, or begins
-   a new round of the table, if none is; a refused update counts as well. Answers that, or AUG_CLOSED, AUG_LOOKING. It waits as an update does. */
+   a new round of the table, if none is; a refused update counts as well. Answers that, or AUG_CLOSED. While a new round is begun, it waits for
+   that. */
 AUG_NODISCARD int64_t aug_room(aug_user *user);
 
 /* ---- Looks ---- */
 
-/* Takes a snapshot, which the queries below are answered from. Answers 0, or AUG_CLOSED, AUG_LOOKING. */
+/* Takes a snapshot, which the queries below are answered from. A user has one look at a time. Answers 0, or AUG_CLOSED, AUG_LOOKING. While a new
+   round is begun, it waits for that. */
 AUG_NODISCARD int64_t aug_look(aug_user *user);
 
-/* Takes a newer snapshot in the same look, and waits for nobody. aug_changes tells what is new in it. Answers 0, or AUG_CLOSED,
-   AUG_NOT_LOOKING. */
+/* Takes a newer snapshot in the same look. Answers 0 if it is of the same round as the one before: then aug_changes tells what is new in it. Answers 1
+   if a new round began in between: then aug_changes has nothing to compare it with, but aug_changes_since has. Or it answers AUG_CLOSED,
+   AUG_NOT_LOOKING, and the look shows what it showed. It waits as aug_look does. */
 int64_t aug_look_again(aug_user *user);
 
 /* Ends the look, and sleeps for some 50 microseconds if a user waits. Answers 0, or AUG_CLOSED, AUG_NOT_LOOKING. */
@@ -291,9 +297,9 @@ AUG_NODISCARD int64_t aug_list(aug_user *user, uint32_t from, uint32_t *keys, ui
 AUG_NODISCARD int64_t aug_list_back(aug_user *user, uint32_t below, uint32_t *keys, uint32_t *weights, size_t room);
 
 /* Writes the first changes from `from` on, with rising keys, as many as there are, and at most `room`: the keys whose weights differ between
-   the snapshot that the last aug_look_again took and the one that the look showed before. A look that was not taken again has none, and a key
-   that went out and came back with the same weight is none. Answers how many. To list all, begin with 0, and go on from the last key plus 1 as
-   long as the answer is `room`. What no update has touched in between is passed over, and nobody is waited for. */
+   the snapshot that the last aug_look_again took and the one that the look showed before. There are none if the look was not taken again, or a new
+   round began before it was, and a key that went out and came back with the same weight is none. Answers how many. To list all, begin with 0, and
+   go on from the last key plus 1 as long as the answer is `room`. What no update has touched in between is passed over, and nobody is waited for. */
 AUG_NODISCARD int64_t aug_changes(aug_user *user, uint32_t from, aug_change *out, size_t room);
 
 /* The same between a set that you listed and the snapshot: n keys that rise, each with the weight that has its index, as aug_list wrote them. So what
@@ -308,6 +314,7 @@ AUG_NODISCARD int64_t aug_try_remove(aug_user *user, uint32_t key, aug_told *tol
 AUG_NODISCARD int64_t aug_try_put(aug_user *user, uint32_t key, uint32_t weight, aug_told *told);
 AUG_NODISCARD int64_t aug_try_room(aug_user *user);
 AUG_NODISCARD int64_t aug_try_look(aug_user *user);
+AUG_NODISCARD int64_t aug_try_look_again(aug_user *user);
 
 /* These are not made again either if another user changed the key meanwhile, and answer 0 then. */
 AUG_NODISCARD int64_t aug_try_add(aug_user *user, uint32_t key, uint32_t amount, aug_told *told);
@@ -323,7 +330,7 @@ AUG_NODISCARD int64_t aug_try_remove_all(aug_user *user, const uint32_t *keys, s
 AUG_NODISCARD int64_t aug_try_put_all(aug_user *user, const uint32_t *keys, size_t n, const uint32_t *weights, size_t weight_count, aug_progress *progress);
 
 /* Say that a user waits, since its call answered AUG_AGAIN and is going to be made again, and that it waits no more. In between, the end of
-   a look makes room for it, as aug_look_done says. Said twice, each counts once, and aug_user_close says the second one too. Both answer 0,
+   a look gives way to it, as aug_look_done says. Said twice, each counts once, and aug_user_close says the second one too. Both answer 0,
    or AUG_CLOSED, and wait for nobody. */
 int64_t aug_wait_begin(aug_user *user);
 int64_t aug_wait_end(aug_user *user);

@@ -5,6 +5,7 @@ import _thread
 import array
 import ast
 import bisect
+import contextlib
 import copy
 import gc
 import itertools
@@ -24,8 +25,8 @@ from augtrie import Trie
 
 TESTS = []
 
-# With so few bytes, the fewest for four users, a table is full after some updates, and no more are made until each look has ended.
-SMALL = {"bits": 4, "users": 3, "bytes": 84_000}
+# With so few bytes, the fewest for four users, a round is over after some updates, and a new one waits for the looks of two earlier ones.
+SMALL = {"bits": 4, "users": 4, "bytes": 126_000}
 
 
 def test(function):
@@ -242,9 +243,9 @@ def a_key_is_popped_as_from_a_dict():
                     assert trie.pop(key, *default) == want
         assert list(trie.items()) == [(7, 70)]
         assert raises(TypeError, trie.pop) and raises(TypeError, trie.pop, 7, 1, 2) and raises(TypeError, trie.pop, 7, default=1)
-        with trie.snapshot():
-            assert raises(augtrie.Looking, trie.pop, 7) and raises(augtrie.Looking, trie.pop, 7, None)
-        assert trie.pop(Seven(), None) == 70
+        with trie.snapshot() as now:
+            assert trie.pop(7) == 70 and trie.pop(7, None) is None and now.weight(7) == 70
+        assert trie.put(7, 71) is None and trie.pop(Seven(), None) == 71
     assert raises(augtrie.Closed, trie.pop, 7) and raises(augtrie.Closed, trie.pop, 7, None)
 
 
@@ -289,7 +290,7 @@ def names_and_iterables_are_as_in_sortedcontainers():
 def refusals_speak_of_snapshots():
     with Trie(4) as trie:
         now = trie.snapshot()
-        for kind, text, call in [(augtrie.Looking, "this thread holds a snapshot, which has to be closed first", lambda: trie.add(1)),
+        for kind, text, call in [(augtrie.Looking, "this thread has a snapshot, which has to be closed first", trie.snapshot),
                                  (augtrie.NotLooking, "the snapshot has ended", lambda: len(now)), (augtrie.Closed, None, lambda: len(trie))]:
             try:
                 call()
@@ -323,7 +324,7 @@ def what_has_an_index_is_a_number():
 def refusals_have_names():
     assert all(raises(augtrie.BadBits, Trie, bits) for bits in (17, 0, -1, 1 << 40))
     assert all(raises(augtrie.BadUsers, Trie, 4, users) for users in (65, 0, -1, 1 << 40))
-    assert all(raises(augtrie.TooLarge, Trie, 16, bytes=bytes) for bytes in (0, -1, 999, 8_652_191, (1 << 30) + 1, 1 << 70))
+    assert all(raises(augtrie.TooLarge, Trie, 16, bytes=bytes) for bytes in (0, -1, 999, 12_978_287, (3 << 29) + 1, 1 << 70))
     with Trie(16) as trie:
         assert trie.update(range(1 << 16)) == 1 << 16 and trie.rank_all([1 << 15]) == [1 << 15]
     with Trie(4) as trie:
@@ -333,18 +334,18 @@ def refusals_have_names():
             assert trie.discard(key) is False and raises(KeyError, trie.remove, key)
         now = trie.snapshot()
     for call in (lambda: trie.add(3), lambda: trie.discard(-1), lambda: len(trie), lambda: list(trie), trie.room, trie.snapshot, trie.__enter__,
-                 lambda: trie.update([]), lambda: len(now), now.renew, now.__enter__):
+                 lambda: trie.update([]), now.renew):
         assert raises(augtrie.Closed, call)
-    assert now.close() is None
+    assert len(now) == 0 and now.__enter__() is now and now.close() is None and raises(augtrie.NotLooking, len, now)
 
 
 @test
 def a_thread_is_told_how_many_updates_are_left_to_it():
-    with Trie(16, bytes=8_652_192) as trie:
+    with Trie(16, bytes=12_978_288) as trie:
         assert [(trie.room(), trie.add(key)) for key in range(3)] == [(64, True), (63, True), (62, True)]
         assert elsewhere(lambda: (trie.room(), trie.update(range(9)), trie.room())) == (64, 6, 55)
         with trie.snapshot():
-            assert raises(augtrie.Looking, trie.room) and elsewhere(trie.room) == 55
+            assert trie.room() == 61 and elsewhere(trie.room) == 55
         assert trie.room() == 61 and not trie.discard(9) and trie.room() == 60
 
 
@@ -393,7 +394,7 @@ def update_both(trie, model, rng, keys, updates):
 @test
 def a_renewal_tells_what_it_changed():
     rng = random.Random(4)
-    with Trie(10, users=2, bytes=1 << 24) as trie:
+    with Trie(10, users=2, bytes=3 << 23) as trie:
         trie.update(range(0, 1024, 3))
         model = {key: key for key in range(0, 1024, 3)}
 
@@ -402,7 +403,7 @@ def a_renewal_tells_what_it_changed():
             for updates in (1, 0, 5, 40, 200, 1000, 3):
                 before, told = dict(model), list(now.changes())
                 assert elsewhere(lambda: update_both(trie, model, rng, 1024, updates)) is None and list(now.changes()) == told
-                now.renew()
+                assert now.renew() is True
                 assert list(now.changes()) == differences(before, model) == elsewhere(lambda: list(now.changes()))
             # As many as a page has, or some more or less; and none, if all are as they were.
             for count in (31, 32, 33, 64, 65, 1024):
@@ -421,7 +422,7 @@ def a_renewal_tells_what_it_changed():
 @test
 def what_changed_since_a_list_is_told_over_roll_overs():
     rng = random.Random(5)
-    with Trie(7, users=1, bytes=1 << 16) as trie:
+    with Trie(7, users=1, bytes=3 << 15) as trie:
         model = {}
         for updates in (0, 1, 40, 3000, 0, 200, 3000):
             with trie.snapshot() as now:
@@ -439,13 +440,12 @@ def what_changed_since_a_list_is_told_over_roll_overs():
                 assert raises(ValueError, now.changes_since, [(1, 2, 3)]) and raises(ValueError, now.changes_since, [(1, -1)])
                 assert raises(TypeError, now.changes_since, 5) and raises(TypeError, now.changes_since, [5]) and raises(TypeError, now.changes_since)
             assert raises(augtrie.NotLooking, now.changes_since, kept)
-    assert raises(augtrie.Closed, now.changes_since, kept)
 
 
 @test
 def the_next_rounds_are_laid_out_between_updates():
     rng = random.Random(6)
-    with Trie(7, users=1, bytes=1 << 16) as trie:
+    with Trie(7, users=1, bytes=3 << 15) as trie:
         model = {}
         for turn in range(300):
             update_both(trie, model, rng, 128, 20)
@@ -457,7 +457,7 @@ def the_next_rounds_are_laid_out_between_updates():
 
 @test
 def a_copy_follows_what_other_threads_change():
-    with Trie(7, users=3, bytes=1 << 17) as trie:
+    with Trie(7, users=3, bytes=3 << 16) as trie:
         over = []
 
         def work(seed):
@@ -474,8 +474,9 @@ def a_copy_follows_what_other_threads_change():
             with trie.snapshot() as now:
                 copy_of = dict(now.items())
                 for _ in range(5):
-                    now.renew()
-                    for key, before, weight in now.changes():
+                    # Since the copy, where a new round began in between.
+                    walk = now.changes() if now.renew() else now.changes_since(sorted(copy_of.items()))
+                    for key, before, weight in walk:
                         assert copy_of.pop(key, None) == before != weight
                         if weight is not None:
                             copy_of[key] = weight
@@ -485,7 +486,7 @@ def a_copy_follows_what_other_threads_change():
 
 @test
 def changes_are_those_of_one_renewal():
-    with Trie(8, users=2, bytes=1 << 22) as trie:
+    with Trie(8, users=2, bytes=3 << 21) as trie:
         now = trie.snapshot()
         elsewhere(lambda: trie.update(range(100)))
         now.renew()
@@ -504,7 +505,7 @@ def changes_are_those_of_one_renewal():
         assert [next(walk)[0] for _ in range(31)] == list(range(1, 32)) and raises(augtrie.NotLooking, next, walk)
         assert raises(augtrie.NotLooking, now.changes) and not hasattr(trie, "changes")
         later = trie.snapshot()
-    assert raises(augtrie.Closed, later.changes)
+    assert list(later.changes()) == []
 
 
 @test
@@ -512,12 +513,114 @@ def who_holds_a_snapshot_asks_it_alone():
     with Trie(4) as trie:
         trie.add(1)
         with trie.snapshot() as now:
-            for call in (lambda: trie.add(3), lambda: trie.discard(-1), lambda: trie.update([]), lambda: trie.increment(1), trie.snapshot,
-                         lambda: len(trie), lambda: 1 in trie, lambda: list(trie), lambda: trie[0], lambda: trie.weights([1])):
+            for call in (trie.snapshot, lambda: len(trie), lambda: 1 in trie, lambda: list(trie), lambda: trie[0], lambda: trie.weights([1])):
                 assert raises(augtrie.Looking, call)
             assert elsewhere(lambda: (trie.add(2), len(trie), len(now))) == (True, 2, 1)
-        assert trie.add(3) and raises(augtrie.NotLooking, len, now) and raises(augtrie.NotLooking, now.renew)
+        assert len(trie) == 2 and raises(augtrie.NotLooking, len, now) and raises(augtrie.NotLooking, now.renew)
         assert raises(augtrie.NotLooking, now.__enter__) and now.close() is None
+
+
+@test
+def a_thread_updates_beside_its_snapshot_over_many_rounds():
+    rng = random.Random(6)
+    # With so few bytes a round has 64 updates.
+    with Trie(4, users=1, bytes=33_768) as trie:
+        model = {}
+
+        def put():
+            key, weight = rng.randrange(16), rng.randrange(9)
+            assert trie.put(key, weight) == model.get(key)
+            model[key] = weight
+
+        for left in reversed(range(64)):
+            while trie.room() != left:
+                put()
+            before, kept = dict(model), sorted(model.items())
+            with trie.snapshot() as now:
+                # What is left of its round, and all of the next four.
+                for made in range(left + 4 * 64):
+                    put()
+                    assert made % 16 or list(now.items()) == kept
+                assert trie.room() == 0 and list(now.items()) == kept == list(now.items(0, 15)) and list(now.changes()) == []
+                assert now.renew() is False and list(now.changes()) == [] and dict(now.items()) == model
+                assert list(now.changes_since(kept)) == differences(before, model)
+                # The next update begins a round, and the one after that is in the same.
+                for is_same_round in (False, True):
+                    before = dict(model)
+                    put()
+                    assert now.renew() is is_same_round
+                    assert list(now.changes()) == (differences(before, model) if is_same_round else [])
+
+
+@test
+def a_thread_makes_each_update_beside_its_snapshot():
+    with Trie(6) as trie:
+        trie.update([1, 2, 3])
+        with trie.snapshot() as now:
+            assert trie.add(9) and trie.discard(9) and trie.put(2, 5) == 2 and trie.increment(2) == 6 and trie.decrement(2, 6) == 0
+            assert trie.popitem(0) == (1, 1) and trie.popitem() == (3, 3) and raises(KeyError, trie.popitem) and raises(KeyError, trie.remove, 3)
+            assert trie.update(range(64)) == 64 and trie.difference_update(range(60)) == 60 and trie.put_all([61, 62], [7, 8]) == 0
+            assert raises(augtrie.BadKey, trie.add, 64) and raises(augtrie.TooLittle, trie.decrement, 5)
+            assert list(now.items()) == [(1, 1), (2, 2), (3, 3)] and len(now) == 3
+            assert now.renew() and list(now.items()) == [(60, 60), (61, 7), (62, 8), (63, 63)] and len(list(now.changes())) == 7
+
+
+@test
+def a_thread_updates_while_others_ask_its_snapshot():
+    with Trie(16, users=4) as trie:
+        trie.update(range(0, 1 << 16, 2))
+        keys, want, odd = list(range(1 << 16)), [(key + 1) // 2 for key in range(1 << 16)], list(range(1, 2000, 2))
+        for _ in range(5):
+            told, let = [], threading.Event()
+
+            def work():
+                told.append(trie.snapshot())
+                # More than a round has.
+                for at in range(16):
+                    assert trie.update(odd) == trie.difference_update(odd) == 1000
+                    if at == 12:
+                        # The last reference goes, maybe while an update is on.
+                        let.set()
+                until(lambda: not told)
+                return len(trie)
+
+            def ask():
+                until(lambda: told)
+                while not let.is_set():
+                    assert told[0].rank_all(keys) == want and len(told[0]) == 1 << 15
+                told.clear()
+
+            assert all_at_once(work, ask)[0] == 1 << 15
+
+
+@test
+def a_snapshot_outlives_the_end_of_its_trie():
+    trie = Trie(10)
+    trie.update(range(100))
+    now = trie.snapshot()
+    assert elsewhere(trie.close) == (100, 0, 100)
+    for _ in range(2):
+        assert raises(augtrie.Closed, now.renew) and raises(augtrie.Closed, trie.add, 1) and raises(augtrie.Closed, trie.snapshot)
+        assert len(now) == elsewhere(lambda: len(now)) == 100 and now[::2] == list(range(0, 100, 2)) and list(now.changes()) == []
+        assert list(now.items()) == [(key, key) for key in range(100)] == [(key, weight) for key, _, weight in now.changes_since([(500, 1)]) if key < 100]
+        assert now.rank_all(range(1024)) == [min(key, 100) for key in range(1024)]
+    del trie
+    gc.collect()
+    assert len(now) == 100 and now.close() is None and raises(augtrie.NotLooking, len, now)
+    # With the thread that took it.
+    trie, held = Trie(4), []
+
+    def work():
+        held.append(trie.snapshot())
+        return trie.close(), len(held[0])
+
+    assert elsewhere(work) == ((0, 0, 0), 0) and raises(augtrie.NotLooking, len, held[0])
+    # And with its last reference, once nothing refers to the trie.
+    trie = Trie(4)
+    now = trie.snapshot()
+    del trie
+    gc.collect()
+    assert len(now) == 0
 
 
 @test
@@ -637,7 +740,7 @@ def four_threads_raise_the_same_keys():
 def a_hundred_thousand_calls_answer_as_a_sorted_dict_does():
     rng = random.Random(5)
     keys, weights = [], {}
-    with Trie(9, users=1, bytes=1 << 17) as trie:
+    with Trie(9, users=1, bytes=3 << 16) as trie:
         for _ in range(100_000):
             key, what = rng.randrange(512), rng.randrange(8)
             at = bisect.bisect_left(keys, key)
@@ -687,7 +790,7 @@ def each_member_is_popped_by_one_thread():
         assert all(run == sorted(run, reverse=index < 0) for run, index in zip(found, (0, -1, 0, -1)))
         assert raises(IndexError, trie.popitem, 1) and raises(TypeError, trie.popitem, b"")
         with trie.snapshot():
-            assert raises(augtrie.Looking, trie.popitem)
+            assert raises(KeyError, trie.popitem)
 
 
 @test
@@ -713,9 +816,42 @@ def fills(trie, updates=4000):
     return made, work
 
 
+@contextlib.contextmanager
+def an_old_snapshot(trie):
+    """Meanwhile another thread has a snapshot of an earlier round."""
+    taken, let = threading.Event(), threading.Event()
+
+    def hold():
+        with trie.snapshot():
+            taken.set()
+            let.wait()
+
+    held = at_once(hold)
+    taken.wait()
+    # The last of these, which change nothing, begins a new round.
+    for _ in range(trie.room() + 1):
+        assert trie.discard(0) is False
+    try:
+        yield
+    finally:
+        let.set()
+        assert held() == [None]
+
+
 @test
-def updates_wait_for_a_snapshot_and_go_on():
+def updates_wait_for_no_snapshots_of_one_earlier_round():
+    with Trie(**SMALL) as trie, an_old_snapshot(trie):
+        assert fills(trie)[1]() is None and trie.total(0, 16) == 4000
     with Trie(**SMALL) as trie:
+        now = trie.snapshot()
+        assert all_at_once(fills(trie)[1], fills(trie)[1]) == [None, None] and len(now) == 0
+        assert now.renew() is False and now.total(0, 16) == 8000
+        now.close()
+
+
+@test
+def updates_wait_for_snapshots_of_two_earlier_rounds_and_go_on():
+    with Trie(**SMALL) as trie, an_old_snapshot(trie):
         for end in (lambda now: now.close(), lambda now: now.__exit__(None, None, None)):
             before = sum(weight or 0 for weight in trie.weights(range(8)))
             now = trie.snapshot()
@@ -737,7 +873,7 @@ def updates_wait_for_a_snapshot_and_go_on():
 def who_waits_lets_others_run():
     for wait in (lambda trie: fills(trie)[1](), lambda trie: trie.put_all([it % 8 for it in range(4000)], [7] * 4000),
                  lambda trie: [trie.add(it % 8) or trie.discard(it % 8) or len(trie) for it in range(4000)]):
-        with Trie(**SMALL) as trie:
+        with Trie(**SMALL) as trie, an_old_snapshot(trie):
             taken = threading.Event()
 
             def hold():
@@ -816,7 +952,7 @@ def is_made_in_time(read, update, yardstick):
 
 @test
 def updates_do_not_wait_long_for_those_that_look_again_and_again():
-    with Trie(**{**SMALL, "users": 4}) as trie, Trie(12, users=4, bytes=1 << 20) as large, Trie(4, users=1) as unread:
+    with Trie(**SMALL) as trie, Trie(12, users=4, bytes=3 << 19) as large, Trie(4, users=1) as unread:
 
         def with_snapshot():
             with trie.snapshot():
@@ -843,7 +979,7 @@ def updates_do_not_wait_long_for_those_that_look_again_and_again():
 @test
 def a_wait_can_be_interrupted():
     for call in (lambda trie: fills(trie, 1 << 40)[1](), lambda trie: [trie.put_all([3] * 5000, range(5000)) for _ in itertools.count()]):
-        with Trie(**SMALL) as trie:
+        with Trie(**SMALL) as trie, an_old_snapshot(trie):
             assert interrupted(trie, lambda: call(trie))
             # The user is not in the call any longer.
             assert trie.put(9, 9) is None and trie.pop(9) == 9 and len(list(trie)) >= 1
@@ -854,29 +990,30 @@ def a_handler_of_a_signal_may_call_what_it_interrupts():
     # What the handler does, and how the call ends that waited.
     for act, fault in ((lambda trie, now: now.close(), None), (lambda trie, now: trie.close(), augtrie.Closed)):
         trie = Trie(**SMALL)
-        told = []
-        let = threading.Event()
-        ended = at_once(lambda: (told.append(trie.snapshot()), let.wait()))
-        until(lambda: told)
+        with an_old_snapshot(trie):
+            told = []
+            let = threading.Event()
+            ended = at_once(lambda: (told.append(trie.snapshot()), let.wait()))
+            until(lambda: told)
 
-        def handle(*_):
-            let.set()
-            act(trie, told[0])
+            def handle(*_):
+                let.set()
+                act(trie, told[0])
 
-        before = signal.signal(signal.SIGALRM, handle)
-        signal.setitimer(signal.ITIMER_REAL, 0.2)
-        try:
-            while not let.is_set():
-                trie.increment(3)
-            for _ in range(1000):
-                trie.increment(3)
-            assert fault is None
-        except augtrie.Closed:
-            assert fault is augtrie.Closed
-        finally:
-            signal.setitimer(signal.ITIMER_REAL, 0)
-            signal.signal(signal.SIGALRM, before)
-        ended()
+            before = signal.signal(signal.SIGALRM, handle)
+            signal.setitimer(signal.ITIMER_REAL, 0.2)
+            try:
+                while not let.is_set():
+                    trie.increment(3)
+                for _ in range(1000):
+                    trie.increment(3)
+                assert fault is None
+            except augtrie.Closed:
+                assert fault is augtrie.Closed
+            finally:
+                signal.setitimer(signal.ITIMER_REAL, 0)
+                signal.signal(signal.SIGALRM, before)
+            ended()
         trie.close()
 
 
@@ -887,7 +1024,7 @@ def a_trie_is_closed_in_mid_use():
         trie.update(range(0, 1 << 16, 2))
         told = []
 
-        # Sooner or later this waits for the snapshots.
+        # This may wait for the snapshots, where they are of two rounds.
         def update():
             while True:
                 trie.difference_update(range(1 << 16))
@@ -900,8 +1037,11 @@ def a_trie_is_closed_in_mid_use():
         def ask():
             with trie.snapshot() as now:
                 told.append(now)
+                members = len(now)
                 while True:
-                    assert now.rank_all(range(1 << 16)) and len(now) == len(now[:])
+                    assert now.rank_all(range(1 << 16)) and len(now[:]) == members
+                    # Not the snapshot, but its trie is closed.
+                    trie.room()
 
         ended = at_once(update, one, ask, ask)
         until(lambda: len(told) == 2)
@@ -909,6 +1049,7 @@ def a_trie_is_closed_in_mid_use():
         report = trie.close()
         found = ended()
         assert [type(it) for it in found] == [augtrie.Closed] * 4, found
+        assert all(raises(augtrie.NotLooking, len, now) for now in told)
         assert report == trie.close() and report.inserts - report.removals == report.size
 
 
@@ -951,7 +1092,9 @@ def a_number_may_call_the_trie_that_reads_it():
         assert trie.add(again) and trie.update([again, 1]) == 1 and again in trie and trie.weights([again]) == [5] and trie[again:] == []
         assert trie.increment(again, again) == trie.weight(5) == 10 and list(trie.irange(again)) == [5]
         held = []
-        assert raises(augtrie.Looking, trie.add, Acting(lambda: held.append(trie.snapshot())))
+        assert raises(augtrie.Looking, trie.weight, Acting(lambda: held.append(trie.snapshot())))
+        held.clear()
+        assert trie.discard(Acting(lambda: held.append(trie.snapshot()))) and 5 in held[0]
         held.clear()
         assert raises(augtrie.Closed, trie.update, [1, Acting(trie.close)])
 
@@ -1036,6 +1179,12 @@ def nothing_is_leaked():
         ring.append(ring)
         elsewhere(lambda: trie.add(1))
 
+    def outlived():
+        with Trie(14) as trie:
+            trie.add(1)
+            now = trie.snapshot()
+        assert len(now) == 1
+
     def failing():
         with Trie(14) as trie, trie.snapshot() as now:
             iter(now)
@@ -1050,7 +1199,7 @@ def nothing_is_leaked():
     def refused():
         assert raises(augtrie.BadBits, Trie, 17) and raises(augtrie.BadKey, shared.update, [1 << 20] * 9000)
 
-    for spoil in (closed, forgotten, failing, visited, refused):
+    for spoil in (closed, forgotten, outlived, failing, visited, refused):
         sizes = []
         for _ in range(40):
             raises(KeyError, spoil)

@@ -305,6 +305,9 @@ class Installed:
         said = said_by(self.compiled("c", "tests", "readers.c"))
         assert re.fullmatch(r"ok: \d+ answers, \d{3,} updates\n", said), said
 
+    def test_c_updates_beside_a_look_of_their_user(self):
+        assert self.answers_in("beside.c") >= 1400
+
     def test_c_each_number_of_bits_and_64_users(self):
         assert self.answers_in("sizes.c") >= 10000
 
@@ -402,7 +405,7 @@ class Checked:
     """What valgrind says of the C programs."""
 
     def test_c_under_valgrind(self):
-        programs = [self.compiled("c", "tests", f"{name}.c", words=[CC, "-std=c11", "-g"]) for name in ("threads", "many", "tries", "pops", "told", "waits", "changes")]
+        programs = [self.compiled("c", "tests", f"{name}.c", words=[CC, "-std=c11", "-g"]) for name in ("threads", "many", "tries", "pops", "told", "waits", "changes", "beside")]
         for program in self.refused("-g"), *programs:
             said_by("valgrind", "-q", "--error-exitcode=9", "--leak-check=full", program)
 
@@ -615,11 +618,11 @@ class Bench:
             assert f"bench: {names[0]} was run under the name of {names[1]}\n" in said
 
     def test_bench_measures_each_engine(self):
-        said = self.script("run", "--passes", "1", "--slice", "2", "--bytes", str(1 << 24), "--into", os.path.join(self.folder, "measured"))
+        said = self.script("run", "--passes", "1", "--slice", "2", "--bytes", str(3 << 23), "--into", os.path.join(self.folder, "measured"))
         with open(os.path.join(self.folder, "measured", "throughput.md"), encoding="utf-8") as file:
             lines = file.read().splitlines()
         assert "\n".join(lines) in said
-        assert any(line.endswith(f" tables of at most {1 << 24} bytes") for line in lines)
+        assert any(line.endswith(f" tables of at most {3 << 23} bytes") for line in lines)
         seats = table(lines, "Engine")
         assert list(seats) == list(ENGINES)
         for name, seat in ENGINES.items():

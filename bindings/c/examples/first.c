@@ -4,8 +4,8 @@
 int main(void) {
     aug_trie trie = AUG_ZEROED;
     aug_user user = AUG_ZEROED;
-    /* Keys below 2^12, one user, and a table of at most 1 MiB. */
-    if (aug_open(&trie, 12, 1, 1 << 20) || aug_user_open(&trie, &user)) return 1;
+    /* Keys below 2^12, one user, and a table of at most 2 MiB. */
+    if (aug_open(&trie, 12, 1, 1 << 21) || aug_user_open(&trie, &user)) return 1;
     for (uint32_t key = 0; key < 1000; key++) {
         if (aug_insert(&user, key) < 0) return 1;
     }

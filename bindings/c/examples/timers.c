@@ -35,7 +35,7 @@ int main(void) {
     uint32_t even = 0, odd = 1;
     pthread_t a, b;
     aug_user clock = AUG_ZEROED;
-    done(aug_open(&timers, BITS, 3, 1 << 20));
+    done(aug_open(&timers, BITS, 3, 1 << 21));
     if (pthread_create(&a, NULL, set_timers, &even) || pthread_create(&b, NULL, set_timers, &odd)) return 1;
     pthread_join(a, NULL);
     pthread_join(b, NULL);

@@ -1,5 +1,5 @@
 /* What changed between two snapshots of a look, and since a list: each answer is held to the lists of both, from many keys on and for many rooms, over
-   roll-overs, and while other threads update. And each user that holds no look, and each array that is refused. */
+   roll-overs, and while other threads update. And each user that has no look, and each array that is refused. */
 #include "augtrie.h"
 #include "want.h"
 
@@ -7,8 +7,8 @@
 #include <stdatomic.h>
 #include <string.h>
 
-/* With so many bytes, no table here is full while a look is held, except beside the threads. */
-enum { BYTES = 1 << 24, WRITERS = 2, UPDATES = 4000, SNAPSHOTS = 10, UNWRITTEN = 123456 };
+/* With so many bytes, no table here is full while a look is open, except beside the threads. */
+enum { BYTES = 3 << 23, WRITERS = 2, UPDATES = 4000, SNAPSHOTS = 10, UNWRITTEN = 123456 };
 
 static aug_trie trie = AUG_ZEROED;
 static aug_user works = AUG_ZEROED, looks = AUG_ZEROED;
@@ -204,7 +204,7 @@ static void unchanged(void) {
 
 /* A list of an earlier round: the table is full after some 500 updates, and so again and again between two looks. And a list with fewer bits. */
 static void over_rounds(uint32_t bits) {
-    open_all(bits, 1 << 19);
+    open_all(bits, 3 << 18);
     look();
     for (uint32_t turn = 0; turn < 20; turn++) {
         const uint32_t updates = turn % 5 ? draw(4000) : 0;
@@ -303,16 +303,18 @@ static void *write_on(void *place) {
     return NULL;
 }
 
-/* Follows the snapshots of one look by what changed, a few changes at a time. */
+/* Follows the snapshots of one look by what changed, a few changes at a time: since a list, where a new round began in between. */
 static void follow(void) {
     aug_change some[7];
     look();
-    memcpy(before, now, sizeof now);
     for (int i = 0; i < SNAPSHOTS; i++) {
         int64_t count = 7;
-        MUST(aug_look_again(&looks), AUG_OK);
+        keep();
+        const int64_t is_since = aug_look_again(&looks);
+        MUST(is_since == 0 || is_since == 1, 1);
+        if (is_since) MUST(aug_changes(&looks, 0, some, 7), 0);
         for (uint32_t from = 0; count == 7; from = some[6].key + 1) {
-            count = aug_changes(&looks, from, some, 7);
+            count = is_since ? aug_changes_since(&looks, kept, kept_weights, kept_count, from, some, 7) : aug_changes(&looks, from, some, 7);
             MUST(count >= 0 && count <= 7, 1);
             for (int64_t c = 0; c < count; c++) {
                 MUST(some[c].before, before[some[c].key]);
@@ -325,7 +327,7 @@ static void follow(void) {
     WANT(aug_look_done(&looks), AUG_OK);
 }
 
-/* The table is so small that looks hold it up, and so each of them ends soon. */
+/* The table is so small that a look is taken again in many rounds. */
 static void beside_writers(void) {
     pthread_t threads[WRITERS];
     uint32_t numbers[WRITERS];

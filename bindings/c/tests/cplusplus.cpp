@@ -20,7 +20,7 @@ int main() {
     Trie trie;
     std::vector<aug_user> users(2);
     WANT(std::strcmp(aug_version(), AUG_VERSION), 0);
-    WANT(std::strcmp(aug_error_text(AUG_LOOKING), "the user holds a look"), 0);
+    WANT(std::strcmp(aug_error_text(AUG_LOOKING), "the user has a look already"), 0);
     WANT(aug_open(nullptr, 8, 1, 1 << 20), AUG_CLOSED);
     WANT(aug_open(&trie.handle, 8, 2, 1 << 20), AUG_OK);
     for (aug_user &user : users) WANT(aug_user_open(&trie.handle, &user), AUG_OK);

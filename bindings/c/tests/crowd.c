@@ -109,20 +109,24 @@ static void check(struct worker *w, aug_user *user) {
     free(weights);
 }
 
+/* A look, which its user takes again. Answers whether the trie was closed: then it shows what it showed. */
+static int look(struct worker *w, aug_user *user) {
+    int64_t code = aug_look(user);
+    if (code == AUG_CLOSED) return 1;
+    MUST(code, 0);
+    check(w, user);
+    code = aug_look_again(user);
+    MUST(code == 0 || code == 1 || code == AUG_CLOSED, 1);
+    check(w, user);
+    MUST(aug_look_done(user), 0);
+    return code == AUG_CLOSED;
+}
+
 /* An update or a look. Answers whether the trie was closed. */
 static int step(struct worker *w, aug_user *user) {
+    if (!draw(w, 12)) return look(w, user);
     uint32_t key = draw(w, KEYS), whose = owner(key), n = draw(w, 16) ? draw(w, 1000) : UINT32_MAX - draw(w, 1000);
     enum update what = (enum update)draw(w, 5);
-    if (!draw(w, 12)) {
-        int64_t code = aug_look(user);
-        if (code == AUG_CLOSED) return 1;
-        MUST(code, 0);
-        check(w, user);
-        MUST(aug_look_again(user), 0);
-        check(w, user);
-        MUST(aug_look_done(user), 0);
-        return 0;
-    }
     if (whose < SUMMED) key = key - whose + w->number;
     if (whose == SUMMED) key = n % 4 ? SUMMED : key, what = what < ADD ? ADD + n % 2 : what;
     aug_told told;

@@ -150,9 +150,12 @@ int main(void) {
     update_none(&user, 0);
     go_on(&user);
 
+    /* Arrays go in and out beside a look, which shows the same. */
     WANT(aug_look(&user), 0);
-    WANT(aug_insert_all(&user, in, 4), AUG_LOOKING);
-    update_none(&user, AUG_LOOKING);
+    WANT(aug_insert_all(&user, put, 2), 0);
+    WANT(aug_remove_all(&user, put, 2), 2);
+    WANT(aug_put_all(&user, put, 2, weights, 2), 2);
+    update_none(&user, 0);
     WANT(aug_rank_all(&user, asked, 3, ranks, 2), AUG_BAD_LENGTH);
     WANT(aug_rank_all(&user, asked, 3, NULL, 3), AUG_BAD_LENGTH);
     WANT(aug_rank_all(&user, long_one, 17, ranks, 17), AUG_BAD_LENGTH);
@@ -200,7 +203,7 @@ int main(void) {
     WANT(aug_look_done(&user), 0);
 
     WANT(aug_close(&trie, &report), 0);
-    WANT(report.size == 3 && report.inserts == 8 && report.removals == 5, 1);
+    WANT(report.size == 3 && report.inserts == 10 && report.removals == 7, 1);
     WANT(aug_insert_all(&user, in, 3), AUG_CLOSED);
     update_none(&user, AUG_CLOSED);
     WANT(aug_user_close(&user), 0);

@@ -13,7 +13,7 @@
 #include <time.h>
 #include <unistd.h>
 
-enum { READERS = 3, MEASUREMENTS = 5, BYTES = 84000, SECOND = 1000000000, LONGEST = SECOND / 10 };
+enum { READERS = 3, MEASUREMENTS = 5, BYTES = 126000, SECOND = 1000000000, LONGEST = SECOND / 10 };
 
 /* An update that takes longer than this many nanoseconds waited. So many of a measurement are kept. */
 enum { WAIT = SECOND / 1000, KEPT = 10000 };

@@ -8,7 +8,7 @@
 #include <pthread.h>
 #include <stdatomic.h>
 
-enum { BITS = 6, KEYS = 1 << BITS, THREADS = 4, TRIES = 8, UPDATES = 1000, BYTES = 130496 };
+enum { BITS = 6, KEYS = 1 << BITS, THREADS = 4, TRIES = 8, UPDATES = 1000, BYTES = 195744, ROOM = 64 };
 
 /* Of this thread: whether it opens something, and how many requests are granted before one is refused, or -1. */
 static _Thread_local int opens;
@@ -73,7 +73,7 @@ static void *work(void *unused) {
             }
             if (n % 100) continue;
             MUST(aug_look(&user), 0);
-            MUST(aug_look_again(&user), 0);
+            MUST(aug_look_again(&user) >= 0, 1);
             MUST(aug_size(&user) <= KEYS, 1);
             MUST(aug_look_done(&user), 0);
         }
@@ -82,19 +82,24 @@ static void *work(void *unused) {
     return NULL;
 }
 
-/* How many updates a user has room for: a look keeps the table from being given a new round. */
+/* How many updates a user has room for in three rounds: looks of the first two keep the table from being given a fourth. */
 static uint32_t room(void) {
-    aug_user user = AUG_ZEROED, looks = AUG_ZEROED;
+    aug_user user = AUG_ZEROED, looks = AUG_ZEROED, other = AUG_ZEROED;
     aug_told told;
     uint32_t made = 0;
     long requests;
     REFUSED_EACH(aug_user_open(&trie, &looks));
     WANT(requests > 0, 1);
+    REFUSED_EACH(aug_user_open(&trie, &other));
     REFUSED_EACH(aug_user_open(&trie, &user));
     WANT(aug_look(&looks), 0);
-    WANT(aug_room(&user), 64);
-    for (int64_t code; (code = aug_try_put(&user, made % KEYS, made, &told)) != AUG_AGAIN; made++) WANT(code > 0, 1);
+    WANT(aug_room(&user), ROOM);
+    for (int64_t code; made <= 3 * ROOM && (code = aug_try_put(&user, made % KEYS, made, &told)) != AUG_AGAIN; made++) {
+        WANT(code > 0, 1);
+        if (made == ROOM) WANT(aug_look(&other), 0);
+    }
     WANT(aug_user_close(&looks), 0);
+    WANT(aug_user_close(&other), 0);
     /* The place of a user that was closed takes no memory. */
     REFUSED_EACH(aug_user_open(&trie, &looks));
     WANT(requests, 0);
@@ -109,7 +114,7 @@ int main(void) {
     for (int i = 0; i < TRIES; i++) {
         REFUSED_EACH(aug_open(&trie, BITS, THREADS, BYTES));
         WANT(requests > 2, 1);
-        if (i % 2) WANT(room(), 64);
+        if (i % 2) WANT(room(), 3 * ROOM);
         for (int j = 0; j < THREADS; j++) WANT(pthread_create(&threads[j], NULL, work, NULL), 0);
         for (int j = 0; j < THREADS; j++) WANT(pthread_join(threads[j], NULL), 0);
         /* All places are left. */

@@ -60,7 +60,7 @@ static void many_rounds(uint32_t bits, int tending) {
     keys = 1u << bits;
     for (uint32_t key = 0; key < keys; key++) weights[key] = AUG_NONE;
     /* The bytes of a table with room for few more updates than it must have. */
-    uint64_t bytes = 112 * keys + 80 * bits * (LEAST + 8) + 1024;
+    uint64_t bytes = 168 * keys + 120 * bits * (LEAST + 8) + 1536;
     WANT(aug_open(&trie, bits, 1, bytes), AUG_OK);
     WANT(aug_user_open(&trie, &user), AUG_OK);
     int64_t left = aug_room(&user), most = left;

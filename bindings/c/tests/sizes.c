@@ -61,7 +61,7 @@ static void *add(void *of) {
 
 static void at_the_same_time(void) {
     pthread_t threads[AUG_MOST_USERS];
-    WANT(aug_open(&trie, BITS, AUG_MOST_USERS, 2651680), AUG_OK);
+    WANT(aug_open(&trie, BITS, AUG_MOST_USERS, 3977520), AUG_OK);
     open_all(AUG_MOST_USERS);
     for (uint32_t i = 0; i < AUG_MOST_USERS; i++) WANT(pthread_create(&threads[i], NULL, add, &users[i]), 0);
     for (uint32_t i = 0; i < AUG_MOST_USERS; i++) WANT(pthread_join(threads[i], NULL), 0);

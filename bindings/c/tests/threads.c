@@ -23,7 +23,7 @@ static const char *check(aug_user *user, uint32_t k) {
     if (h && m != (int64_t)k) return "select";
     if (!h && aug_after(user, k) != m) return "after";
     if (r && aug_before(user, k) != aug_select(user, (uint32_t)r - 1)) return "before";
-    if (aug_look_again(user) != 0 || aug_size(user) < 0) return "look again";
+    if (aug_look_again(user) < 0 || aug_size(user) < 0) return "look again";
     return aug_look_done(user) == 0 ? NULL : "look done";
 }
 
@@ -49,7 +49,7 @@ static uint32_t threads_agree(void) {
     pthread_t threads[THREADS];
     aug_report report;
     uint32_t in = 0, out = 0, checks = 0;
-    WANT(aug_open(&trie, BITS, THREADS, 705440), 0);
+    WANT(aug_open(&trie, BITS, THREADS, 1058160), 0);
     for (int i = 0; i < THREADS; i++) WANT(pthread_create(&threads[i], 0, work, &w[i]), 0);
     for (int i = 0; i < THREADS; i++) {
         void *what;
@@ -86,10 +86,10 @@ static void misuses(void) {
     WANT(aug_open(&other, BITS, 0, 1 << 20), AUG_BAD_USERS);
     WANT(aug_open(&other, BITS, 65, 1 << 20), AUG_BAD_USERS);
     WANT(aug_open(&other, BITS, 1, 1000), AUG_TOO_LARGE);
-    WANT(aug_open(&other, BITS, 1, 521071), AUG_TOO_LARGE);
+    WANT(aug_open(&other, BITS, 1, 781607), AUG_TOO_LARGE);
     WANT(aug_open(&other, BITS, 1, AUG_MOST_BYTES + 1), AUG_TOO_LARGE);
     WANT(aug_open(&other, BITS, 1, UINT64_MAX), AUG_TOO_LARGE);
-    WANT(aug_open(&other, BITS, 1, 521072), 0);
+    WANT(aug_open(&other, BITS, 1, 781608), 0);
     WANT(aug_close(&other, NULL), 0);
     WANT(aug_open(&other, BITS, 2, 1 << 20), 0);
     WANT(aug_open(&other, BITS, 2, 1 << 20), AUG_OPEN);
@@ -124,9 +124,9 @@ static void misuses(void) {
     WANT(aug_look_done(&one), AUG_NOT_LOOKING);
     WANT(aug_look(&one), 0);
     WANT(aug_look(&one), AUG_LOOKING);
-    WANT(aug_room(&one), AUG_LOOKING);
-    WANT(aug_try_room(&one), AUG_LOOKING);
-    WANT(aug_remove(&one, 9, NULL), AUG_LOOKING);
+    WANT(aug_try_look(&one), AUG_LOOKING);
+    WANT(aug_room(&one) == aug_try_room(&one), 1);
+    WANT(aug_put(&one, 9, 5, NULL), 2);
     WANT(aug_has(&one, 9), 1);
     WANT(aug_has(&one, 4000000000u), 0);
     WANT(aug_weight(&one, 9), 4000000001LL);
@@ -145,59 +145,69 @@ static void misuses(void) {
     WANT(aug_insert(&more, 9), AUG_CLOSED);
     WANT(aug_room(&more), AUG_CLOSED);
     WANT(aug_look(&two), AUG_CLOSED);
+    WANT(aug_look_again(&two), AUG_NOT_LOOKING);
     WANT(aug_user_close(&more), 0);
     WANT(aug_user_close(&two), 0);
 }
 
-/* A look holds up whoever has to give the table a new round. Who calls again when it is done goes on, also within an array. */
+/* Looks of two different earlier rounds hold up whoever would give the table a new one. Who calls again when one of them is done, or was taken again, goes
+   on, also within an array. */
 static void waits(void) {
-    enum { SOME = 100, ROOM = 64 };
+    enum { SOME = 100, ROOM = 64, HELD_UP = 3 * ROOM };
     aug_trie small = AUG_ZEROED;
-    aug_user looks = AUG_ZEROED, works = AUG_ZEROED;
+    aug_user looks = AUG_ZEROED, other = AUG_ZEROED, works = AUG_ZEROED;
     aug_progress so_far = {0, 0};
     aug_told told = {77, 78};
-    uint32_t keys[SOME], made = 0;
+    uint32_t keys[SOME];
     for (uint32_t k = 0; k < SOME; k++) keys[k] = k;
-    WANT(aug_open(&small, 7, 2, 86512), 0);
+    WANT(aug_open(&small, 7, 3, 183552), 0);
     WANT(aug_user_open(&small, &works), 0);
     WANT(aug_user_open(&small, &looks), 0);
+    WANT(aug_user_open(&small, &other), 0);
     WANT(aug_look(&looks), 0);
-    for (; aug_room(&works) > 0; made++) {
-        WANT(aug_try_room(&works), ROOM - made);
-        WANT(aug_try_insert(&works, made), 1);
+    for (uint32_t made = 0; made < HELD_UP; made++) {
+        WANT(aug_try_room(&works), made && made % ROOM == 0 ? 0 : ROOM - made % ROOM);
+        WANT(aug_try_insert(&works, made % (2 * ROOM)), made < 2 * ROOM);
+        if (made == ROOM) WANT(aug_look(&other), 0);
     }
-    WANT(made, ROOM);
-    WANT(aug_try_insert(&works, made), AUG_AGAIN);
-    WANT(aug_try_room(&works), AUG_AGAIN);
+    WANT(aug_try_insert(&works, 0), AUG_AGAIN);
     WANT(aug_try_remove(&works, 0, &told), AUG_AGAIN);
     WANT(aug_try_put(&works, 0, 7, &told), AUG_AGAIN);
     WANT(aug_try_add(&works, 0, 7, &told), AUG_AGAIN);
     WANT(aug_try_sub(&works, 0, 7, &told), AUG_AGAIN);
     WANT(told.before == 77 && told.now == 78, 1);
-    WANT(aug_try_look(&works), AUG_AGAIN);
-    WANT(aug_size(&looks), 0);
     WANT(aug_try_insert_all(&works, keys, SOME, &so_far), AUG_AGAIN);
     WANT(so_far.made, 0);
-    WANT(aug_look_done(&looks), 0);
-    for (so_far.made = 0; so_far.made < SOME;) {
-        WANT(aug_try_insert_all(&works, keys, SOME, &so_far), 0);
-        WANT(so_far.made, SOME);
-    }
-    WANT(so_far.changed, SOME - made);
-    /* Stopped amid an array: the calls go on from there. The update in front of it is one of a new round. */
-    so_far = (aug_progress){0, 0};
-    WANT(aug_insert(&works, 0), 0);
-    WANT(aug_look(&looks), 0);
-    WANT(aug_size(&looks), SOME);
-    WANT(aug_try_remove_all(&works, keys, SOME, &so_far), AUG_AGAIN);
-    WANT(so_far.made > 0 && so_far.made < SOME && so_far.made == so_far.changed, 1);
+    /* What needs no new round goes on. */
+    WANT(aug_try_room(&works), 0);
+    WANT(aug_try_look(&works), 0);
+    WANT(aug_size(&works), 2 * ROOM);
+    WANT(aug_look_done(&works), 0);
+    WANT(aug_size(&looks), 0);
+    WANT(aug_size(&other), ROOM + 1);
     WANT(aug_look_done(&looks), 0);
     WANT(aug_try_remove_all(&works, keys, SOME, &so_far), 0);
+    WANT(so_far.made == SOME && so_far.changed == SOME, 1);
+    /* Stopped amid an array: the calls go on from there. */
+    const uint32_t left = 2 * ROOM - SOME;
+    so_far = (aug_progress){0, 0};
+    WANT(aug_room(&works), left);
+    WANT(aug_look(&looks), 0);
+    WANT(aug_try_insert_all(&works, keys, SOME, &so_far), AUG_AGAIN);
+    WANT(so_far.made == left + ROOM && so_far.changed == so_far.made, 1);
+    WANT(aug_size(&looks), left);
+    WANT(aug_try_look_again(&looks), 1);
+    WANT(aug_size(&looks), 2 * left + ROOM);
+    WANT(aug_try_insert_all(&works, keys, SOME, &so_far), 0);
     WANT(so_far.changed, SOME);
+    WANT(aug_size(&looks), 2 * left + ROOM);
+    WANT(aug_size(&other), ROOM + 1);
+    WANT(aug_look_done(&looks), 0);
     so_far.made = SOME + 1;
     WANT(aug_try_remove_all(&works, keys, SOME, &so_far), AUG_BAD_LENGTH);
     WANT(aug_close(&small, NULL), 0);
     WANT(aug_user_close(&looks), 0);
+    WANT(aug_user_close(&other), 0);
     WANT(aug_user_close(&works), 0);
 }
 

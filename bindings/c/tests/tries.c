@@ -23,7 +23,7 @@ static void step(uint32_t t, uint32_t u) {
     if (draw(3) == 0) WANT(aug_tend(&tries[t]) >= 0, open_tries[t] == 1);
     switch (draw(6)) {
         case 0:
-            WANT(aug_open(&tries[t], 4, USERS, 63504), open_tries[t] ? AUG_OPEN : 0);
+            WANT(aug_open(&tries[t], 4, USERS, 95256), open_tries[t] ? AUG_OPEN : 0);
             open_tries[t] = 1;
             break;
         case 1:
@@ -83,7 +83,7 @@ static void cross(void) {
     aug_user mine[THREADS] = {AUG_ZEROED};
     pthread_t threads[THREADS], tends;
     void *what;
-    WANT(aug_open(&shared, 6, THREADS, 130496), 0);
+    WANT(aug_open(&shared, 6, THREADS, 195744), 0);
     WANT(pthread_create(&tends, 0, tend, NULL), 0);
     for (int i = 0; i < THREADS; i++) WANT(pthread_create(&threads[i], 0, come, &mine[i]), 0);
     for (int i = 0; i < THREADS; i++) { WANT(pthread_join(threads[i], &what), 0); WANT(what == NULL, 1); }

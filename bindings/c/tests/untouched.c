@@ -36,7 +36,8 @@ static void look(aug_user *user) {
     aug_change change;
     WANT(aug_look(user), AUG_OK);
     WANT(aug_look(user), AUG_LOOKING);
-    WANT(aug_insert(user, 2), AUG_LOOKING);
+    WANT(aug_insert(user, 2), 1);
+    WANT(aug_remove(user, 2, NULL), 1);
     WANT(aug_look_again(user), AUG_OK);
     WANT(aug_has(user, 20), 1);
     WANT(aug_weight(user, 20), 20);

@@ -1,6 +1,6 @@
 /* What others do while a call waits for them: the calls by which the library waits are those of this program, in which the others have their turn. An
-   update that a look holds up tells what it finds when it is made, an array that one holds up in its middle goes on from there, the end of a look
-   leaves time to whoever waits, and a trie is closed while its last user goes. */
+   update that old looks hold up tells what it finds when it is made, an array that they hold up in its middle goes on from there, the end of a look
+   leaves time to whoever waits, and a trie is closed at once, whatever looks are open. */
 #define _POSIX_C_SOURCE 200809L
 #include "augtrie.h"
 #include "want.h"
@@ -8,11 +8,11 @@
 #include <sched.h>
 #include <time.h>
 
-/* With so few bytes each of two users has 64 updates in a round. */
-enum { BITS = 6, KEYS = 1 << BITS, BYTES = 69024, ROOM = 64, HALF = KEYS / 2 };
+/* With so few bytes each of three users has 64 updates in a round. */
+enum { BITS = 6, KEYS = 1 << BITS, BYTES = 149640, ROOM = 64, HALF = KEYS / 2 };
 
 static aug_trie trie = AUG_ZEROED;
-static aug_user works = AUG_ZEROED, looks = AUG_ZEROED;
+static aug_user works = AUG_ZEROED, looks = AUG_ZEROED, keeps = AUG_ZEROED;
 
 /* What happens once while a call waits, how often the library slept, and how many keys the look shows that held the call up. */
 static void (*others)(void);
@@ -34,22 +34,36 @@ int nanosleep(const struct timespec *time, struct timespec *left) {
 
 static void end_look(void) {
     unsigned before = naps;
-    WANT(aug_look_again(&looks), AUG_OK);
+    WANT(aug_look_again(&looks), 1);
     held_up_at = aug_size(&looks);
     WANT(aug_look_done(&looks), AUG_OK);
     WANT(naps, before + 1);
 }
 
-static void close_user(void) {
-    unsigned before = naps;
-    WANT(aug_user_close(&looks), AUG_OK);
-    WANT(naps, before + 1);
+/* Opens a trie with the member 0, of whose first round a look stays open. */
+static void open_all(void) {
+    WANT(aug_open(&trie, BITS, 3, BYTES), AUG_OK);
+    WANT(aug_user_open(&trie, &works), AUG_OK);
+    WANT(aug_user_open(&trie, &looks), AUG_OK);
+    WANT(aug_user_open(&trie, &keeps), AUG_OK);
+    WANT(aug_insert(&works, 0), 1);
+    WANT(aug_look(&keeps), AUG_OK);
+    for (int made = 0; made < ROOM; made++) WANT(aug_try_insert(&works, 0), 0);
 }
 
-/* Fills the table, in which 0 is a member, while there is a look. It ends when the next update waits. */
+static void close_all(aug_report *report) {
+    WANT(aug_size(&keeps), 1);
+    WANT(aug_close(&trie, report), AUG_OK);
+    WANT(aug_user_close(&works), AUG_OK);
+    WANT(aug_user_close(&looks), AUG_OK);
+    WANT(aug_user_close(&keeps), AUG_OK);
+}
+
+/* Fills the round at work, in which 0 is a member, and the next one, while there is a look of each of two rounds. It ends when the next update waits. */
 static void fill(void) {
+    int made = 0;
     WANT(aug_look(&looks), AUG_OK);
-    for (int64_t code = 0; code != AUG_AGAIN; code = aug_try_insert(&works, 0)) WANT(code, 0);
+    for (int64_t code = 0; code != AUG_AGAIN; code = aug_try_insert(&works, 0)) WANT(code == 0 && made++ <= 2 * ROOM, 1);
     others = end_look;
 }
 
@@ -61,10 +75,7 @@ static void check_told(const aug_told *told, int64_t before, int64_t now) {
 
 static void updates_tell(void) {
     aug_told told = {77, 78};
-    WANT(aug_open(&trie, BITS, 2, BYTES), AUG_OK);
-    WANT(aug_user_open(&trie, &works), AUG_OK);
-    WANT(aug_user_open(&trie, &looks), AUG_OK);
-    WANT(aug_insert(&works, 0), 1);
+    open_all();
     fill();
     WANT(aug_put(&works, 3, 7, &told), 1);
     check_told(&told, AUG_NONE, 7);
@@ -77,20 +88,24 @@ static void updates_tell(void) {
     fill();
     WANT(aug_remove(&works, 3, &told), 1);
     check_told(&told, 2, AUG_NONE);
-    WANT(aug_close(&trie, NULL), AUG_OK);
-    WANT(aug_user_close(&works), AUG_OK);
-    WANT(aug_user_close(&looks), AUG_OK);
+    close_all(NULL);
 }
 
-/* Begins a look in a round of which as many updates are left as half of the keys. It holds up an array of all keys. */
+/* Makes updates that change nothing, in a round of which so many are left, down to as many. */
+static void use_up(int64_t from, int64_t left) {
+    while (from > left) {
+        WANT(aug_insert(&works, 0), 0);
+        WANT(aug_room(&works), --from);
+    }
+}
+
+/* Begins a look, and then a round of which as many updates are left as half of the keys. So the look holds up an array of all keys. */
 static void hold_up(void) {
     fill();
-    for (int64_t left = ROOM - 1; left >= HALF; left--) {
-        WANT(aug_insert(&works, 0), 0);
-        WANT(aug_room(&works), left);
-    }
+    use_up(ROOM, 0);
     WANT(others == NULL, 1);
     WANT(aug_look(&looks), AUG_OK);
+    use_up(ROOM, HALF);
     others = end_look;
 }
 
@@ -104,10 +119,7 @@ static void arrays_go_on(void) {
     uint32_t keys[KEYS], weights[KEYS];
     aug_report report;
     for (uint32_t key = 0; key < KEYS; key++) keys[key] = key, weights[key] = 7;
-    WANT(aug_open(&trie, BITS, 2, BYTES), AUG_OK);
-    WANT(aug_user_open(&trie, &works), AUG_OK);
-    WANT(aug_user_open(&trie, &looks), AUG_OK);
-    WANT(aug_insert(&works, 0), 1);
+    open_all();
     hold_up();
     WANT(aug_insert_all(&works, keys, KEYS), KEYS - 1);
     check_held_up();
@@ -124,21 +136,29 @@ static void arrays_go_on(void) {
     WANT(aug_look_done(&looks), AUG_OK);
     WANT(naps, 0);
     /* Each update was made once. */
-    WANT(aug_close(&trie, &report), AUG_OK);
+    close_all(&report);
     WANT(report.size == KEYS && report.inserts == 2 * KEYS + 1 && report.removals == KEYS + 1, 1);
-    WANT(aug_user_close(&works), AUG_OK);
-    WANT(aug_user_close(&looks), AUG_OK);
 }
 
-/* The last user goes while the call waits for its look: nobody else has the trie then. */
+static void nobody(void) {
+}
+
+/* No call waits, and the look shows what it showed until its user goes, which is the last to have the trie. */
 static void trie_is_closed(void) {
     WANT(aug_open(&trie, BITS, 1, BYTES), AUG_OK);
     WANT(aug_user_open(&trie, &looks), AUG_OK);
+    WANT(aug_insert(&looks, 7), 1);
     WANT(aug_look(&looks), AUG_OK);
-    others = close_user;
+    others = nobody;
     WANT(aug_close(&trie, NULL), AUG_OK);
-    WANT(others == NULL, 1);
     WANT(aug_close(&trie, NULL), AUG_CLOSED);
+    WANT(aug_insert(&looks, 8), AUG_CLOSED);
+    WANT(aug_look_again(&looks), AUG_CLOSED);
+    WANT(aug_look(&looks), AUG_LOOKING);
+    WANT(aug_first(&looks), 7);
+    WANT(aug_size(&looks), 1);
+    WANT(aug_user_close(&looks), AUG_OK);
+    WANT(others == nobody, 1);
 }
 
 int main(void) {

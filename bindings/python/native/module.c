@@ -26,7 +26,7 @@ static const struct {
     {AUG_NO_USER, "augtrie.NoUser", NULL, NULL},
     {AUG_OPEN, "augtrie.Open", NULL, NULL},
     {AUG_BAD_LENGTH, "augtrie.BadLength", &PyExc_ValueError, NULL},
-    {AUG_LOOKING, "augtrie.Looking", NULL, "this thread holds a snapshot, which has to be closed first"},
+    {AUG_LOOKING, "augtrie.Looking", NULL, "this thread has a snapshot, which has to be closed first"},
     {AUG_NOT_LOOKING, "augtrie.NotLooking", NULL, "the snapshot has ended"},
     {AUG_TOO_GREAT, "augtrie.TooGreat", &PyExc_OverflowError, NULL},
     {AUG_TOO_LITTLE, "augtrie.TooLittle", &PyExc_ValueError, NULL},

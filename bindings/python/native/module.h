@@ -11,23 +11,27 @@
 
 typedef struct Snapshot Snapshot;
 
+/* What a call does that lets other threads run. */
+enum { UPDATES = 1, ASKS };
+
 /* A user of a trie, for one thread after the other. */
 typedef struct {
     aug_user handle;
     uint64_t thread; /* the number of its thread; 0 if it has none; ENDED if that has ended while another thread was in a call of it */
-    Snapshot *held;  /* the snapshot whose look it holds; borrowed */
+    Snapshot *held;  /* the snapshot whose look it has; borrowed */
     char is_open;
-    char is_busy;    /* a call of it is on that lets other threads run: nobody else may use the handle */
+    char is_busy;    /* a call of it is on that lets other threads run, and does this: nobody else may use the handle */
+    char is_over;    /* its look ends with that call */
 } Seat;
 
 typedef struct Trie {
     PyObject_HEAD
     aug_trie handle;
-    struct Trie *next, **link; /* in the list of open tries; the link is NULL once the trie is closed */
+    struct Trie *next, **link; /* in the list of tries; the link is NULL before the trie is opened */
     uint32_t bits, users;
     unsigned forks;            /* how often the process had been forked when it was opened */
-    int is_closing;
-    unsigned waiting, tries;   /* how many threads wait for others to end their looks, and how often one of them has tried again */
+    int is_closing, is_closed;
+    unsigned waiting, tries;   /* how many threads wait for others to end their calls, or old looks, and how often one of them has tried again */
     aug_report report;         /* once it is closed */
     Seat seats[AUG_MOST_USERS];
 } Trie;
@@ -92,30 +96,33 @@ int watch_forks(void);
 int is_ours(const Trie *trie);
 int is_open(const Trie *trie);
 
-/* Enters a trie into the list of those that are open, and takes it out and closes it, whose seats are not busy. */
+/* Enters a trie into the list of those that are there, and takes it out. */
 void enlist(Trie *trie);
+void delist(Trie *trie);
+
+/* Closes a trie whose seats are not busy, but for those whose snapshots are asked. A seat that has a snapshot stays open until that ends. */
 void shut(Trie *trie);
 
-/* This thread's seat in a trie, whose user may update; or NULL with an exception. */
+/* This thread's seat in a trie, which is not busy; or NULL with an exception. Other threads run while one of them asks this thread's snapshot. */
 Seat *seat_of(Trie *trie);
 
 /* The same, with a look that was taken for it. Other threads run while it waits. */
 Seat *look(Trie *trie);
 
-/* Ends the snapshot of a seat that is not busy, if it has one. */
+/* Ends the snapshot of a seat, if it has one: at the end of the call that is on, if the seat is busy. */
 void end_look(Seat *seat);
 
 /* Lets other threads run for a moment, and handles signals. 0, or -1 with the exception of a handler. */
 int nap(unsigned turn);
 
 /* The same until a call that answered AUG_AGAIN is made again, which has to follow at once. */
-int wait_for_looks(Trie *trie, unsigned turn);
+int wait_for_others(Trie *trie, unsigned turn);
 
-/* If threads wait for looks, gives them some 10 milliseconds at most until one has tried again. It follows a look that was held while others ran. */
+/* If threads wait, gives them some 10 milliseconds at most until one has tried again. It follows a look that was open while others ran. */
 void give_way(const Trie *trie);
 
 /* Begin and end what lets other threads run, or nothing if it is short. No code of Python runs on this thread in between. */
-PyThreadState *let_others_run(Seat *seat, size_t keys);
+PyThreadState *let_others_run(Seat *seat, int call, size_t keys);
 void run_alone(Seat *seat, PyThreadState *others);
 
 #endif

@@ -10,7 +10,7 @@ static Seat *begin(PyObject *self) {
     if (Py_TYPE(self) == trie_type) return look((Trie *)self);
     Snapshot *snapshot = (Snapshot *)self;
     for (unsigned turn = 0;; turn++) {
-        if (!is_open(snapshot->trie)) return raise_code(AUG_CLOSED);
+        if (!is_ours(snapshot->trie)) return raise_code(AUG_CLOSED);
         if (!snapshot->seat) return raise_code(AUG_NOT_LOOKING);
         if (!snapshot->seat->is_busy) return snapshot->seat;
         if (nap(turn)) return NULL;
@@ -192,7 +192,7 @@ static PyObject *ask_all(PyObject *self, PyObject *keys, int (*read)(PyObject *,
     int64_t code = AUG_OK;
     if (seat) {
         const size_t most = bits < 8 ? (size_t)1 << bits : PART;
-        PyThreadState *others = let_others_run(seat, count);
+        PyThreadState *others = let_others_run(seat, ASKS, count);
         for (size_t i = 0; code == AUG_OK && i < count; i += most)
             code = queries(&seat->handle, from + i, count - i < most ? count - i : most, answers + i);
         end_among(self, seat, others);
@@ -217,7 +217,7 @@ static PyObject *get_slice(PyObject *self, PyObject *slice) {
     int64_t members = aug_size(&seat->handle);
     size_t count = (size_t)PySlice_AdjustIndices(members < 0 ? 0 : (Py_ssize_t)members, &start, &stop, step);
     int64_t *answers = PyMem_Malloc(count * sizeof *answers);
-    PyThreadState *others = answers ? let_others_run(seat, count) : NULL;
+    PyThreadState *others = answers ? let_others_run(seat, ASKS, count) : NULL;
     if (answers) items_of(&seat->handle, start, step, count, answers);
     end_among(self, seat, others);
     return answers ? list_of(members, answers, count, told_number) : PyErr_NoMemory();
@@ -500,7 +500,7 @@ PyType_Spec changes_spec = {"augtrie.ChangeIterator", sizeof(Changes), 0, Py_TPF
 
 /* ---- Snapshots ---- */
 
-/* Ends a snapshot whose seat is not busy, unless it has ended. */
+/* Ends a snapshot, unless it has ended. */
 static void end_snapshot(Snapshot *snapshot) {
     if (!snapshot->seat) return;
     end_look(snapshot->seat);
@@ -515,13 +515,17 @@ static void snapshot_free(PyObject *self) {
 }
 
 static PyObject *snapshot_renew(PyObject *self, PyObject *unused) {
-    Seat *seat = begin(self);
+    Snapshot *snapshot = (Snapshot *)self;
     (void)unused;
-    if (!seat) return NULL;
-    int64_t code = aug_look_again(&seat->handle);
-    if (code < 0) return raise_code(code);
-    ((Snapshot *)self)->renewals++;
-    Py_RETURN_NONE;
+    for (unsigned turn = 0;; turn++) {
+        Seat *seat = begin(self);
+        if (!seat) return NULL;
+        int64_t code = aug_try_look_again(&seat->handle);
+        if (code >= 0) snapshot->renewals++;
+        if (code >= 0) return PyBool_FromLong(code == AUG_OK);
+        if (code != AUG_AGAIN) return raise_code(code);
+        if (wait_for_others(snapshot->trie, turn)) return NULL;
+    }
 }
 
 static PyObject *snapshot_changes(PyObject *self, PyObject *unused) {
@@ -585,21 +589,23 @@ static PyObject *snapshot_enter(PyObject *self, PyObject *unused) {
 }
 
 static PyMethodDef snapshot_methods[] = {
-    {"renew", snapshot_renew, METH_NOARGS, "renew($self, /)\n--\n\nShows the trie as it is now."},
+    {"renew", snapshot_renew, METH_NOARGS,
+     "renew($self, /)\n--\n\nShows the trie as it is now: True if `changes` tells what changed by that, and False if a new round of the table began in between. "
+     "Then `changes` has nothing to compare with, and `changes_since` tells it."},
     {"changes", snapshot_changes, METH_NOARGS,
      "changes($self, /)\n--\n\nAn iterator over what the last `renew` changed: keys, rising, each with its weight before and now, or None where it "
-     "is no member. There is nothing before the first one. RuntimeError if the snapshot is renewed meanwhile."},
+     "is no member. There is nothing before the first one, or if it answered False. RuntimeError if the snapshot is renewed meanwhile."},
     {"changes_since", snapshot_changes_since, METH_O,
      "changes_since($self, members, /)\n--\n\nThe same since members that were listed, as `list(snapshot.items())` has them: pairs of a key and its weight, "
      "with rising keys. It goes over all members of both, however few of them changed."},
-    {"close", snapshot_close, METH_NOARGS, "close($self, /)\n--\n\nEnds it, so that its thread may update again. Nothing if it has ended."},
+    {"close", snapshot_close, METH_NOARGS, "close($self, /)\n--\n\nEnds it, so that its thread may ask the trie, or take another. Nothing if it has ended."},
     {"__enter__", snapshot_enter, METH_NOARGS, "The snapshot."},
     {"__exit__", snapshot_close, METH_VARARGS, "Ends it."},
     {NULL, NULL, 0, NULL},
 };
 
 static PyType_Slot snapshot_slots[] = {
-    {Py_tp_doc, "The set as it was at one moment, until `close`, or the end of its trie or thread. Any thread may ask it."},
+    {Py_tp_doc, "The set as it was at one moment, until `close`, or the end of its thread. Any thread may ask it, also once its trie is closed."},
     {Py_tp_new, refuse_new},
     {Py_tp_dealloc, snapshot_free},
     {Py_tp_methods, snapshot_methods},

@@ -17,7 +17,7 @@ enum { YIELDS = 32 };
 /* The number of a thread that has ended. */
 static const uint64_t ENDED = UINT64_MAX;
 
-/* The tries that are open. */
+/* The tries that are open, or may have snapshots. */
 static Trie *tries;
 
 /* Numbers that tell threads apart. None is given twice. */
@@ -40,7 +40,7 @@ int is_ours(const Trie *trie) {
 }
 
 int is_open(const Trie *trie) {
-    return trie->link && !trie->is_closing && is_ours(trie);
+    return !trie->is_closed && !trie->is_closing && is_ours(trie);
 }
 
 void enlist(Trie *trie) {
@@ -51,14 +51,16 @@ void enlist(Trie *trie) {
     tries = trie;
 }
 
-void shut(Trie *trie) {
+void delist(Trie *trie) {
     *trie->link = trie->next;
     if (trie->next) trie->next->link = trie->link;
-    trie->link = NULL;
-    for (uint32_t i = 0; i < trie->users; i++) end_look(&trie->seats[i]);
+}
+
+void shut(Trie *trie) {
+    trie->is_closed = 1;
     if (!is_ours(trie)) return;
-    for (uint32_t i = 0; i < trie->users; i++) aug_user_close(&trie->seats[i].handle);
-    /* Nobody is in a call or holds a look, so this waits for nobody. */
+    for (uint32_t i = 0; i < trie->users; i++) if (!trie->seats[i].held) aug_user_close(&trie->seats[i].handle);
+    /* Nobody is in a call, so this waits for nobody. */
     aug_close(&trie->handle, &trie->report);
 }
 
@@ -67,7 +69,11 @@ void end_look(Seat *seat) {
     if (!held) return;
     seat->held = NULL;
     held->seat = NULL;
-    if (is_ours(held->trie)) aug_look_done(&seat->handle);
+    if (!is_ours(held->trie)) return;
+    /* What asks the snapshot has it, so only an update may be on, and none of a closed trie. */
+    if (held->trie->is_closed) aug_user_close(&seat->handle);
+    else if (seat->is_busy) seat->is_over = 1;
+    else aug_look_done(&seat->handle);
 }
 
 /* Takes a seat from a thread that has ended, or has it taken at the end of the call that is on. */
@@ -116,14 +122,15 @@ static uint64_t number_of_thread(void) {
     return this_thread;
 }
 
-Seat *seat_of(Trie *trie) {
+/* This thread's seat, or NULL with an exception. */
+static Seat *find_seat(Trie *trie) {
     uint64_t thread = number_of_thread();
     Seat *free = NULL;
     if (!thread) return NULL;
     if (!is_open(trie)) return raise_code(AUG_CLOSED);
     for (uint32_t i = 0; i < trie->users; i++) {
         Seat *seat = &trie->seats[i];
-        if (seat->thread == thread) return seat->held ? raise_code(AUG_LOOKING) : seat;
+        if (seat->thread == thread) return seat;
         if (!seat->thread && !free) free = seat;
     }
     int64_t code = !free ? AUG_NO_USER : free->is_open ? AUG_OK : aug_user_open(&trie->handle, &free->handle);
@@ -131,6 +138,14 @@ Seat *seat_of(Trie *trie) {
     free->is_open = 1;
     free->thread = thread;
     return free;
+}
+
+Seat *seat_of(Trie *trie) {
+    for (unsigned turn = 0;; turn++) {
+        Seat *seat = find_seat(trie);
+        if (!seat || !seat->is_busy) return seat;
+        if (nap(turn)) return NULL;
+    }
 }
 
 Seat *look(Trie *trie) {
@@ -141,7 +156,7 @@ Seat *look(Trie *trie) {
         int64_t code = aug_try_look(&seat->handle);
         if (code == AUG_OK) return seat;
         if (code != AUG_AGAIN) return raise_code(code);
-        if (wait_for_looks(trie, turn)) return NULL;
+        if (wait_for_others(trie, turn)) return NULL;
     }
 }
 
@@ -159,7 +174,7 @@ int nap(unsigned turn) {
     return PyErr_CheckSignals();
 }
 
-int wait_for_looks(Trie *trie, unsigned turn) {
+int wait_for_others(Trie *trie, unsigned turn) {
     /* Nobody sees the count but with the interpreter's lock, which this thread has until it tries again. */
     trie->waiting++;
     let_go(turn);
@@ -173,9 +188,9 @@ void give_way(const Trie *trie) {
     for (unsigned turn = YIELDS; is_ours(trie) && trie->waiting && trie->tries == tries && turn < 100 + YIELDS; turn++) let_go(turn);
 }
 
-PyThreadState *let_others_run(Seat *seat, size_t keys) {
+PyThreadState *let_others_run(Seat *seat, int call, size_t keys) {
     if (keys <= FEW_KEYS) return NULL;
-    seat->is_busy = 1;
+    seat->is_busy = (char)call;
     return PyEval_SaveThread();
 }
 
@@ -183,5 +198,7 @@ void run_alone(Seat *seat, PyThreadState *others) {
     if (!others) return;
     PyEval_RestoreThread(others);
     seat->is_busy = 0;
+    if (seat->is_over) aug_look_done(&seat->handle);
+    seat->is_over = 0;
     if (seat->thread == ENDED) leave(seat);
 }

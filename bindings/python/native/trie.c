@@ -18,7 +18,7 @@ static PyObject *trie_new(PyTypeObject *type, PyObject *args, PyObject *named) {
     if (given[2] == Py_None) given[2] = NULL;
     for (int i = 0; i < 3; i++) if (given[i] && read_wide(given[i], &numbers[i])) return NULL;
     for (int i = 0; i < 2; i++) if (numbers[i] > UINT32_MAX) numbers[i] = UINT32_MAX;
-    if (!given[2]) numbers[2] = (4 << 20) + ((uint64_t)512 << (numbers[0] & 31));
+    if (!given[2]) numbers[2] = (6 << 20) + ((uint64_t)768 << (numbers[0] & 31));
     Trie *trie = PyObject_New(Trie, trie_type);
     if (!trie) return NULL;
     memset((char *)trie + sizeof(PyObject), 0, sizeof *trie - sizeof(PyObject));
@@ -38,12 +38,18 @@ static PyObject *trie_new(PyTypeObject *type, PyObject *args, PyObject *named) {
 
 /* A trie that nobody has is in no call, and has no snapshot, since that would have it. */
 static void trie_free(PyObject *self) {
-    if (((Trie *)self)->link) shut((Trie *)self);
+    Trie *trie = (Trie *)self;
+    if (trie->link && !trie->is_closed) shut(trie);
+    if (trie->link) delist(trie);
     free_object(self);
 }
 
+/* Whether a call is on that has to end before the trie is closed: who asks a snapshot goes on. */
 static int is_busy(const Trie *trie) {
-    for (uint32_t i = 0; i < trie->users; i++) if (trie->seats[i].is_busy) return 1;
+    for (uint32_t i = 0; i < trie->users; i++) {
+        const Seat *seat = &trie->seats[i];
+        if (seat->is_busy && !(seat->is_busy == ASKS && seat->held)) return 1;
+    }
     return 0;
 }
 
@@ -51,13 +57,13 @@ static PyObject *trie_close(PyObject *self, PyObject *unused) {
     Trie *trie = (Trie *)self;
     (void)unused;
     if (!is_ours(trie)) return raise_code(AUG_CLOSED);
-    for (unsigned turn = 0; trie->link && is_busy(trie); turn++) {
+    for (unsigned turn = 0; !trie->is_closed && is_busy(trie); turn++) {
         trie->is_closing = 1;
         if (nap(turn) == 0) continue;
         trie->is_closing = 0;
         return NULL;
     }
-    if (trie->link) shut(trie);
+    if (!trie->is_closed) shut(trie);
     const uint64_t fields[] = {trie->report.inserts, trie->report.removals, trie->report.size};
     return record_of(report_type, 3, fields);
 }
@@ -132,13 +138,13 @@ static Py_ssize_t change(PyObject *self, Update update, const uint32_t *keys, co
         /* A handler of a signal may have closed the trie meanwhile, or taken a snapshot. */
         Seat *seat = seat_of((Trie *)self);
         if (!seat) return -1;
-        PyThreadState *others = let_others_run(seat, stop - i);
+        PyThreadState *others = let_others_run(seat, UPDATES, stop - i);
         for (; i < stop && (answer = update(&seat->handle, keys[i], numbers[i], told)) >= 0; i++) changed += answer == 1;
         run_alone(seat, others);
         if (answer < 0 && answer != AUG_AGAIN) return raise_code(answer), -1;
         if (i == count) return changed;
         turn = answer < 0 ? turn + 1 : 0;
-        if (answer < 0 ? wait_for_looks((Trie *)self, turn) : nap(turn)) return -1;
+        if (answer < 0 ? wait_for_others((Trie *)self, turn) : nap(turn)) return -1;
     }
 }
 
@@ -228,7 +234,7 @@ static PyObject *trie_popitem(PyObject *self, PyObject *args, PyObject *named) {
         if (answer == 1) return Py_BuildValue("kk", (unsigned long)member.key, (unsigned long)member.weight);
         if (answer == AUG_NONE) PyErr_SetString(PyExc_KeyError, "the set is empty");
         else if (answer != AUG_AGAIN) raise_code(answer);
-        if (answer != AUG_AGAIN || wait_for_looks((Trie *)self, turn)) return NULL;
+        if (answer != AUG_AGAIN || wait_for_others((Trie *)self, turn)) return NULL;
     }
 }
 
@@ -277,7 +283,7 @@ static PyObject *trie_room(PyObject *self, PyObject *unused) {
         int64_t left = seat ? aug_try_room(&seat->handle) : AUG_CLOSED;
         if (!seat) return NULL;
         if (left != AUG_AGAIN) return told_number(left);
-        if (wait_for_looks((Trie *)self, turn)) return NULL;
+        if (wait_for_others((Trie *)self, turn)) return NULL;
     }
 }
 
@@ -317,7 +323,8 @@ static PyMethodDef methods[] = {
     {"room", trie_room, METH_NOARGS,
      "room($self, /)\n--\n\nHow many updates are left to this thread until it takes a spare part of the table, or the table is full. None of them is made."},
     {"snapshot", trie_snapshot, METH_NOARGS,
-     "snapshot($self, /)\n--\n\nA snapshot, which shows every update of this thread. Until it ends, this thread updates nothing and asks it alone."},
+     "snapshot($self, /)\n--\n\nA snapshot, which shows every update of this thread. Until it ends, this thread has no other, and asks it alone; but it may "
+     "update."},
     {"tend", trie_tend, METH_NOARGS,
      "tend($self, /)\n--\n\nLays a piece of the next round out, once the table is nearly full: True if there is more to do now. Updates do the same in between."},
     {"close", trie_close, METH_NOARGS,
@@ -335,8 +342,8 @@ static PyGetSetDef fields[] = {
 static PyType_Slot slots[] = {
     {Py_tp_doc,
      "Trie(bits, users=16, bytes=None)\n--\n\nThe empty set of keys below 2^bits, with 1 to 16 bits, for so many threads at a time, at most 64. Its "
-     "table takes at most so many bytes, by default 4 MiB and 512 for each key below 2^bits. TooLarge if these are fewer than 64 updates of each thread "
-     "take, or more than 2^30."},
+     "table takes at most so many bytes, by default 6 MiB and 768 for each key below 2^bits. TooLarge if these are fewer than 64 updates of each thread "
+     "take, or more than 3 * 2^29."},
     {Py_tp_new, trie_new},
     {Py_tp_dealloc, trie_free},
     {Py_tp_methods, methods},

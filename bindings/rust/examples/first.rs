@@ -2,8 +2,8 @@ use augtrie::Trie;
 use std::thread;
 
 fn main() -> Result<(), augtrie::Error> {
-    // Keys below 2^12, two users, and a table of at most 1 MiB.
-    let trie = Trie::new(12, 2, 1 << 20)?;
+    // Keys below 2^12, two users, and a table of at most 2 MiB.
+    let trie = Trie::new(12, 2, 1 << 21)?;
     let (mut writer, mut reader) = (trie.user()?, trie.user()?);
     (0..500).try_for_each(|key| writer.insert(key).map(drop))?;
     thread::scope(|scope| {

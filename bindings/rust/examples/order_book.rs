@@ -27,21 +27,28 @@ fn agrees(book: &Look) -> bool {
         && book.iter().all(|(_, volume)| [20, 30, 40, 50, 60].contains(&volume))
 }
 
-// Follows the book from the empty one on, by what changed from one snapshot to the next: all changes together are the book.
-fn follow(mut book: Look) {
+// Follows the book from the empty one on, by what changed from one snapshot to the next, or since the copy where a new round of the table began in
+// between: all changes together are the book.
+fn follow(mut book: Look) -> Result<(), Error> {
     let mut copy = BTreeMap::new();
     for _ in 0..LOOKS {
-        book.again();
-        for Change { key: price, before, now } in book.changes() {
-            *copy.entry(price).or_insert(0) += i64::from(now.unwrap_or(0)) - i64::from(before.unwrap_or(0));
+        let is_same_round = book.again()?;
+        let (prices, volumes): (Vec<u32>, Vec<u32>) = copy.iter().unzip();
+        let changes = if is_same_round { book.changes() } else { book.changes_since(&prices, &volumes)? };
+        for Change { key: price, before, now } in changes {
+            assert_eq!(copy.get(&price).copied(), before);
+            match now {
+                Some(volume) => copy.insert(price, volume),
+                None => copy.remove(&price),
+            };
         }
-        copy.retain(|_, volume| *volume != 0);
-        assert!(agrees(&book) && book.iter().eq(copy.iter().map(|(price, volume)| (*price, *volume as u32))));
+        assert!(agrees(&book) && book.iter().eq(copy.iter().map(|(price, volume)| (*price, *volume))));
     }
+    Ok(())
 }
 
 fn main() -> Result<(), Error> {
-    let book = Trie::new(12, 5, 1 << 20)?;
+    let book = Trie::new(12, 5, 1 << 21)?;
     let mut user = book.user()?;
     thread::scope(|scope| {
         let empty = user.look()?;
@@ -49,9 +56,8 @@ fn main() -> Result<(), Error> {
             let mut user = book.user()?;
             scope.spawn(move || trade(&mut user, lowest).expect("the book is open"));
         }
-        // If the traders fill the table, they wait until this look ends.
-        follow(empty);
-        Ok::<(), Error>(())
+        // The traders do not wait for this look, which is taken again and again.
+        follow(empty)
     })?;
     println!("each of {LOOKS} snapshots agreed with itself and with all changes up to it");
     let now = user.look()?;

@@ -27,9 +27,9 @@ pub enum Error {
     Open = -10,
     /// There are more keys than `2^bits`, or not as many weights as keys.
     BadLength = -11,
-    /// The user holds a look, which was forgotten by [`std::mem::forget`].
+    /// The user has a look already. [`User::look`](crate::User::look) ends one that was forgotten, so no call answers this.
     Looking = -12,
-    /// The user holds no look. A [`Look`](crate::Look) always has its own.
+    /// The user has no look. A [`Look`](crate::Look) always has its own.
     NotLooking = -13,
     /// The weight and the amount together are no weight of 32 bits.
     TooGreat = -14,

@@ -7,7 +7,7 @@
 //! ```
 //! use augtrie::Trie;
 //!
-//! let trie = Trie::new(12, 2, 1 << 20)?;
+//! let trie = Trie::new(12, 2, 1 << 21)?;
 //! std::thread::scope(|scope| {
 //!     for i in 0..2 {
 //!         let mut user = trie.user()?;
@@ -26,7 +26,7 @@
 //! # Ok::<(), augtrie::Error>(())
 //! ```
 //!
-//! A look ends before its user goes on, and one thread at a time has a user or its look:
+//! While there is a look, its user's updates are made through it, and one thread at a time has a user or its look:
 //!
 //! ```compile_fail,E0499
 //! # let mut user = augtrie::Trie::new(4, 1, 1 << 20).unwrap().user().unwrap();

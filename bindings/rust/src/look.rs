@@ -1,7 +1,7 @@
-use crate::Error;
 use crate::changes::Changes;
 use crate::ffi::{self, Span};
 use crate::user::User;
+use crate::{Error, number};
 use std::cell::RefCell;
 use std::iter::FusedIterator;
 use std::ops::{Bound, RangeBounds};
@@ -10,18 +10,22 @@ use std::ptr;
 /// A look at the set: a snapshot, which stays as it is until [`again`](Look::again). All its answers agree with one another. Any key may be
 /// asked for.
 ///
-/// It borrows its user, so no update of that user runs meanwhile, and ends when it is dropped. Others may wait for that, so end it soon.
+/// It borrows its user, whose updates are made through it meanwhile: it has the same methods for that, and shows what it showed. It ends when it is dropped.
+/// Nobody waits for it, with one exception, of which [`User`] tells. After the trie was closed it answers as before.
 ///
 /// ```
 /// use augtrie::{Error, Trie};
 ///
-/// let trie = Trie::new(12, 1, 1 << 20)?;
+/// let trie = Trie::new(12, 1, 1 << 21)?;
 /// let mut user = trie.user()?;
 /// user.put_all(&[30, 10, 20], &[3, 1, 2])?;
-/// let look = user.look()?;
+/// let mut look = user.look()?;
 /// assert_eq!((look.len(), look.rank(20), look.select(1), look.before(10)), (3, 1, Some(20), None));
 /// assert_eq!(look.range(10..=20).sum, 3);
 /// assert_eq!(look.iter().rev().next(), Some((30, 3)));
+/// // An update, which a newer snapshot shows.
+/// assert_eq!((look.insert(40), look.len()), (Ok(true), 3));
+/// assert_eq!((look.again(), look.len()), (Ok(true), 4));
 /// # Ok::<(), Error>(())
 /// ```
 #[derive(Debug)]
@@ -41,9 +45,15 @@ impl<'user> Look<'user> {
         u32::try_from(query(&mut self.user.borrow_mut().handle)).ok()
     }
 
-    /// Takes a newer snapshot in the same look, and waits for nobody. [`changes`](Look::changes) tells what is new in it.
-    pub fn again(&mut self) {
-        ffi::aug_look_again(&mut self.user.get_mut().handle);
+    pub(crate) fn handle(&mut self) -> &mut ffi::User {
+        &mut self.user.get_mut().handle
+    }
+
+    /// Takes a newer snapshot in the same look. True if it is of the same round of the table: then [`changes`](Look::changes) tells what is new in it. False
+    /// if a new round began in between: then there is nothing to compare it with but a list, by [`changes_since`](Look::changes_since). Refused
+    /// with `Closed`, and then the look shows what it showed. While a new round is begun, it waits for that.
+    pub fn again(&mut self) -> Result<bool, Error> {
+        number(ffi::aug_look_again(self.handle())).map(|anew| anew == 0)
     }
 
     /// Whether the key is a member.
@@ -175,19 +185,19 @@ impl<'user> Look<'user> {
     }
 
     /// The keys whose weights differ between the snapshot that the last [`again`](Look::again) took and the one that the look showed before,
-    /// rising. There are none before the first `again`, and a key that went out and came back with the same weight is none. What no update
-    /// has touched in between is passed over.
+    /// rising. There are none before the first `again`, or after one that met a new round, and a key that went out and came back with the same weight is
+    /// none. What no update has touched in between is passed over.
     ///
     /// ```
     /// use augtrie::{Change, Error, Trie};
     ///
-    /// let trie = Trie::new(12, 2, 1 << 20)?;
+    /// let trie = Trie::new(12, 2, 1 << 21)?;
     /// let (mut reader, mut writer) = (trie.user()?, trie.user()?);
     /// writer.insert_all(&[7, 8])?;
     /// let mut look = reader.look()?;
     /// writer.add(8, 2)?;
     /// writer.insert(9)?;
-    /// look.again();
+    /// assert!(look.again()?);
     /// let want = [Change { key: 8, before: Some(8), now: Some(10) }, Change { key: 9, before: None, now: Some(9) }];
     /// assert!(look.changes().eq(want));
     /// # Ok::<(), Error>(())
@@ -204,7 +214,7 @@ impl<'user> Look<'user> {
     /// ```
     /// use augtrie::{Change, Error, Trie};
     ///
-    /// let trie = Trie::new(12, 1, 1 << 20)?;
+    /// let trie = Trie::new(12, 1, 1 << 21)?;
     /// let mut user = trie.user()?;
     /// user.insert_all(&[7, 8])?;
     /// let (keys, weights): (Vec<u32>, Vec<u32>) = user.look()?.iter().unzip();
@@ -253,7 +263,7 @@ fn ends(keys: impl RangeBounds<u32>) -> (u32, u32) {
 
 impl Drop for Look<'_> {
     fn drop(&mut self) {
-        ffi::aug_look_done(&mut self.user.get_mut().handle);
+        ffi::aug_look_done(self.handle());
     }
 }
 

@@ -60,7 +60,7 @@ impl Drop for Shared {
         fence(Ordering::Acquire);
         // SAFETY: this was the last owner.
         let open = unsafe { self.0.as_mut() };
-        // No user is left, so there is no look to wait for.
+        // No user is left, so there is no call to wait for.
         ffi::aug_close(open.handle.get_mut().unwrap_or_else(PoisonError::into_inner), None);
         // SAFETY: it was allocated so, and nobody uses it any more.
         unsafe {

@@ -12,7 +12,7 @@ use std::sync::PoisonError;
 /// ```
 /// use augtrie::{Error, Trie};
 ///
-/// let trie = Trie::new(12, 2, 1 << 20)?;
+/// let trie = Trie::new(12, 2, 1 << 21)?;
 /// let mut user = trie.user()?;
 /// assert_eq!(user.insert(7), Ok(true));
 /// assert_eq!(trie.close()?.size, 1);
@@ -25,11 +25,11 @@ pub struct Trie(Shared);
 
 impl Trie {
     /// No table may take more bytes.
-    pub const MOST_BYTES: u64 = 1 << 30;
+    pub const MOST_BYTES: u64 = 3 << 29;
 
     /// Opens the empty trie for keys of 1 to 16 bits and 1 to 64 users at a time, whose table takes at most so many bytes: twice as many
-    /// while it is opened. With more bytes it is full less often: 112 bytes go to each key below `2^bits`, and each update takes `80 * bits` of the
-    /// others until it is full. For as many updates as there are keys, `1 << 21` are enough with 11 bits, and `1 << 26` with 15.
+    /// while it is opened. With more bytes it is full less often: 168 bytes go to each key below `2^bits`, and each update takes `120 * bits` of the
+    /// others until it is full. For as many updates as there are keys, `1 << 22` are enough with 11 bits, and `1 << 26` with 15.
     /// Refused with `BadBits`, `BadUsers`, `TooLarge` if the bytes are fewer than 64 updates of each user take, or more than `MOST_BYTES`, and
     /// `NoMemory`.
     pub fn new(bits: u32, users: u32, bytes: u64) -> Result<Trie, Error> {
@@ -39,9 +39,8 @@ impl Trie {
     }
 
     /// Opens a user. Refused with `NoUser` if all are open, `NoMemory`, and `Closed`: by a `close` of another thread from its beginning on.
-    /// It waits for no look.
     pub fn user(&self) -> Result<User, Error> {
-        // Whoever keeps readers off is closing the trie, and may wait for a look that this thread holds.
+        // Whoever keeps readers off is closing the trie.
         let handle = self.0.handle.try_read().map_err(|_| Error::Closed)?;
         let mut user = ffi::User::CLOSED;
         number(ffi::aug_user_open(&handle, &mut user))?;
@@ -49,16 +48,15 @@ impl Trie {
     }
 
     /// Lays a piece of the next round out, once the table is nearly full: true if there is more to do now. Updates do the same in between; a thread that
-    /// has a processor to spare takes that work off them if it calls this again and again, and sleeps a little after each `false`. It waits for no
-    /// look. Refused with `Closed`, as `user`.
+    /// has a processor to spare takes that work off them if it calls this again and again, and sleeps a little after each `false`. Refused with
+    /// `Closed`, as `user`.
     pub fn tend(&self) -> Result<bool, Error> {
         let handle = self.0.handle.try_read().map_err(|_| Error::Closed)?;
         Ok(number(ffi::aug_tend(&handle))? == 1)
     }
 
-    /// Closes the trie, and tells what its life came to. Its users answer `Closed` from then on, and so does a second `close`.
-    ///
-    /// It waits for the updates that users are in, and for each look. So a thread that holds a look itself waits for ever.
+    /// Closes the trie, and tells what its life came to. Its users answer `Closed` from then on, and so does a second `close`, but looks that are open answer
+    /// as before. It waits for the calls that users are in, and for no look.
     pub fn close(&self) -> Result<Report, Error> {
         let mut handle = self.0.handle.write().unwrap_or_else(PoisonError::into_inner);
         let mut report = Report::default();

@@ -9,7 +9,7 @@ use std::thread;
 use std::time::{Duration, Instant};
 
 // So many that no test here fills the table, whatever the bits.
-const PLENTY: u64 = 1 << 24;
+const PLENTY: u64 = 3 << 23;
 
 const fn crosses<T: Send>() {}
 const fn is_shared<T: Send + Sync + Clone>() {}
@@ -139,7 +139,7 @@ fn from_both_ends(mut iter: augtrie::Iter, drawn: &mut Drawn) -> Vec<(u32, u32)>
 #[test]
 fn both_ends_of_a_list_meet() -> Result<(), Error> {
     for (first, step, count) in [(0, 1, 0), (0, 1, 1), (65_535, 1, 1), (0, 1, 100), (65_436, 1, 100), (15, 1024, 64), (7, 655, 101)] {
-        let trie = Trie::new(16, 1, 1 << 24)?;
+        let trie = Trie::new(16, 1, PLENTY)?;
         let mut user = trie.user()?;
         let members: Vec<(u32, u32)> = (0..count).map(|i| (first + i * step, i)).collect();
         for (key, weight) in &members {
@@ -192,7 +192,7 @@ fn a_look_stays_until_it_is_taken_again() -> Result<(), Error> {
                 update(&mut one, &mut map, &mut drawn, bits);
             }
             ask(&look, &before, &mut drawn, bits);
-            look.again();
+            assert_eq!(look.again(), Ok(true));
             ask(&look, &map, &mut drawn, bits);
         }
     }
@@ -218,7 +218,7 @@ fn changes_are_what_differs_between_two_snapshots() -> Result<(), Error> {
         for updates in [0, 1, 5, 40, 120, 240, 2, 0] {
             let before = map.clone();
             (0..updates).for_each(|_| update(&mut one, &mut map, &mut drawn, bits));
-            look.again();
+            assert_eq!(look.again(), Ok(true));
             let want = differences(&before, &map);
             assert!(look.changes().eq(want.iter().copied()));
             // A clone goes on from where it was made, and at its end an iterator stays there.
@@ -241,14 +241,14 @@ fn so_many_changes_are_listed_as_there_are() -> Result<(), Error> {
         let mut look = other.look()?;
         let keys: Vec<u32> = (0..count).map(|i| 65_535 - 65 * i).rev().collect();
         assert_eq!(one.put_all(&keys, &vec![7; keys.len()]), Ok(count));
-        look.again();
+        assert_eq!(look.again(), Ok(true));
         assert!(look.changes().eq(keys.iter().map(|&key| Change { key, before: None, now: Some(7) })));
         assert_eq!(one.remove_all(&keys), Ok(count));
-        look.again();
+        assert_eq!(look.again(), Ok(true));
         assert!(look.changes().eq(keys.iter().map(|&key| Change { key, before: Some(7), now: None })));
         // These go in and out again between two snapshots.
         assert_eq!((one.insert_all(&keys), one.remove_all(&keys)), (Ok(count), Ok(count)));
-        look.again();
+        assert_eq!(look.again(), Ok(true));
         assert_eq!(look.changes().next(), None);
     }
     Ok(())
@@ -310,12 +310,13 @@ fn a_copy_follows_the_changes_that_three_threads_make() -> Result<(), Error> {
             threads.push(scope.spawn(move || work(i, user)));
         }
         while threads.iter().any(|thread| !thread.is_finished()) {
-            // The others wait for each look when the table is full.
             let mut look = looker.look()?;
             let mut copy: BTreeMap<u32, u32> = look.iter().collect();
             for _ in 0..4 {
-                look.again();
-                for change in look.changes() {
+                let is_same_round = look.again()?;
+                assert!(is_same_round || look.changes().next().is_none());
+                let (keys, weights): (Vec<u32>, Vec<u32>) = copy.iter().unzip();
+                for change in if is_same_round { look.changes() } else { look.changes_since(&keys, &weights)? } {
                     assert_eq!(copy.get(&change.key).copied(), change.before);
                     assert_ne!(change.before, change.now);
                     set(&mut copy, change.key, change.now);
@@ -488,7 +489,7 @@ fn users_come_and_go_in_four_threads() -> Result<(), Error> {
 
 #[test]
 fn the_next_rounds_are_laid_out_while_others_update() -> Result<(), Error> {
-    let trie = Trie::new(8, 4, 1 << 18)?;
+    let trie = Trie::new(8, 4, 3 << 17)?;
     let working = AtomicU32::new(4);
     thread::scope(|scope| {
         for i in 0..4 {
@@ -515,7 +516,7 @@ fn the_next_rounds_are_laid_out_while_others_update() -> Result<(), Error> {
 
 #[test]
 fn a_user_is_told_how_many_updates_are_left_to_it() -> Result<(), Error> {
-    for (bytes, room) in [(22_512, 64), (22_831, 64), (22_832, 65)] {
+    for (bytes, room) in [(33_768, 64), (34_247, 64), (34_248, 65)] {
         let trie = Trie::new(4, 1, bytes)?;
         let mut user = trie.user()?;
         // Those that are refused count as well, and the table has a new round after the last one.
@@ -524,9 +525,7 @@ fn a_user_is_told_how_many_updates_are_left_to_it() -> Result<(), Error> {
             assert_eq!(user.insert(turn % 16), Ok(turn < 16));
         }
         assert_eq!((user.insert_all(&[1, 2, 3]), user.room()), (Ok(0), Ok(room - 3)));
-        forget(user.look()?);
-        assert_eq!(user.room(), Err(Error::Looking));
-        drop(user.look()?);
+        assert_eq!(user.look()?.room(), Ok(room - 3));
         assert_eq!((user.room(), trie.close().map(|report| report.size)), (Ok(room - 3), Ok(16)));
         assert_eq!(user.room(), Err(Error::Closed));
     }
@@ -629,24 +628,129 @@ fn a_look_outlives_the_last_trie() -> Result<(), Error> {
 }
 
 #[test]
-fn a_close_waits_for_a_look_whose_thread_it_keeps_from_nothing() -> Result<(), Error> {
+fn a_look_outlives_the_close_of_its_trie_which_waits_for_none() -> Result<(), Error> {
     let trie = Trie::new(4, 2, PLENTY)?;
-    let mut user = trie.user()?;
+    let (mut user, mut other) = (trie.user()?, trie.user()?);
     assert_eq!(user.insert(3), Ok(true));
     let mut look = user.look()?;
     let closes = {
         let trie = trie.clone();
         thread::spawn(move || trie.close())
     };
-    // While the other thread waits for the look, this one is refused a user, and goes on looking.
-    while trie.user().is_ok() {
-        thread::yield_now();
-    }
-    assert_eq!(trie.user().err(), Some(Error::Closed));
-    look.again();
-    assert!(!closes.is_finished() && look.contains(3));
-    drop(look);
     assert_eq!(closes.join().expect("it ends").map(|report| report.size), Ok(1));
+    assert_eq!((trie.user().err(), other.look().err()), (Some(Error::Closed), Some(Error::Closed)));
+    drop((trie, other));
+    for _ in 0..3 {
+        assert_eq!((look.again(), look.insert(4), look.room()), (Err(Error::Closed), Err(Error::Closed), Err(Error::Closed)));
+        assert!(look.iter().eq([(3, 3)]) && look.changes().next().is_none());
+        assert_eq!(look.changes_since(&[], &[])?.next(), Some(Change { key: 3, before: None, now: Some(3) }));
+    }
+    drop(look);
+    assert_eq!(user.look().err(), Some(Error::Closed));
+    Ok(())
+}
+
+#[test]
+fn a_look_makes_each_update_of_its_user_and_shows_the_same() -> Result<(), Error> {
+    let trie = Trie::new(6, 1, PLENTY)?;
+    let mut user = trie.user()?;
+    assert_eq!(user.insert_all(&[1, 2, 3]), Ok(3));
+    let mut look = user.look()?;
+    assert_eq!((look.insert(9), look.remove(9), look.put(2, 5)), (Ok(true), Ok(Some(9)), Ok(Put::Replaced { before: 2 })));
+    assert_eq!(look.add(2, 1), Ok(Told { before: Some(5), now: Some(6) }));
+    assert_eq!(look.sub(2, 6), Ok(Told { before: Some(6), now: None }));
+    assert_eq!((look.pop_first(), look.pop_last(), look.pop_first()), (Ok(Some((1, 1))), Ok(Some((3, 3))), Ok(None)));
+    assert_eq!((look.insert_all(&[4, 5]), look.put_all(&[4], &[7]), look.remove_all(&[5])), (Ok(2), Ok(1), Ok(1)));
+    assert_eq!((look.insert(64), look.sub(2, 1), look.insert_all(&[0; 65])), (Err(Error::BadKey), Err(Error::TooLittle), Err(Error::BadLength)));
+    assert!(look.iter().eq([(1, 1), (2, 2), (3, 3)]) && look.changes().next().is_none());
+    assert_eq!(look.again(), Ok(true));
+    assert!(look.iter().eq([(4, 7)]) && look.changes().map(|change| change.key).eq(1..=4));
+    drop(look);
+    assert_eq!((user.insert(10), user.look()?.len()), (Ok(true), 2));
+    Ok(())
+}
+
+#[test]
+fn a_user_updates_beside_its_look_over_many_rounds() -> Result<(), Error> {
+    let mut drawn = Drawn(13);
+    // With so few bytes a round has 64 updates.
+    let trie = Trie::new(4, 1, 33_768)?;
+    let (mut user, mut map) = (trie.user()?, BTreeMap::new());
+    for left in (0..64).rev() {
+        while user.room()? != left {
+            assert!(user.insert(3).is_ok());
+            map.entry(3).or_insert(3);
+        }
+        let mut before = map.clone();
+        let (keys, weights): (Vec<u32>, Vec<u32>) = before.iter().unzip();
+        let mut look = user.look()?;
+        let put = |look: &mut Look, map: &mut BTreeMap<u32, u32>, drawn: &mut Drawn| {
+            let (key, weight) = (drawn.below(16), drawn.below(9));
+            let want = map.insert(key, weight).map_or(Put::Accepted, |before| Put::Replaced { before });
+            assert_eq!(look.put(key, weight), Ok(want));
+        };
+        // What is left of its round, and all of the next four.
+        for made in 0..left + 4 * 64 {
+            put(&mut look, &mut map, &mut drawn);
+            if made % 32 == 0 {
+                ask(&look, &before, &mut drawn, 4);
+            }
+        }
+        ask(&look, &before, &mut drawn, 4);
+        assert_eq!((look.room(), look.again()), (Ok(0), Ok(false)));
+        ask(&look, &map, &mut drawn, 4);
+        assert!(look.changes().next().is_none() && look.changes_since(&keys, &weights)?.eq(differences(&before, &map)));
+        // The next update begins a round, and the one after that is in the same.
+        for is_same_round in [false, true] {
+            before = map.clone();
+            put(&mut look, &mut map, &mut drawn);
+            assert_eq!(look.again(), Ok(is_same_round));
+            assert!(look.changes().eq(if is_same_round { differences(&before, &map) } else { Vec::new() }));
+        }
+    }
+    assert_eq!(trie.close()?.size as usize, map.len());
+    Ok(())
+}
+
+/// Puts 7 so many times, at the keys below 16 in turn, which weigh that.
+fn put_sevens(user: &mut User, updates: u32) {
+    for made in 0..updates {
+        assert_eq!(user.put(made % 16, 7), Ok(Put::Replaced { before: 7 }));
+    }
+}
+
+#[test]
+fn looks_of_two_earlier_rounds_hold_a_third_one_up_until_one_of_them_ends() -> Result<(), Error> {
+    for older_ends in [true, false] {
+        // With so few bytes each of three users has 64 updates in a round.
+        let trie = Trie::new(4, 3, 95_256)?;
+        let (mut works, mut older, mut newer) = (trie.user()?, trie.user()?, trie.user()?);
+        assert_eq!(works.put_all(&Vec::from_iter(0..16), &[7; 16]), Ok(16));
+        let older = older.look()?;
+        // Those of one hold nobody up, over many rounds.
+        put_sevens(&mut works, 48 + 4 * 64);
+        let newer = newer.look()?;
+        // All of the next round.
+        put_sevens(&mut works, 64);
+        assert_eq!(works.room(), Ok(0));
+        let is_made = AtomicU32::new(0);
+        thread::scope(|scope| {
+            scope.spawn(|| {
+                assert_eq!(works.put(3, 8), Ok(Put::Replaced { before: 7 }));
+                is_made.store(1, SeqCst);
+            });
+            thread::sleep(Duration::from_millis(100));
+            let was_made = is_made.load(SeqCst);
+            for look in [&older, &newer] {
+                assert!(look.iter().eq((0..16).map(|key| (key, 7))));
+            }
+            let left = if older_ends { (drop(older), newer).1 } else { (drop(newer), older).1 };
+            while is_made.load(SeqCst) == 0 {
+                thread::yield_now();
+            }
+            assert!(was_made == 0 && left.get(3) == Some(7));
+        });
+    }
     Ok(())
 }
 
@@ -656,10 +760,9 @@ fn a_look_that_was_forgotten_ends_with_the_next_one() -> Result<(), Error> {
     let (mut user, mut other) = (trie.user()?, trie.user()?);
     assert_eq!(user.insert(3), Ok(true));
     forget(user.look()?);
-    assert_eq!((user.insert(4), user.remove(3)), (Err(Error::Looking), Err(Error::Looking)));
-    assert_eq!((user.put(4, 1), user.add(4, 1), user.sub(3, 1)), (Err(Error::Looking), Err(Error::Looking), Err(Error::Looking)));
-    let counts = [user.insert_all(&[4]), user.remove_all(&[3]), user.insert_all(&[]), user.put_all(&[], &[])];
-    assert_eq!(counts, [Err(Error::Looking); 4]);
+    // Its user updates beside it.
+    assert_eq!((user.insert(4), user.remove(4)), (Ok(true), Ok(Some(4))));
+    assert_eq!([user.insert_all(&[3]), user.insert_all(&[]), user.put_all(&[], &[])], [Ok(0); 3]);
     assert_eq!(user.look()?.len(), 1);
     assert_eq!(user.insert(4), Ok(true));
     // Nor does one that was forgotten hold others up once its user looks again, or is gone.
@@ -711,7 +814,7 @@ fn looks_agree_and_never_go_back_while_others_fill_the_table() -> Result<(), Err
                     assert!(now >= *seen && own.count <= 1 && (own.count == 0 || own.sum == u64::from(now) - 1));
                     *seen = now;
                 }
-                look.again();
+                look.again()?;
             }
             looks += 1;
         }
@@ -796,7 +899,7 @@ fn a_panic_ends_the_look_and_frees_the_place() -> Result<(), Error> {
 #[test]
 fn refusals_have_names() -> Result<(), Error> {
     for (bits, users, bytes, want) in [(0, 1, PLENTY, Error::BadBits), (17, 1, PLENTY, Error::BadBits), (4, 0, PLENTY, Error::BadUsers),
-        (4, 65, PLENTY, Error::BadUsers), (4, 1, 0, Error::TooLarge), (4, 1, 22_511, Error::TooLarge),
+        (4, 65, PLENTY, Error::BadUsers), (4, 1, 0, Error::TooLarge), (4, 1, 33_767, Error::TooLarge),
         (4, 1, Trie::MOST_BYTES + 1, Error::TooLarge), (4, 1, u64::MAX, Error::TooLarge)]
     {
         assert_eq!(Trie::new(bits, users, bytes).err(), Some(want));

@@ -1,24 +1,39 @@
 -- From what a call did to what a handle stands for to what it says of the handle.
-use Rattle.std.proofs.Common.{◌≡◌, ◌∙◌, ap, sym, subst, true≢false}
+use Rattle.std.proofs.Common.{◌≡◌, ◌∙◌, ap, refl, sym, subst, true≢false}
 use Rattle.std.specs.Prelude.{ℤ, ⊤, Option, Some, None, IsSome, IsNone}
 use Rattle.aug_model.specs.Keys.{SetFacts}
 use Rattle.aug_live.specs.LiveHandles.{HandleFacts, LookFacts, set_of_look}
-use Rattle.aug_c.specs.Handles.{state_of, AsksUser, HandleCall, OnFree, OnLooking, StaysFree, StaysLooking, UpdatesUser}
+use Rattle.aug_c.specs.Handles.{state_of, AsksUser, HandleCall, OnUser, ToAccess, ToLook, UpdatesUser}
 use Rattle.aug_c.specs.UserCalls.{Asks, AsksLook}
+use Rattle.aug_c.specs.Users.{UserFacts}
 use Rattle.aug_c.specs.declared.raw_handle.RawHandle.{RawHandle}
 use Rattle.aug_c.specs.declared.state.HandleState.{HandleState}
-use Rattle.aug_c.specs.declared.state.HandleState.TheVariants.{Closed, Trie, Free, Looking}
+use Rattle.aug_c.specs.declared.state.HandleState.TheVariants.{Closed, Trie, User}
 use Rattle.aug_c.specs.inside.Answered.{AnswersLook}
 
 not_none : {X : Type 0} (o : Option X) → IsSome o → ¬ IsNone o
 not_none None some none = true≢false (sym some)
 not_none (Some x) some none = true≢false none
 
--- the look that a user holds was asked
-pub looking_call : (Does : LookFacts → LookFacts → ℤ → Type 0) (Same : Type 0) (old new : RawHandle) (held look after : LookFacts) (code said : ℤ) → IsSome old.held.value → state_of old ≡ Looking held → look ≡ held
-    → state_of new ≡ Looking after → new.tag ≡ old.tag → code ≡ said → Does look after said → AsksUser Does Same old new code
-looking_call Does Same old new held look after code said some was same is tag says done = record {
-  does = subst (λ (s : HandleState). OnLooking (StaysLooking Does) Same s (state_of new) code) (sym (was ∙ ap (λ (l : LookFacts). Looking l) (sym same))) (after, is, subst (Does look after) (sym says) done);
+abbrev pub user_by : HandleFacts → Option LookFacts → UserFacts
+user_by access look = record { access = access; look = look }
+
+-- the look of a user was asked
+pub looking_call : (Does : LookFacts → LookFacts → ℤ → Type 0) (Same : Type 0) (old new : RawHandle) (user : UserFacts) (access : HandleFacts) (has : Option LookFacts) (look after : LookFacts) (code said : ℤ) → IsSome old.held.value → state_of old ≡ User user
+    → user_by access has ≡ user → has ≡ Some look → state_of new ≡ User (user_by access (Some after)) → new.tag ≡ old.tag → code ≡ said → Does look after said → AsksUser Does Same old new code
+looking_call Does Same old new user access has look after code said some was seen there is tag says done = record {
+  does = subst (λ (s : HandleState). OnUser (λ x y c. ToLook Does Same x.access x.look y c) Same s (state_of new) code) (sym (was ∙ ap (λ (u : UserFacts). User u) (sym seen ∙ ap (user_by access) there)))
+      (user_by access (Some after), is, (after, refl, subst (Does look after) (sym says) done));
+  tag = tag;
+  foreign = λ none. absurd (not_none old.held.value some none);
+}
+
+-- something was done to the access of a user
+pub update_call : (Does : HandleFacts → HandleFacts → ℤ → Type 0) (Same : Type 0) (old new : RawHandle) (user : UserFacts) (access after : HandleFacts) (look : Option LookFacts) (code said : ℤ) → IsSome old.held.value → state_of old ≡ User user
+    → user_by access look ≡ user → state_of new ≡ User (user_by after look) → new.tag ≡ old.tag → code ≡ said → Does access after said → UpdatesUser Does Same old new code
+update_call Does Same old new user access after look code said some was seen is tag says done = record {
+  does = subst (λ (s : HandleState). OnUser (ToAccess Does) Same s (state_of new) code) (sym (was ∙ ap (λ (u : UserFacts). User u) (sym seen)))
+      (user_by after look, is, (after, refl, subst (Does access after) (sym says) done));
   tag = tag;
   foreign = λ none. absurd (not_none old.held.value some none);
 }
@@ -33,23 +48,25 @@ module _ {Does Also : HandleState → HandleState → ℤ → Type 0} (also : (s
   }
 
 module _ (Does Also : HandleFacts → HandleFacts → ℤ → Type 0) (Same : Type 0) (also : (old new : HandleFacts) (code : ℤ) → Does old new code → Also old new code) where
-  free_also : (s t : HandleState) (code : ℤ) → OnFree (StaysFree Does) Same s t code → OnFree (StaysFree Also) ⊤ s t code
-  free_also (Free old) t code d = (d.0, d.1, also old d.0 code d.2)
-  free_also (Looking look) t code d = (d.0, d.1, tt)
-  free_also (Trie trie) t code d = (d.0, d.1, tt)
-  free_also Closed t code d = (d.0, d.1, tt)
+  access_also : (s t : HandleState) (code : ℤ) → OnUser (ToAccess Does) Same s t code → OnUser (ToAccess Also) ⊤ s t code
+  access_also (User old) t code d = (d.0, d.1, (d.2.0, d.2.1, also old.access d.2.0 code d.2.2))
+  access_also (Trie trie) t code d = (d.0, d.1, tt)
+  access_also Closed t code d = (d.0, d.1, tt)
 
   -- an update that does more does this too
   pub updates_also : (old new : RawHandle) (code said : ℤ) → code ≡ said → UpdatesUser Does Same old new said → UpdatesUser Also ⊤ old new code
-  updates_also old new code said says call = call_also free_also old new code said says call
+  updates_also old new code said says call = call_also access_also old new code said says call
 
 module _ {X : Type 0} (is_answer : SetFacts → X → Type 0) (number_of : X → ℤ) (told : SetFacts → ℤ) (tells : (set : SetFacts) (x : X) → is_answer set x → number_of x ≡ told set) where
-  looking_also : (s t : HandleState) (code : ℤ) → OnLooking (StaysLooking (AnswersLook is_answer number_of)) ⊤ s t code → OnLooking (StaysLooking (AsksLook told)) ⊤ s t code
-  looking_also (Looking old) t code d = (d.0, d.1, record { says = d.2.says ∙ tells (set_of_look old) d.2.answer d.2.is; most = d.2.most; asked = d.2.asked })
-  looking_also (Free access) t code d = d
-  looking_also (Trie trie) t code d = d
-  looking_also Closed t code d = d
+  look_also : (access : HandleFacts) (look : Option LookFacts) (user : UserFacts) (code : ℤ) → ToLook (AnswersLook is_answer number_of) ⊤ access look user code → ToLook (AsksLook told) ⊤ access look user code
+  look_also access (Some old) user code d = (d.0, d.1, record { says = d.2.says ∙ tells (set_of_look old) d.2.answer d.2.is; most = d.2.most; asked = d.2.asked })
+  look_also access None user code d = d
+
+  user_also : (s t : HandleState) (code : ℤ) → OnUser (λ x y c. ToLook (AnswersLook is_answer number_of) ⊤ x.access x.look y c) ⊤ s t code → OnUser (λ x y c. ToLook (AsksLook told) ⊤ x.access x.look y c) ⊤ s t code
+  user_also (User old) t code d = (d.0, d.1, look_also old.access old.look d.0 code d.2)
+  user_also (Trie trie) t code d = d
+  user_also Closed t code d = d
 
   -- a query that has an answer as a number asks for that number
   pub told_by : (old new : RawHandle) (code said : ℤ) → code ≡ said → AsksUser (AnswersLook is_answer number_of) ⊤ old new said → Asks told old new code
-  told_by = call_also looking_also
+  told_by = call_also user_also

@@ -2,6 +2,7 @@ pub mod HeldBoxes
 pub mod Values
 pub mod Apart
 pub mod Calls
+pub mod Owning
 pub mod Opening
 pub mod Reading
 pub mod Turns

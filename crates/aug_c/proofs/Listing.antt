@@ -94,7 +94,7 @@ below_behind set at k n up within is =
 
 -- the members of a look's snapshot rise
 pub rises_in : (look : LookFacts) → IsStrictlyIncreasing (list_of (set_of_look look))
-rises_in look = members_rise (snapshot_cut look.half look.snapshot.number)
+rises_in look = members_rise (snapshot_cut look.reader look.snapshot.number)
 
 -- what was written of some numbers, after so many of them were listed: no more than there is room for
 pub record Wrote (xs before now : List ℕ) (listed : ℕ) : Type 0 where

@@ -41,14 +41,14 @@ module _ {A B : Type 0} (summary_of : List (ℕ × ℕ) → Summary A B) where
 
   -- a look that was not asked, and one that was asked twice
   pub asked_none : (a : LookFacts) → IsAsked summary_of 0 a a
-  asked_none a = record { same = refl; same_set = refl; same_before = refl; reads = reads_none a.half }
+  asked_none a = record { same = refl; same_set = refl; same_before = refl; reads = reads_none a.reader }
 
   pub asked_on : (few most : ℕ) (a b c : LookFacts) → IsAsked summary_of few a b → IsAsked summary_of most b c → IsAsked summary_of (few + most) a c
   asked_on few most a b c x y = record {
-    same = y.same ∙ ap (λ (z : LookFacts). record z { half = c.half }) x.same;
+    same = y.same ∙ ap (λ (z : LookFacts). record z { reader = c.reader }) x.same;
     same_set = y.same_set ∙ x.same_set;
     same_before = y.same_before ∙ x.same_before;
-    reads = reads_on few most a.half b.half c.half x.reads y.reads;
+    reads = reads_on few most a.reader b.reader c.reader x.reads y.reads;
   }
 
 -- one more place of a list is written, where the first ones were

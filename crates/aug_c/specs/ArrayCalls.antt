@@ -60,13 +60,13 @@ pub record MakesEach (asked : ℕ → Request) (keys : List ℕ) (before after :
 abbrev pub HasLengths : ℕ → ℕ → ℕ → ArrayProgress → Type 0
 HasLengths bits keys weights progress = (weights ≡ keys) × (keys ≤ 2 ^ bits) × (progress.made ≤ keys) × (progress.changed ≤ progress.made)
 
--- updates for an array by a user that holds no look: which lengths and keys are refused, so that nothing changes, and what is made otherwise
+-- updates for an array by the access of a user: which lengths and keys are refused, so that nothing changes, and what is made otherwise
 pub record UpdatesAllFree (asked : ℕ → Request) (keys : List ℕ) (weights : ℕ) (before after : ArrayProgress) (old new : HandleFacts) (code : ℤ) : Type 0 where
   pub bad_length : (¬ HasLengths old.half.round.bits (length keys) weights before) → (code ≡ codes.bad_length) × (new ≡ old) × (after ≡ before)
   pub bad_key : HasLengths old.half.round.bits (length keys) weights before → (¬ All (λ k. k < 2 ^ old.half.round.bits) keys) → (code ≡ codes.bad_key) × (new ≡ old) × (after ≡ before)
   pub makes : HasLengths old.half.round.bits (length keys) weights before → All (λ k. k < 2 ^ old.half.round.bits) keys → MakesEach asked keys before after old new code
 
--- updates for an array by a user that holds no look
+-- updates for an array by a user
 abbrev pub UpdatesAll : (ℕ → Request) → List ℕ → ℕ → ArrayProgress → ArrayProgress → RawHandle → RawHandle → ℤ → Type 0
 UpdatesAll asked keys weights before after = UpdatesUser (UpdatesAllFree asked keys weights before after) (after ≡ before)
 
@@ -87,7 +87,7 @@ pub record AnswersArray {X : Type 0} (told : SetFacts → ℕ → X) (keys : Lis
   pub bad_length : length before < length keys → (code ≡ codes.bad_length) × (new ≡ old) × (after ≡ before)
   pub answers : length keys ≤ length before → (code ≡ pos 0) × AnswersEach told keys before after old new
 
--- the same of a user that holds a look
+-- the same of a user
 abbrev pub AsksAll : {X : Type 0} → (SetFacts → ℕ → X) → List ℕ → List X → List X → RawHandle → RawHandle → ℤ → Type 0
 AsksAll told keys before after = AsksUser (AnswersArray told keys before after) (after ≡ before)
 
@@ -113,6 +113,6 @@ pub record ListsBoth (members : SetFacts → List (ℕ × ℕ)) (keys keys_after
   pub bad_length : length weights ≢ length keys → (code ≡ codes.bad_length) × (new ≡ old) × (keys_after ≡ keys) × (weights_after ≡ weights)
   pub lists : length weights ≡ length keys → (listed : ListsKeys members keys keys_after old new code) × ListsMembers (weights_of (members (set_of_look old))) weights weights_after listed.count
 
--- the same of a user that holds a look
+-- the same of a user
 abbrev pub ListsAllBoth : (SetFacts → List (ℕ × ℕ)) → List ℕ → List ℕ → List ℕ → List ℕ → RawHandle → RawHandle → ℤ → Type 0
 ListsAllBoth members keys keys_after weights weights_after = AsksUser (ListsBoth members keys keys_after weights weights_after) ((keys_after ≡ keys) × (weights_after ≡ weights))

@@ -46,11 +46,11 @@ is_open = negsuc 9
 abbrev pub bad_length : ℤ
 bad_length = negsuc 10
 
--- the user holds a look
+-- the user has a look already
 abbrev pub looking : ℤ
 looking = negsuc 11
 
--- the user holds no look
+-- the user has no look
 abbrev pub not_looking : ℤ
 not_looking = negsuc 12
 

@@ -1,12 +1,13 @@
--- What the handles stand for, and what a call on one says. A handle stands for an open trie with the accesses that no user was given yet, for a user, by its
--- access or the look that it has, or for nothing (`HandleState`). By `OnFree` and `OnLooking` a call does what its own definition says to a user of the right
--- kind. Of any other it answers `looking` or `not_looking`, of what is no user `closed`, and leaves all as it was. By `HandleCall` the handle stands for what
--- that comes to from then on, and memory that is no open handle stays as it is.
+-- What the handles stand for, and what a call on one says. A handle stands for an open trie with the accesses that no user was given yet, for a user, or for
+-- nothing (`HandleState`). By `OnUser` a call does what its own definition says to a user; on anything else it answers `closed`, and leaves all as it was. By
+-- `HandleCall` the handle stands for what that comes to from then on, and memory that is no open handle stays as it is. An update is made beside the user's
+-- look, which shows what it showed (`ToAccess`). A query is made of the look, and without one it answers `not_looking` (`ToLook`).
 use Rattle.std.specs.Prelude.{◌≡◌, ℤ, Option, Some, None, IsNone}
 use Rattle.aug_live.specs.LiveHandles.{HandleFacts, LookFacts}
 use Rattle.aug_c.specs.Codes as codes
+use Rattle.aug_c.specs.Users.{UserFacts}
 use Rattle.aug_c.specs.declared.state.HandleState.{HandleState}
-use Rattle.aug_c.specs.declared.state.HandleState.TheVariants.{Closed, Free, Looking}
+use Rattle.aug_c.specs.declared.state.HandleState.TheVariants.{Closed, User}
 use Rattle.aug_c.specs.declared.raw_handle.HandleSlot.{HandleSlot}
 use Rattle.aug_c.specs.declared.raw_handle.RawHandle.{RawHandle}
 
@@ -24,28 +25,23 @@ pub record HandleCall (Does : HandleState → HandleState → ℤ → Type 0) (o
   pub tag : new.tag ≡ old.tag
   pub foreign : IsNone old.held.value → new ≡ old
 
--- a call of a user that holds no look does this, and any other does nothing, of which `Same` says what else that comes to
-abbrev pub OnFree : (HandleFacts → HandleState → ℤ → Type 0) → Type 0 → HandleState → HandleState → ℤ → Type 0
-OnFree Does Same (Free access) new code = Does access new code
-OnFree Does Same (Looking look) new code = (new ≡ Looking look) × (code ≡ codes.looking) × Same
-OnFree Does Same other new code = (new ≡ other) × (code ≡ codes.closed) × Same
+-- a call of a user does this, and any other does nothing, of which `Same` says what else that comes to
+abbrev pub OnUser : (UserFacts → UserFacts → ℤ → Type 0) → Type 0 → HandleState → HandleState → ℤ → Type 0
+OnUser Does Same (User old) new code = (user : UserFacts) × (new ≡ User user) × Does old user code
+OnUser Does Same other new code = (new ≡ other) × (code ≡ codes.closed) × Same
 
--- and so for a user that holds a look
-abbrev pub OnLooking : (LookFacts → HandleState → ℤ → Type 0) → Type 0 → HandleState → HandleState → ℤ → Type 0
-OnLooking Does Same (Looking look) new code = Does look new code
-OnLooking Does Same (Free access) new code = (new ≡ Free access) × (code ≡ codes.not_looking) × Same
-OnLooking Does Same other new code = (new ≡ other) × (code ≡ codes.closed) × Same
+-- this is done to a user's access, and its look stays as it is
+abbrev pub ToAccess : (HandleFacts → HandleFacts → ℤ → Type 0) → UserFacts → UserFacts → ℤ → Type 0
+ToAccess Does old new code = (access : HandleFacts) × (new ≡ record { access = access; look = old.look }) × Does old.access access code
 
--- a user that holds no look holds none afterwards either, and this is done to its access
-abbrev pub StaysFree : (HandleFacts → HandleFacts → ℤ → Type 0) → HandleFacts → HandleState → ℤ → Type 0
-StaysFree Does old new code = (access : HandleFacts) × (new ≡ Free access) × Does old access code
-
-abbrev pub StaysLooking : (LookFacts → LookFacts → ℤ → Type 0) → LookFacts → HandleState → ℤ → Type 0
-StaysLooking Does old new code = (look : LookFacts) × (new ≡ Looking look) × Does old look code
+-- this is done to the look of a user with such an access, if it has one, and the access stays as it is
+abbrev pub ToLook : (LookFacts → LookFacts → ℤ → Type 0) → Type 0 → HandleFacts → Option LookFacts → UserFacts → ℤ → Type 0
+ToLook Does Same access (Some old) new code = (look : LookFacts) × (new ≡ record { access = access; look = Some look }) × Does old look code
+ToLook Does Same access None new code = (new ≡ record { access = access; look = None }) × (code ≡ codes.not_looking) × Same
 
 -- a call on a handle that does this to the access of a user, or to its look
 abbrev pub UpdatesUser : (HandleFacts → HandleFacts → ℤ → Type 0) → Type 0 → RawHandle → RawHandle → ℤ → Type 0
-UpdatesUser Does Same = HandleCall (OnFree (StaysFree Does) Same)
+UpdatesUser Does Same = HandleCall (OnUser (ToAccess Does) Same)
 
 abbrev pub AsksUser : (LookFacts → LookFacts → ℤ → Type 0) → Type 0 → RawHandle → RawHandle → ℤ → Type 0
-AsksUser Does Same = HandleCall (OnLooking (StaysLooking Does) Same)
+AsksUser Does Same = HandleCall (OnUser (λ old new code. ToLook Does Same old.access old.look new code) Same)

@@ -1,6 +1,7 @@
 pub mod Marks
 pub mod Holding
 pub mod Codes
+pub mod Users
 pub mod Handles
 pub mod UserCalls
 pub mod PopCalls

@@ -28,7 +28,7 @@ written_by (Ok pop.Empty) before after = after ≡ before
 written_by (Ok pop.Refused) before after = after ≡ before
 written_by (Err cause) before after = after ≡ before
 
--- a user that holds no look takes the member out, or follows on what it knew
+-- the access of a user takes the member out, or follows on what it knew
 pub record PopsFree (side : Side) (before after : Member) (old new : HandleFacts) (code : ℤ) : Type 0 where
   pub answer : Result Pop CallRefusal
   pub says : code ≡ pop_code answer
@@ -37,6 +37,6 @@ pub record PopsFree (side : Side) (before after : Member) (old new : HandleFacts
   pub not_made : IfErr answer (λ _. Follows old new)
   pub closed : IsErrOf answer Closed → ShowsClosed new
 
--- a pop by a user that holds no look
+-- a pop by a user
 abbrev pub PopsMember : Side → Member → Member → RawHandle → RawHandle → ℤ → Type 0
 PopsMember side before after = UpdatesUser (PopsFree side before after) (after ≡ before)

@@ -1,7 +1,7 @@
 -- What the calls on a trie do to it, and what they answer. For 6 bits and 2 users each part of a table has at least `127 + 2 + 5 * (69 + 768)` words, so
--- 69,024 bytes are enough, and fewer are answered -8, as more than 2^30 are. The third `aug_try_user_open` answers -9, and one over the handle of an open trie -2. If one user put 0, 1 and 3
+-- 103,536 bytes are enough, and fewer are answered -8, as more than 3 * 2^29 are. The third `aug_try_user_open` answers -9, and one over the handle of an open trie -2. If one user put 0, 1 and 3
 -- in and the other took 1 out, `aug_try_close` reports three insertions, one removal and the size 2.
-use Rattle.std.specs.Prelude.{◌≡◌, ◌≢◌, ◌⊎◌, ℕ, ◌↔◌, ℤ, pos, [], ◌∷◌, ◌++◌, length, All, vec_len}
+use Rattle.std.specs.Prelude.{◌≡◌, ◌≢◌, ◌⊎◌, ℕ, ◌↔◌, ℤ, pos, None, [], ◌∷◌, ◌++◌, length, All, vec_len}
 use Rattle.aug_core.specs.Layout.{IsOutside, IsWithin}
 use Rattle.aug_model.specs.Keys.{SetFacts}
 use Rattle.aug_live.specs.LiveHandles.{HandleFacts, IsNew}
@@ -12,7 +12,7 @@ use Rattle.aug_live.specs.declared.plan.Plan.{Plan}
 use Rattle.aug_c.specs.declared.trie_calls.ClosingReport.{ClosingReport}
 use Rattle.aug_c.specs.declared.state.Opened.{Opened}
 use Rattle.aug_c.specs.declared.state.HandleState.{HandleState}
-use Rattle.aug_c.specs.declared.state.HandleState.TheVariants.{Closed, Trie, Free}
+use Rattle.aug_c.specs.declared.state.HandleState.TheVariants.{Closed, Trie, User}
 use Rattle.aug_c.specs.declared.raw_handle.RawHandle.{RawHandle}
 use Rattle.aug_c.specs.Codes as codes
 use Rattle.aug_c.specs.Handles.{state_of}
@@ -41,7 +41,7 @@ pub record OpensTrie (bits users bytes : ℕ) (old new : RawHandle) (code : ℤ)
 
 -- a user gets the last of the accesses that are left, or nothing changes
 pub record OpensUser (before after : RawHandle) (old new : Opened) (code : ℤ) : Type 0 where
-  pub opened : code ≡ pos 0 → (access : HandleFacts) × (state_of after ≡ Free access) × (after.tag ≡ user_mark) × (new.live ≡ old.live) × (old.spare.items ≡ new.spare.items ++ access ∷ [])
+  pub opened : code ≡ pos 0 → (access : HandleFacts) × (state_of after ≡ User (record { access = access; look = None })) × (after.tag ≡ user_mark) × (new.live ≡ old.live) × (old.spare.items ≡ new.spare.items ++ access ∷ [])
   pub refused : code ≢ pos 0 → (new ≡ old) × (after ≡ before)
   pub no_user : (code ≡ codes.no_user) ↔ (old.spare.items ≡ [])
   pub others : (code ≡ pos 0) ⊎ (code ≡ codes.no_user) ⊎ (code ≡ codes.no_memory)

@@ -105,7 +105,7 @@ fn list<O: Order>(look: &mut SummedLook, key: u32, keys: &mut [u32], weights: &m
 pub extern "C" fn aug_try_keys(user: &mut RawHandle, from: u32, out: &mut [u32]) -> i64
     ensures { AsksUser (ListsKeys (λ set. members_from set from) out.old out.new) (out.new ≡ out.old) user.old user.new result }
 {
-    on_look!(user, held => list::<Rising>(&mut held.look, from, out, &mut []))
+    on_look!(user, look => list::<Rising>(look, from, out, &mut []))
 }
 
 // Lists members with their weights, in two arrays of the same length.
@@ -127,7 +127,7 @@ fn list_both<O: Order>(
 fn both_of<O: Order>(user: &mut RawHandle, key: u32, keys: &mut [u32], weights: &mut [u32]) -> i64
     ensures { ListsAllBoth (λ set. O.members set key) keys.old keys.new weights.old weights.new user.old user.new result }
 {
-    on_look!(user, held => list_both::<O>(&mut held.look, key, keys, weights))
+    on_look!(user, look => list_both::<O>(look, key, keys, weights))
 }
 
 /// Writes the least members of the snapshot from `from` on, rising, as many as `keys` has places for, and the weight of each. Answers how

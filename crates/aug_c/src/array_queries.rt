@@ -115,7 +115,7 @@ fn ask_each<T: Copy, E: KeyQuery<T>>(look: &mut SummedLook, keys: &[u32], out: &
 fn ask_all<T: Copy, E: KeyQuery<T>>(user: &mut RawHandle, keys: &[u32], out: &mut [T]) -> i64
     ensures { AsksAll E.answer_of keys.now out.old out.new user.old user.new result }
 {
-    on_look!(user, held => ask_each::<T, E>(&mut held.look, keys, out))
+    on_look!(user, look => ask_each::<T, E>(look, keys, out))
 }
 
 /// Writes how many members of the snapshot are below each key to the place with its index. The keys stand in any order. Answers 0, or

@@ -3,9 +3,10 @@ ghost use Rattle.std.specs.Prelude.{◌≡◌, ◌↔◌, ◌^◌, ◌<◌, ◌�
 ghost use Rattle.aug_trie.specs.declared.updates.request.Request.TheVariants as request;
 ghost use Rattle.aug_c.specs.ArrayCalls.{change_by, changes, AsksFrom, MakesEach, UpdatesAll, UpdatesAllFree};
 ghost use Rattle.aug_c.specs.inside.KeyRequests.{request_by, requests_of};
+ghost use Rattle.aug_c.specs.inside.SameLanes.{IsOfSameLane};
 
 use crate::codes::{BAD_KEY, BAD_LENGTH};
-use crate::raw_handle::{RawHandle, on_access};
+use crate::raw_handle::{RawHandle, on_user};
 use crate::refusal::CallRefusal;
 use crate::state::SummedAccess;
 use aug_trie::{Outcome, Request};
@@ -128,7 +129,7 @@ fn has_lengths(universe: u32, keys: usize, weights: usize, progress: ArrayProgre
         && progress.changed <= progress.made
 }
 
-// Makes updates by a user that holds no look.
+// Makes updates by the access of a user.
 fn update_all_by_access(
     access: &mut SummedAccess,
     each: Request,
@@ -136,7 +137,8 @@ fn update_all_by_access(
     weights: &[u32],
     progress: &mut ArrayProgress,
 ) -> i64
-    ensures { UpdatesAllFree (requests_of each weights.now) keys.now (length weights.now) progress.old progress.new access.old access.new result }
+    ensures updates { UpdatesAllFree (requests_of each weights.now) keys.now (length weights.now) progress.old progress.new access.old access.new result }
+    ensures lane { IsOfSameLane access.old access.new }
 {
     let universe = access.universe();
     if !has_lengths(universe, keys.len(), weights.len(), *progress) {
@@ -160,7 +162,7 @@ fn update_all(
 ) -> i64
     ensures { UpdatesAll (requests_of each weights.now) keys.now (length weights.now) progress.old progress.new user.old user.new result }
 {
-    on_access!(user, access => update_all_by_access(access, each, keys, weights, progress))
+    on_user!(user, held => update_all_by_access(&mut held.access, each, keys, weights, progress))
 }
 
 /// Puts each key in, with itself as its weight, from the index on that the progress has come to. Answers 0 once an update was made for

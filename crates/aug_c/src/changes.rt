@@ -58,7 +58,7 @@ fn page_of(look: &mut SummedLook, from: u32, out: &mut [WeightChange]) -> i64
 pub extern "C" fn aug_try_changes(user: &mut RawHandle, from: u32, out: &mut [WeightChange]) -> i64
     ensures { AsksUser (ListsChanges from out.old out.new) (out.new ≡ out.old) user.old user.new result }
 {
-    on_look!(user, held => page_of(&mut held.look, from, out))
+    on_look!(user, look => page_of(look, from, out))
 }
 
 // Members that rise in one array, and their weights in another.
@@ -139,5 +139,5 @@ pub extern "C" fn aug_try_changes_since(
 ) -> i64
     ensures { AsksUser (ListsSince keys.now weights.now from out.old out.new) (out.new ≡ out.old) user.old user.new result }
 {
-    on_look!(user, held => page_since(&mut held.look, keys, weights, from, out))
+    on_look!(user, look => page_since(look, keys, weights, from, out))
 }

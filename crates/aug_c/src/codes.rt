@@ -22,9 +22,9 @@ pub const NO_USER: i64 = -9;
 pub const OPEN: i64 = -10;
 /// An array is missing or too short, or longer than there are keys, or a progress is none of a call for such an array.
 pub const BAD_LENGTH: i64 = -11;
-/// The user holds a look.
+/// The user has a look already.
 pub const LOOKING: i64 = -12;
-/// The user holds no look.
+/// The user has no look.
 pub const NOT_LOOKING: i64 = -13;
 /// The weight and the amount together are no weight of 32 bits.
 pub const TOO_GREAT: i64 = -14;

@@ -8,7 +8,7 @@ ghost use Rattle.aug_c.specs.UserCalls.{ShowsClosed, span_of};
 ghost use Rattle.aug_c.specs.declared.refusal.CallRefusal.TheVariants as refusal;
 
 use crate::codes::NONE;
-use crate::raw_handle::{RawHandle, on_access};
+use crate::raw_handle::{RawHandle, on_user};
 use crate::refusal::CallRefusal;
 use crate::state::SummedAccess;
 use aug_trie::{Pop, Side};
@@ -61,7 +61,7 @@ fn pop_by_access(access: &mut SummedAccess, side: Side) -> Result<Pop, CallRefus
 fn pop(user: &mut RawHandle, side: Side, out: &mut Member) -> i64
     ensures { PopsMember side out.old out.new user.old user.new result }
 {
-    on_access!(user, access => tell(pop_by_access(access, side), out))
+    on_user!(user, held => tell(pop_by_access(&mut held.access, side), out))
 }
 
 /// Takes out the member with the least key, and writes it: 1 if it did, `NONE` if there is no member, and 0 if another change of that member came in

@@ -73,7 +73,7 @@ impl Number for bool {
 fn ask<X: Number, Q: Query<Sum, Extent, Answer = X> + Drop>(user: &mut RawHandle, query: Q) -> i64
     ensures { AsksUser (AnswersLook (λ set answer. Q.Answers query set answer) X.number_of) ⊤ user.old user.new result }
 {
-    on_look!(user, held => held.look.ask(query).number())
+    on_look!(user, look => look.ask(query).number())
 }
 
 fn span_from(told: Summary<Sum, Extent>) -> Span
@@ -176,8 +176,8 @@ pub extern "C" fn aug_try_last(user: &mut RawHandle) -> i64
 pub extern "C" fn aug_try_range(user: &mut RawHandle, from: u32, to: u32, out: &mut Span) -> i64
     ensures { AsksUser (AsksRange from to out.new) (out.new ≡ out.old) user.old user.new result }
 {
-    on_look!(user, held => {
-        let told = held.look.ask(Range(from, to));
+    on_look!(user, look => {
+        let told = look.ask(Range(from, to));
         let count = told.count;
         *out = span_from(told);
         i64::from(count)

@@ -100,34 +100,37 @@ impl HeldBox {
     }
 }
 
-// What a call answers that does this with the look of a handle's user. On any other handle it does nothing.
-macro_rules! on_look {
+// What a call answers that does this with a handle's user. On any other handle it does nothing.
+macro_rules! on_user {
     ($user:ident, $held:ident => $call:expr) => {{
         if !$user.is_open() {
             return $crate::codes::CLOSED;
         }
         match &mut $user.held.as_slot().state {
-            $crate::state::HandleState::Looking($held) => $call,
-            other => other.without_look(),
+            $crate::state::HandleState::User($held) => $call,
+            _ => $crate::codes::CLOSED,
         }
     }};
 }
 
-// The same with the access of a user that holds no look.
-macro_rules! on_access {
-    ($user:ident, $access:ident => $call:expr) => {{
+// The same with the look of a handle's user.
+macro_rules! on_look {
+    ($user:ident, $look:ident => $call:expr) => {{
         if !$user.is_open() {
             return $crate::codes::CLOSED;
         }
         match &mut $user.held.as_slot().state {
-            $crate::state::HandleState::Free($access) => $call,
-            other => other.without_access(),
+            $crate::state::HandleState::User(held) => match &mut held.look {
+                Some($look) => $call,
+                None => $crate::codes::NOT_LOOKING,
+            },
+            _ => $crate::codes::CLOSED,
         }
     }};
 }
 
-pub(crate) use on_access;
 pub(crate) use on_look;
+pub(crate) use on_user;
 
 impl RawHandle {
     /// Whether it is open.

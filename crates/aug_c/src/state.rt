@@ -1,8 +1,11 @@
 //! What the handles stand for.
-ghost use Rattle.std.specs.Prelude.{◌≡◌};
+ghost use Rattle.std.specs.Prelude.{◌≡◌, None};
+ghost use Rattle.aug_c.specs.UserCalls.{EndsLook, TakesLook, TakesNewer};
+ghost use Rattle.aug_c.specs.inside.Refusals.{look_code};
 
-use crate::codes::{CLOSED, LOOKING, NOT_LOOKING};
-use aug_live::{Handle, Live, Look};
+use crate::codes::{AGAIN, LOOKING, NOT_LOOKING};
+use crate::refusal::CallRefusal;
+use aug_live::{Busy, Handle, Live, LiveError, Look, TryError};
 use aug_monoid::{Extent, Sum};
 use std::marker::Model;
 
@@ -22,17 +25,24 @@ pub struct Opened {
     pub(crate) spare: Vec<SummedAccess>,
 }
 
-/// A look that ends when it is dropped, so that nobody waits for a user that was closed.
-pub struct HeldLook {
-    pub(crate) look: SummedLook,
+/// A user: its access, and its look, if it has one.
+#[derive(Drop)]
+pub struct User {
+    pub(crate) access: SummedAccess,
+    pub(crate) look: Option<SummedLook>,
 }
 
-impl Model for HeldLook {
-    ghost use Rattle.aug_live.specs.LiveHandles.{LookFacts};
+impl Model for User {
+    ghost use Rattle.std.specs.Prelude.{IfSome};
+    ghost use Rattle.aug_live.specs.LiveHandles.{IsLookOf};
+    ghost use Rattle.aug_c.specs.Users.{UserFacts};
 
-    ghost Value = { LookFacts };
+    ghost Value = { UserFacts };
 
-    ghost view = { λ h. h.look };
+    ghost view = { λ u. record { access = u.access; look = u.look } };
+
+    // It is a look of this access.
+    ghost invariant = { λ u. IfSome u.look (λ l. IsLookOf u.access l) };
 }
 
 /// What a handle stands for.
@@ -44,58 +54,73 @@ pub enum HandleState {
     /// A trie.
     Trie(Opened),
 
-    /// A user that holds no look.
-    Free(SummedAccess),
-
-    /// A user that holds this look.
-    Looking(HeldLook),
+    /// A user.
+    User(User),
 }
 
-impl HandleState {
-    ghost use Rattle.aug_c.specs.inside.UserKinds.{free_or_closed, looking_or_closed};
+// The code of why a look was not taken. A lock that has as many owners as can be counted has fewer again.
+fn look_refusal(cause: TryError<Busy>) -> i64
+    ensures { result ≡ look_code cause }
+{
+    match cause {
+        TryError::Refused(LiveError::Looking(_)) => LOOKING,
+        TryError::Refused(LiveError::TooMany) => AGAIN,
+        cause => CallRefusal::of(cause).code(),
+    }
+}
 
-    /// What a call that asks a look answers, if this is none.
-    pub(crate) fn without_look(&self) -> i64
-        ensures { result ≡ free_or_closed self.now }
+impl User {
+    /// A user that has no look.
+    pub(crate) fn of(access: SummedAccess) -> User
+        ensures { result ≡ record { access = access; look = None } }
     {
-        match self {
-            HandleState::Free(_) => NOT_LOOKING,
-            _ => CLOSED,
+        User { access, look: None }
+    }
+
+    /// Takes a look, unless it has one. Answers what the call on its handle does.
+    #[inline(always)]
+    pub(crate) fn try_look(&mut self) -> i64
+        ensures { TakesLook self.old.access self.old.look self.new result }
+    {
+        if self.look.is_some() {
+            return LOOKING;
+        }
+        match self.access.try_look() {
+            Ok(look) => {
+                self.look = Some(look);
+                0
+            }
+            Err(cause) => look_refusal(cause),
         }
     }
 
-    /// What a call of a user that holds no look answers, if this is none.
-    pub(crate) fn without_access(&self) -> i64
-        ensures { result ≡ looking_or_closed self.now }
+    /// Takes a newer snapshot in its look, as `try_look` answers.
+    #[inline(always)]
+    pub(crate) fn try_again(&mut self) -> i64
+        ensures { TakesNewer self.old.access self.old.look self.new result }
     {
-        match self {
-            HandleState::Looking(_) => LOOKING,
-            _ => CLOSED,
+        let Some(look) = &mut self.look else {
+            return NOT_LOOKING;
+        };
+        match look.try_again(&mut self.access) {
+            Ok(true) => 0,
+            Ok(false) => 1,
+            Err(cause) => CallRefusal::of(cause).code(),
         }
     }
-}
 
-impl HeldLook {
+    /// Ends its look, as `try_look` answers.
     #[inline(always)]
-    pub(crate) fn of(look: SummedLook) -> HeldLook
-        ensures { result ≡ look }
+    pub(crate) fn end_look(&mut self) -> i64
+        ensures { EndsLook self.old.access self.old.look self.new result }
     {
-        HeldLook { look }
-    }
-
-    #[inline(always)]
-    pub(crate) fn into_look(self) -> SummedLook
-        ensures { result ≡ self }
-    {
-        let HeldLook { look } = self;
-        look
-    }
-}
-
-impl Drop for HeldLook {
-    fn drop(self) {
-        let HeldLook { look } = self;
-        let _access = look.done();
+        match self.look.take() {
+            Some(look) => {
+                drop(look);
+                0
+            }
+            None => NOT_LOOKING,
+        }
     }
 }
 

@@ -7,7 +7,7 @@ ghost use Rattle.aug_c.specs.TrieCalls.{ClosesTrie, OnTrie, OpensTrie, OpensUser
 
 use crate::codes::{AGAIN, BAD_BITS, BAD_USERS, CLOSED, NO_MEMORY, NO_USER, OPEN, TOO_LARGE};
 use crate::raw_handle::{HandleSlot, RawHandle, TRIE, USER};
-use crate::state::{HandleState, Opened, SummedTrie};
+use crate::state::{HandleState, Opened, SummedTrie, User};
 use aug_live::Plan;
 use aug_trie::Members;
 use std::alloc::Global;
@@ -25,7 +25,7 @@ pub struct ClosingReport {
 }
 
 /// Opens the empty trie for keys below `2^bits`, with so many users, whose table takes at most so many bytes. `TOO_LARGE` if 64 updates of each user take
-/// more, or for more than 2^30 bytes.
+/// more, or for more than 3 * 2^29 bytes.
 #[unsafe(no_mangle)]
 pub extern "C" fn aug_try_open(
     alloc: Global,
@@ -77,7 +77,7 @@ fn open_user(alloc: Global, trie: &mut Opened, user: &mut RawHandle) -> i64
     let Some(access) = trie.spare.pop() else {
         unreachable!()
     };
-    slot.state = HandleState::Free(access);
+    slot.state = HandleState::User(User::of(access));
     user.put(USER, slot);
     0
 }
@@ -130,7 +130,7 @@ pub extern "C" fn aug_try_tend(trie: &mut RawHandle) -> i64
     }
 }
 
-/// Closes a user, with the look that it holds.
+/// Closes a user, and ends its look.
 #[unsafe(no_mangle)]
 pub extern "C" fn aug_user_free(alloc: Global, user: &mut RawHandle) -> i64
     ensures open { user.old.tag ≡ user_mark → (result ≡ pos 0) × (user.new.held.value ≡ None) }
@@ -142,7 +142,7 @@ pub extern "C" fn aug_user_free(alloc: Global, user: &mut RawHandle) -> i64
     }
 }
 
-/// Closes a trie, unless a user is in a call or holds a look. Its users answer `CLOSED` from then on.
+/// Closes a trie, unless a user is in a call. Its users answer `CLOSED` from then on, but the queries of an open look answer as before.
 #[unsafe(no_mangle)]
 pub extern "C" fn aug_try_close(alloc: Global, trie: &mut RawHandle, out: &mut ClosingReport) -> i64
     ensures closed { trie.old.tag ≢ trie_mark → (result ≡ closed) × (trie.new ≡ trie.old) × (out.new ≡ out.old) }

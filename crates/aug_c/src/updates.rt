@@ -1,20 +1,17 @@
 //! The updates of a user, how many are left to it, and its looks.
-ghost use Rattle.std.specs.Prelude.{◌≡◌, ◌↔◌, ◌^◌, ◌≤◌, ⊤, IfOk, IfErr, IsErrOf};
+ghost use Rattle.std.specs.Prelude.{◌≡◌, ◌↔◌, ◌^◌, ◌≤◌, IfOk, IfErr, IsErrOf};
 ghost use Rattle.aug_trie.specs.Updates.{Updates};
 ghost use Rattle.aug_trie.specs.declared.updates.request.Request.TheVariants as request;
 ghost use Rattle.aug_live.specs.LiveHandles.{Follows, Makes};
 ghost use Rattle.aug_c.specs.declared.refusal.CallRefusal.TheVariants as refusal;
-ghost use Rattle.aug_c.specs.Handles.{HandleCall, OnFree, OnLooking};
-ghost use Rattle.aug_c.specs.inside.UserKinds.{IsFreeUser, IsLookingUser};
-ghost use Rattle.aug_c.specs.UserCalls.{told_in, update_code, AsksRoom, EndsFree, InsertsKey, LooksAnew, ShowsClosed, TakesFree, TellsRoom, UpdatesKey};
+ghost use Rattle.aug_c.specs.UserCalls.{told_in, update_code, AsksRoom, InsertsKey, LooksAnew, LooksDone, ShowsClosed, TakesALook, TellsRoom, UpdatesKey};
 
-use crate::codes::{CLOSED, TOO_GREAT, TOO_LITTLE};
+use crate::codes::{TOO_GREAT, TOO_LITTLE};
 use crate::queries::Number;
-use crate::raw_handle::{RawHandle, on_access, on_look};
+use crate::raw_handle::{RawHandle, on_user};
 use crate::refusal::CallRefusal;
-use crate::state::{HandleState, HeldLook, SummedAccess};
+use crate::state::SummedAccess;
 use aug_trie::{Outcome, Request, Told};
-use core::mem::replace_with;
 
 /// What a key weighed before an update, and what it weighs by it.
 #[repr(C)]
@@ -77,7 +74,7 @@ fn update_by_access(
 fn update(user: &mut RawHandle, key: u32, request: Request, out: &mut WeightsTold) -> i64
     ensures { UpdatesKey request key out.old out.new user.old user.new result }
 {
-    on_access!(user, access => tell(update_by_access(access, key, request), out))
+    on_user!(user, held => tell(update_by_access(&mut held.access, key, request), out))
 }
 
 /// Puts a key in, with the key itself as its weight: 1 if it was not there, 0 if it was.
@@ -155,73 +152,30 @@ fn room(access: &mut SummedAccess) -> i64
 pub extern "C" fn aug_try_room(user: &mut RawHandle) -> i64
     ensures { AsksRoom user.old user.new result }
 {
-    on_access!(user, access => room(access))
+    on_user!(user, held => room(&mut held.access))
 }
 
-// A user with a look in the place of its access, and what the call answers.
-#[inline(always)]
-fn with_look(state: HandleState, _: ()) -> (HandleState, i64)
-    requires { IsFreeUser state }
-    ensures { OnFree TakesFree ⊤ state result.0 result.1 }
-{
-    match state {
-        HandleState::Free(access) => match access.try_look() {
-            Ok(look) => (HandleState::Looking(HeldLook::of(look)), 0),
-            Err((access, cause)) => (HandleState::Free(access), CallRefusal::of(cause).code()),
-        },
-        _ => unreachable!(),
-    }
-}
-
-/// Takes a snapshot, which the queries are answered from until the look is done.
+/// Takes a snapshot, which the queries are answered from until the look is done. A user has one look at a time.
 #[unsafe(no_mangle)]
 pub extern "C" fn aug_try_look(user: &mut RawHandle) -> i64
-    ensures { HandleCall (OnFree TakesFree ⊤) user.old user.new result }
+    ensures { TakesALook user.old user.new result }
 {
-    if !user.is_open() {
-        return CLOSED;
-    }
-    let state = &mut user.held.as_slot().state;
-    match state {
-        HandleState::Free(_) => replace_with(state, (), with_look),
-        other => other.without_access(),
-    }
+    on_user!(user, held => held.try_look())
 }
 
-/// Takes a newer snapshot in the same look.
+/// Takes a newer snapshot in the same look: 0 if it is of the same round as the one that the look showed, and 1 if the round rolled over in between, so that
+/// there is none to compare it with. If it is not taken, the look shows what it showed.
 #[unsafe(no_mangle)]
 pub extern "C" fn aug_try_look_again(user: &mut RawHandle) -> i64
     ensures { LooksAnew user.old user.new result }
 {
-    on_look!(user, held => {
-        held.look.again();
-        0
-    })
-}
-
-// A user with its access in the place of a look, and what the call answers.
-#[inline(always)]
-fn with_access(state: HandleState, _: ()) -> (HandleState, i64)
-    requires { IsLookingUser state }
-    ensures { OnLooking EndsFree ⊤ state result.0 result.1 }
-{
-    match state {
-        HandleState::Looking(held) => (HandleState::Free(held.into_look().done()), 0),
-        _ => unreachable!(),
-    }
+    on_user!(user, held => held.try_again())
 }
 
 /// Ends the look.
 #[unsafe(no_mangle)]
 pub extern "C" fn aug_try_look_done(user: &mut RawHandle) -> i64
-    ensures { HandleCall (OnLooking EndsFree ⊤) user.old user.new result }
+    ensures { LooksDone user.old user.new result }
 {
-    if !user.is_open() {
-        return CLOSED;
-    }
-    let state = &mut user.held.as_slot().state;
-    match state {
-        HandleState::Looking(_) => replace_with(state, (), with_access),
-        other => other.without_look(),
-    }
+    on_user!(user, held => held.end_look())
 }

@@ -1,5 +1,5 @@
 -- What follows on what: places of a lane, one after another.
-use Rattle.std.proofs.Common.{◌≡◌, ◌⊎◌, inl, inr, ℕ, ◌+◌, List, [], ◌∷◌, ◌++◌, true, false, sym, refl, ap, ◌∙◌, subst, arith}
+use Rattle.std.proofs.Common.{◌≡◌, ◌⊎◌, inl, inr, ℕ, ◌+◌, ◌<◌, List, [], ◌∷◌, ◌++◌, true, false, sym, refl, ap, ◌∙◌, subst, arith}
 use Rattle.std.specs.Prelude.{Bool, Option, None, Some, Result, Ok, Err, IfOk, IfErr}
 use Rattle.std.proofs.lemmas.Bool.{false≢true}
 use mathlib.Core.Logic.{dite}
@@ -17,14 +17,14 @@ use Rattle.aug_trie.specs.declared.updates.request.Request.TheVariants as asked
 use Rattle.aug_model.specs.declared.outcome.Outcome.{Outcome}
 use Rattle.aug_model.specs.declared.outcome.Outcome.TheVariants as outcome
 use Rattle.atomic_table.specs.Seated.{TableId}
-use Rattle.aug_trie.specs.Pass.{PassFacts, GoesOn, chain_of}
+use Rattle.aug_trie.specs.Pass.{PassFacts, chain_of}
 use Rattle.aug_trie.specs.Round.{RoundFacts, TableFacts, table_of}
 use Rattle.aug_trie.proofs.Chaining.{begins_alike, begins_longer, part_refl, part_trans}
 use Rattle.aug_live.specs.Carrying.{first_members, Leads}
 use Rattle.aug_live.specs.Ledgers.{Made, dated}
 use Rattle.aug_live.specs.LiveErrors.{IfRefused, RefusesCall, RefusesRound}
 use Rattle.aug_live.specs.declared.error.LiveError.{LiveError}
-use Rattle.aug_live.specs.declared.error.LiveError.TheVariants.{Closed, Exhausted, NoLane, TooMany}
+use Rattle.aug_live.specs.declared.error.LiveError.TheVariants.{Closed, Exhausted, NoLane, TooMany, Looking}
 use Rattle.aug_live.specs.declared.error.LiveError.TheVariants as live
 use Rattle.aug_live.specs.declared.lane.Obstacle.{Obstacle}
 use Rattle.aug_live.specs.declared.lane.Obstacle.TheVariants.{Held, Round, Replaced}
@@ -32,7 +32,7 @@ use Rattle.aug_live.specs.declared.error.TryError.{TryError}
 use Rattle.aug_live.specs.declared.error.TryError.TheVariants.{Again, Refused}
 use Rattle.aug_live.specs.LiveHandles.{HandleFacts, IsSuccessor, Follows, Makes, Runs, SameHandle, Spends, WhoFacts, added}
 use Rattle.aug_live.specs.LiveTries.{KnowsMore, TrieFacts}
-use Rattle.aug_live.specs.inside.LaneKnowledge.{EndFacts, KnownFacts, LaneFacts, EndStays, MakesNothing, OutFacts, RunsHere, Seen, Worked, handle_by, rounds_at, who_by, worked}
+use Rattle.aug_live.specs.inside.LaneKnowledge.{EndFollows, EndRuns, IsSameEnd, EndFacts, KnownFacts, LaneFacts, EndStays, MakesNothing, OutFacts, RunsHere, Seen, Worked, handle_by, rounds_at, who_by, worked}
 use Rattle.aug_live.proofs.Adding.{same_made}
 use Rattle.aug_live.proofs.Lanes.{ids_more, more_on, more_self}
 
@@ -81,7 +81,7 @@ who_on : (a b c : WhoFacts) → SameHandle a b → SameHandle b c → SameHandle
 who_on a b c x y = record { trie = more_on a.trie b.trie c.trie x.trie y.trie; lanes = y.lanes ∙ x.lanes; lane = y.lane ∙ x.lane; number = y.number ∙ x.number; replaced = λ r. y.replaced (x.replaced r) }
 
 pub follows_self : (h : HandleFacts) → Follows h h
-follows_self h = record { not_later = omega arith; same = λ _. inl refl; goes_on = part_refl (chain_of h.half); led = λ less. absurd (omega arith); table = refl; bits = refl; same_handle = same_who h.who; made = refl }
+follows_self h = record { not_later = omega arith; same = λ _. inl refl; goes_on = part_refl (chain_of h.half); led = λ less. absurd (omega arith); table = refl; bits = refl; together = refl; same_handle = same_who h.who; made = refl }
 
 -- the same place follows, and so does one where the lane has a later pass, or one of the next round
 pub follows_same : (a b : HandleFacts) → b ≡ a → Follows a b
@@ -95,18 +95,20 @@ follows_pass a b c = record {
   led = λ less. absurd (omega arith);
   table = ap (λ (z : RoundFacts). z.table) c.round;
   bits = ap (λ (z : RoundFacts). z.bits) c.round;
+  together = ap table_of c.round;
   same_handle = same_who a.who;
   made = refl;
 }
 
-follows_round : (a : HandleFacts) (b : PassFacts) → BeginsWith a.half.past (chain_of a.half).now b.past → Leads b.round.bits b.past b.round.members → b.round.table ≡ a.half.round.table → b.round.bits ≡ a.half.round.bits → Follows a (record a { era = a.era + 1; half = b })
-follows_round a b part led table bits = record {
+follows_round : (a : HandleFacts) (b : PassFacts) → BeginsWith a.half.past (chain_of a.half).now b.past → Leads b.round.bits b.past b.round.members → table_of b.round ≡ table_of a.half.round → Follows a (record a { era = a.era + 1; half = b })
+follows_round a b part led together = record {
   not_later = omega arith;
   same = λ e. absurd (omega arith);
   goes_on = begins_longer a.half.past (chain_of a.half).now b.past ((chain_of b).now ∷ []) part;
   led = λ _. led;
-  table = table;
-  bits = bits;
+  table = ap (λ (z : TableFacts). z.table) together;
+  bits = ap (λ (z : TableFacts). z.bits) together;
+  together = together;
   same_handle = same_who a.who;
   made = refl;
 }
@@ -121,13 +123,14 @@ follows_on a b c x y = let ab = x.not_later in let bc = y.not_later in record {
       (λ later. y.led (omega arith));
   table = y.table ∙ x.table;
   bits = y.bits ∙ x.bits;
+  together = y.together ∙ x.together;
   same_handle = who_on a.who b.who c.who x.same_handle y.same_handle;
   made = y.made ∙ x.made;
 }
 
 -- the same for a handle, which is one of a trie and made something
 follows_by : (who who' : WhoFacts) (made made' : List Made) (a b : HandleFacts) → SameHandle who who' → made' ≡ made → Follows a b → Follows (record a { who = who; made = made }) (record b { who = who'; made = made' })
-follows_by who who' made made' a b is same f = record { not_later = f.not_later; same = f.same; goes_on = f.goes_on; led = f.led; table = f.table; bits = f.bits; same_handle = is; made = same }
+follows_by who who' made made' a b is same f = record { not_later = f.not_later; same = f.same; goes_on = f.goes_on; led = f.led; table = f.table; bits = f.bits; together = f.together; same_handle = is; made = same }
 
 -- an update from where the lane stands, and where that follows
 pub runs_on : (does : PassFacts → PassFacts → Type 0) (a b c : HandleFacts) → Follows a b → Runs does b c → Runs does a c
@@ -143,6 +146,7 @@ runs_follow does a b r none = let s : HandleFacts = r.start in let succ = none.0
       led = λ less. let e = r.same_era in absurd (omega arith);
       table = ap (λ (z : RoundFacts). z.table) succ.round;
       bits = ap (λ (z : RoundFacts). z.bits) succ.round;
+      together = ap table_of succ.round;
       same_handle = who_kept s.who b.who r.who;
       made = r.made ∙ same_made s.made b.era s.half b.half none.1;
     }
@@ -194,7 +198,7 @@ module _ (trie : TrieFacts) (place : ℕ) (lock lock' : TableId) (v : KnownFacts
   pub works_follow : new.at.half.knows.accepted ≡ old.at.half.knows.accepted → Follows old.at new.at → Follows before after
   works_follow same more = follows_by who who v.made (v.made ++ dated new.at.era (added old.at.half new.at.half)) v.at new.at (same_who who) (same_made v.made new.at.era old.at.half new.at.half same) (follows_on v.at old.at new.at follows more)
 
--- an end that a handle took out and put back, or that a look keeps, of which it made nothing, an update, or something that it learned
+-- an end that a handle took out and put back, of which it made nothing, an update, or something that it learned
 module _ (trie : TrieFacts) (place : ℕ) (now : HandleFacts) (inside : Option EndFacts) (end result : EndFacts) (view : handle_by trie place inside ≡ now) (there : inside ≡ Some end) where
   own : handle_by trie place (Some end) ≡ now
   own = ap (handle_by trie place) (sym there) ∙ view
@@ -204,20 +208,6 @@ module _ (trie : TrieFacts) (place : ℕ) (now : HandleFacts) (inside : Option E
       let who : SameHandle (who_by trie place end.known) (who_by trie place (record end.known { replaced = result.known.replaced })) = record { trie = more_self trie; lanes = refl; lane = refl; number = refl; replaced = stays.seen } in
       let one = follows_by (who_by trie place end.known) (who_by trie place (record end.known { replaced = result.known.replaced })) end.known.made end.known.made end.known.at end.known.at who refl (follows_self end.known.at) in
       subst (λ (z : HandleFacts × EndFacts). Follows z.0 (handle_by trie place (Some z.1))) (λ i. (own i, sym stays.same i)) one
-
-  pub look_end : (steps : ℕ) (does : PassFacts → PassFacts → Type 0) (lane rest : LaneFacts) (half looks : PassFacts) (known : KnownFacts) → known ≡ end.known → Follows end.known.at lane.at → half ≡ lane.at.half → rest ≡ record lane { works = false } → looks.knows.accepted ≡ half.knows.accepted
-      → does half looks → GoesOn 0 steps half looks → Makes 0 does now (record { who = who_by trie place known; era = rest.at.era; half = looks; made = known.made })
-  look_end steps does lane rest half looks known same follows work is none did on =
-      let who : WhoFacts = who_by trie place end.known in
-      let p : Makes 0 does (handle_by trie place (Some end)) (record { who = who; era = lane.at.era; half = looks; made = end.known.made }) = record {
-        start = record lane.at { who = who; made = end.known.made };
-        follows = follows_by who who end.known.made end.known.made end.known.at lane.at (same_who who) refl follows;
-        same_era = refl;
-        done = subst (λ (z : PassFacts). Spends 0 does z looks) work (did, steps, on);
-        who = refl;
-        made = sym (same_made end.known.made lane.at.era lane.at.half looks (none ∙ ap (λ (z : PassFacts). z.knows.accepted) work));
-      } in
-      subst (λ (z : HandleFacts × ℕ × KnownFacts). Makes 0 does z.0 (record { who = who_by trie place z.2; era = z.1; half = looks; made = z.2.made })) (λ i. (own i, (sym is i).at.era, sym same i)) p
 
   module _ (out : OutFacts) (lane new : LaneFacts) (known : out.known ≡ end.known) (taken : out.taken ≡ lane) (is : result ≡ record { lock = out.lock; known = worked out.known out.taken new }) (follows : Follows end.known.at lane.at) where
     both : (P : HandleFacts → HandleFacts → Type 0) → P (handle_by trie place (Some end)) (handle_by trie place (Some (record { lock = out.lock; known = worked end.known lane new }))) → P now (handle_by trie place (Some result))
@@ -253,6 +243,7 @@ round_call h trie is Exhausted r = subst (λ (t : TrieFacts). RefusesRound t Exh
 round_call h trie is live.Replaced r = absurd r
 round_call h trie is NoLane r = absurd r
 round_call h trie is TooMany r = absurd r
+round_call h trie is (Looking found) r = absurd r
 
 -- a lane that is spent is no lane of a newer handle
 pub seen_any : (o : Obstacle) (seen : Bool) → Seen o false → Seen o seen
@@ -334,5 +325,48 @@ begun_follows a b round past part led table rounds =
     follows_round a b
     (subst (BeginsWith a.half.past (chain_of a.half).now) (ap (λ (z : RoundFacts × List Chapter). z.1) (sym rounds)) part)
     (subst (λ (z : RoundFacts × List Chapter). Leads z.0.bits z.1 z.0.members) (sym rounds) led)
-    (ap (λ (z : RoundFacts). z.table) now ∙ ap (λ (z : TableFacts). z.table) (sym table))
-    (ap (λ (z : RoundFacts). z.bits) now ∙ ap (λ (z : TableFacts). z.bits) (sym table))
+    (ap table_of now ∙ sym table)
+
+-- an end that was not to be had is that of the same handle still, and so is one that ran something
+pub stays_same : (e f : EndFacts) → EndStays e f → 0 < e.known.at.era → IsSameEnd e f
+stays_same e f stays some = let is = stays.same in record {
+  lock = ap (λ (z : EndFacts). z.lock) is;
+  whose = ap (λ (z : EndFacts). z.known.whose) is;
+  number = ap (λ (z : EndFacts). z.known.number) is;
+  some_era = subst (λ (z : EndFacts). 0 < z.known.at.era) (sym is) some;
+  together = ap (λ (z : EndFacts). table_of z.known.at.half.round) is;
+  bits = ap (λ (z : EndFacts). z.known.at.half.round.bits) is;
+}
+
+pub stays_follow : (e f : EndFacts) → EndStays e f → EndFollows e f
+stays_follow e f stays trie place = unchanged trie place (handle_by trie place (Some e)) (Some e) e f refl refl stays
+
+module _ (end result : EndFacts) (out : OutFacts) (lane new : LaneFacts) (known : out.known ≡ end.known) (taken : out.taken ≡ lane) (is : result ≡ record { lock = out.lock; known = worked out.known out.taken new }) (follows : Follows end.known.at lane.at) where
+  pub worked_same : out.lock ≡ end.lock → 0 < end.known.at.era → Worked lane new → table_of lane.at.half.round ≡ table_of end.known.at.half.round → IsSameEnd end result
+  worked_same lock some did table = let later = follows.not_later in let era = did.era in record {
+    lock = ap (λ (z : EndFacts). z.lock) is ∙ lock;
+    whose = ap (λ (z : EndFacts). z.known.whose) is ∙ ap (λ (z : KnownFacts). z.whose) known;
+    number = ap (λ (z : EndFacts). z.known.number) is ∙ ap (λ (z : KnownFacts). z.number) known;
+    some_era = subst (λ (z : EndFacts). 0 < z.known.at.era) (sym is) (omega (arith, some, later, era));
+    together = ap (λ (z : EndFacts). table_of z.known.at.half.round) is ∙ ap (λ (z : RoundFacts × List Chapter). table_of z.0) did.round ∙ table;
+    bits = ap (λ (z : EndFacts). z.known.at.half.round.bits) is ∙ ap (λ (z : RoundFacts × List Chapter). z.0.bits) did.round ∙ follows.bits;
+  }
+
+  pub ran_anywhere : {T E : Type 0} (r : Result T E) (does : T → PassFacts → PassFacts → Type 0) → IfOk r (λ done. RunsHere (does done) lane.at new.at) → IfOk r (λ done. EndRuns (does done) end result)
+  ran_anywhere {T = T} {E = E} (Ok done) does w = λ trie place. ran_end trie place (handle_by trie place (Some end)) (Some end) end result refl refl out lane new known taken is follows {T = T} {E = E} (Ok done) does w
+  ran_anywhere (Err e) does w = w
+
+  pub unmade_anywhere : {T E : Type 0} (r : Result T E) → IfErr r (λ _. new.at ≡ lane.at) → IfErr r (λ _. EndFollows end result)
+  unmade_anywhere (Ok done) same = same
+  unmade_anywhere {T = T} {E = E} (Err e) same = λ trie place. unmade_end trie place (handle_by trie place (Some end)) (Some end) end result refl refl out lane new known taken is follows {T = T} {E = E} (Err e) same
+
+-- what an end ran, by its handle
+module _ (trie : TrieFacts) (place : ℕ) (now : HandleFacts) (inside : Option EndFacts) (end result : EndFacts) (view : handle_by trie place inside ≡ now) (there : inside ≡ Some end) where
+  owned : handle_by trie place (Some end) ≡ now
+  owned = ap (handle_by trie place) (sym there) ∙ view
+
+  pub runs_as : (does : PassFacts → PassFacts → Type 0) → EndRuns does end result → Runs does now (handle_by trie place (Some result))
+  runs_as does ran = subst (λ (z : HandleFacts). Runs does z (handle_by trie place (Some result))) owned (ran trie place)
+
+  pub follows_as : EndFollows end result → Follows now (handle_by trie place (Some result))
+  follows_as on = subst (λ (z : HandleFacts). Follows z (handle_by trie place (Some result))) owned (on trie place)

@@ -218,3 +218,11 @@ module _ {A B : Type 0} (pass : Seat (Option (Desk A B)) (Holding (Desk A B) Tri
 -- what is known then, by what was known
 pub knows_on_from : (own mine new : TrieFacts) → mine ≡ own → KnowsMore mine new → KnowsMore own new
 knows_on_from own mine new same more = subst (λ (z : TrieFacts). KnowsMore z new) same more
+
+-- what lies there stays as it is
+pub desk_self : (o : Option TrieFacts) → DeskStays o o
+desk_self None = tt
+desk_self (Some t) = (more_self t, refl)
+
+pub desk_same : (o : Option TrieFacts) (was now : TrieFacts) → o ≡ Some was → now ≡ was → DeskStays o (Some now)
+desk_same o was now is same = subst (λ (z : Option TrieFacts × TrieFacts). DeskStays z.0 (Some z.1)) (λ i. (sym is i, sym same i)) (desk_self (Some was))

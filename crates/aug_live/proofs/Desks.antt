@@ -1,6 +1,6 @@
 -- The desk as a round ends, as the next begins, and as the first does.
 use Rattle.std.proofs.Common.{◌≡◌, Bool, true, ◌<◌, ℕ, ◌+◌, ◌^◌, ◌≤◌, List, [], ◌∷◌, ◌++◌, get_or, length, length-append, All, sym, ap, ◌∙◌, subst, arith}
-use Rattle.std.specs.Prelude.{map, flat_map, reverse}
+use Rattle.std.specs.Prelude.{Option, Some, map, flat_map, reverse}
 use Rattle.aug_core.specs.Cuts.{Cut}
 use Rattle.aug_model.specs.Keys.{SetFacts}
 use Rattle.aug_core.specs.Layout.{IsLayout}
@@ -11,6 +11,7 @@ use Rattle.aug_trie.specs.Round.{TableFacts, RoundFacts, table_of}
 use Rattle.aug_trie.specs.Crew.{CrewFacts, BeginsIn, RollsOver, crew_chain}
 use Rattle.aug_live.specs.declared.counts.LiveCounts.{LiveCounts}
 use Rattle.aug_live.specs.LiveHandles.{HandleFacts, IsNew}
+use Rattle.aug_live.specs.declared.plan.Plan.{Plan}
 use Rattle.aug_live.specs.Carrying.{Leads}
 use Rattle.aug_live.specs.LiveTries.{AreChangesOf, TrieFacts}
 use Rattle.aug_live.specs.inside.LaneKnowledge.{EndFacts, IsWhole, rolls, rounds_at}
@@ -47,6 +48,7 @@ opened_at lanes updates counts set table first crew ports count laid b of_round 
       of_round = subst (λ (z : ℕ). All (IsOf (rounds_in crew) z) ports) (sym rounds) of_round;
       counted = record { some = omega arith; sizes = omega arith };
       rounds_are = rounds ∙ ap (λ (z : List Chapter). length z + 1) (sym past);
+      era_is = rounds ∙ ap (λ (z : RoundFacts). z.era + 1) (sym (here ∙ b.round_is));
       accounts = accounts_opened table.bits counts crew ports new_lanes past (accepted ∙ ap (λ (z : CrewFacts). z.knows.accepted) b.crew_is) rounds inserts removals (handles ∙ sym long_ports) (missing ∙ sym long_ports);
       few_inserts = omega arith;
       few_removals = omega arith;
@@ -80,6 +82,7 @@ rolled_on lanes updates counts new table crew end first crew' ports back ports' 
       of_round = subst (λ (z : (RoundFacts × List Chapter) × ℕ). All (IsOf z.0 z.1) ports') (λ i. (sym together i, sym rounds i)) of_round;
       counted = record { some = omega arith; sizes = omega arith };
       rounds_are = rounds ∙ ap (λ n. n + 1) (w.rounds_are ∙ sym longer);
+      era_is = rounds ∙ ap (λ n. n + 1) (w.era_is ∙ ap (λ (z : RoundFacts). z.era + 1) (sym was) ∙ ap (λ (z : RoundFacts). z.era) (sym (next ∙ r.round_is)));
       accounts = accounts_rolled table.bits counts crew r.last ports back w.accounts kept (eras_of (rounds_in crew) counts.rounds end.knows.history back all_back) w.rounds_are (r.same_changes ∙ gave) crew' new over (map kept_of ports') dealt past none_yet happened rounds
           (ins ∙ ap (λ n. counts.inserts + n) (r.inserts_are ∙ r.ends.inserts)) (rem ∙ ap (λ n. counts.removals + n) (r.removals_are ∙ r.ends.removals)) handles missing;
       few_inserts = few_inserts;
@@ -102,6 +105,7 @@ kept_on lanes updates counts counts' table crew crew' ports new count count' mor
   of_round = subst (λ (z : (RoundFacts × List Chapter) × ℕ). All (IsOf z.0 z.1) new) (λ i. (sym round_is i, sym rounds i)) all;
   counted = record { some = omega arith; sizes = omega arith };
   rounds_are = rounds ∙ w.rounds_are ∙ ap (λ (z : RoundFacts × List Chapter). length z.1 + 1) (sym round_is);
+  era_is = rounds ∙ w.era_is ∙ ap (λ (z : RoundFacts × List Chapter). z.0.era + 1) (sym round_is);
   accounts = accounts;
   few_inserts = omega arith;
   few_removals = omega arith;
@@ -110,8 +114,8 @@ kept_on lanes updates counts counts' table crew crew' ports new count count' mor
 }
 
 -- each handle of the first round is new
-pub all_new : (set : SetFacts) (lanes updates : ℕ) (table : TableFacts) (first : CrewFacts) (trie : TrieFacts) (ends : List HandleFacts) → trie.table ≡ table.table → BeginsIn (2 ^ set.bits) set.pairs set.bits lanes updates table first → All (IsFirst (rounds_in first) trie) ends → All (IsNew trie set (record { lanes = lanes; updates = updates })) ends
-all_new set lanes updates table first trie ends at b all k d low = let f = all k d low in
+pub all_new : (set : SetFacts) (plan : Plan) (table : TableFacts) (first : CrewFacts) (trie : TrieFacts) (ends : List HandleFacts) → trie.table ≡ table.table → BeginsIn (2 ^ set.bits) set.pairs set.bits plan.lanes plan.updates table first → All (IsFirst (rounds_in first) trie) ends → All (IsNew trie set plan) ends
+all_new set plan table first trie ends at b all k d low = let f = all k d low in
     let is : rounds_at (get_or ends k d).half ≡ rounds_in first = f.fresh.round_is in
     let of_round = ap (λ (z : RoundFacts × List Chapter). z.0) is ∙ b.round_is in record {
       of_trie = ap (λ (z : RoundFacts). z.table) of_round ∙ sym at;
@@ -171,6 +175,7 @@ asked_on {lanes} {updates} {counts} {table} {ports} {count} crew crew' free is w
   led = w.led;
   counted = w.counted;
   rounds_are = w.rounds_are;
+  era_is = w.era_is;
   accounts = record { past = a.past; now = a.now; dates = a.dates; handles = a.handles; missing = a.missing; numbers = a.numbers };
   few_inserts = w.few_inserts;
   few_removals = w.few_removals;
@@ -181,3 +186,7 @@ asked_on {lanes} {updates} {counts} {table} {ports} {count} crew crew' free is w
 -- so it knows of its rounds what it knew
 pub asked_part : (crew crew' : CrewFacts) (free : Bool) → crew' ≡ record crew { free = free } → IsPart (crew_chain crew) (crew_chain crew')
 asked_part crew crew' free is = subst (λ (z : CrewFacts). IsPart (crew_chain crew) (crew_chain z)) (sym is) (part_refl (crew_chain crew))
+
+-- slots of a round that is named in another way
+pub slots_as : (t u : TableFacts) (slots : List (Option TableFacts)) → t ≡ u → All (λ (s : Option TableFacts). s ≡ Some t) slots → All (λ (s : Option TableFacts). s ≡ Some u) slots
+slots_as t u slots is all = subst (λ (z : TableFacts). All (λ (s : Option TableFacts). s ≡ Some z) slots) is all

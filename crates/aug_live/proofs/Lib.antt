@@ -14,4 +14,6 @@ pub mod Looked
 pub mod Beginning
 pub mod Desks
 pub mod Handing
+pub mod Slotted
+pub mod Shown
 pub mod Planning

@@ -1,5 +1,5 @@
 -- A plan that the memory has room for is not refused, and the greatest one.
-use Rattle.std.proofs.Common.{◌≡◌, ◌∙◌, ◌⊎◌, inl, inr, ⊎_elim, ℕ, ◌+◌, ◌-◌, ◌*◌, ◌/◌, ◌^◌, ◌<◌, ◌≤◌, min, max, ap, sym, subst, arith}
+use Rattle.std.proofs.Common.{◌≡◌, ◌∙◌, ◌⊎◌, inl, inr, ⊎_elim, ℕ, ◌+◌, ◌-◌, ◌*◌, ◌/◌, ◌^◌, ◌<◌, ◌≤◌, min, max, ap, refl, sym, subst, arith}
 use Rattle.std.proofs.Math.Nat.{le-div_iff_mul-le, mul-add, mul_assoc, mul_comm}
 use Rattle.std.proofs.lemmas.Bool.{cases_lt}
 use Rattle.std.proofs.lemmas.Nat.{mul-le}
@@ -95,12 +95,12 @@ abbrev bare_words : ℕ → ℕ
 bare_words bits = 2 ^ (bits + 1) - 1 + 5 * (bits + own_records bits (2 ^ bits) bits)
 
 -- the plan of these numbers is the greatest
-pub is_greatest : (bits handles memory words room lanes updates : ℕ) → Fits bits memory (least_plan handles) → memory ≤ 2 ^ 30 → words ≡ word_count (shape_of bits handles 64 (2 ^ bits)) → room ≡ memory / 16 - words + handles * (1 + 64 * (5 * bits))
-    → lanes ≡ max (min (room / (1 + 256 * (5 * bits))) 64) handles → updates ≡ min ((room / lanes - 1) / (5 * bits)) 65536 → IsGreatest bits handles memory (record { lanes = lanes; updates = updates })
+pub is_greatest : (bits handles memory words room lanes updates : ℕ) → Fits bits memory (least_plan handles) → memory ≤ 3 * 2 ^ 29 → words ≡ word_count (shape_of bits handles 64 (2 ^ bits)) → room ≡ memory / 24 - words + handles * (1 + 64 * (5 * bits))
+    → lanes ≡ max (min (room / (1 + 256 * (5 * bits))) 64) handles → updates ≡ min ((room / lanes - 1) / (5 * bits)) 65536 → IsGreatest bits handles memory (record { lanes = lanes; updates = updates; tables = 3 })
 is_greatest bits handles memory words room lanes updates least not_more words_is room_is lanes_are updates_are = record {
   enough = m.enough;
   least = m.least;
-  fits = record { laid_out = record { bits = within; workers = m.lanes_fit; updates = m.updates_fit; words = (let a = all lanes updates in let b = m.fits in omega (arith, a, b, is, few)) }; bytes = (let a = all lanes updates in let b = m.fits in omega (arith, a, b, is)) };
+  fits = record { laid_out = record { bits = within; workers = m.lanes_fit; updates = m.updates_fit; words = (let a = all lanes updates in let b = m.fits in omega (arith, a, b, is, few)) }; bytes = (let a = all lanes updates in let b = m.fits in omega (arith, a, b, is)); three = refl };
   no_lane = λ f. let l = f.laid_out in m.no_lane l.workers.1 (fitting (lanes + 1) 256 f);
   no_update = λ f. let l = f.laid_out in m.no_update l.updates.1 (fitting lanes (updates + 1) f);
   spare = m.spare;
@@ -115,13 +115,13 @@ is_greatest bits handles memory words room lanes updates least not_more words_is
     least_are : words ≡ bare_words bits + handles * (1 + 64 * (5 * bits))
     least_are = let e : 1 + 5 * bits * 64 ≡ 1 + 64 * (5 * bits) = omega arith in words_is ∙ all handles 64 ∙ ap (λ (z : ℕ). bare_words bits + handles * z) e
 
-    is : bare_words bits + room ≡ memory / 16
+    is : bare_words bits + room ≡ memory / 24
     is = let a = least_are in let b = least.bytes in omega (arith, a, b, words_is, room_is)
 
-    few : memory / 16 ≤ 2 ^ 26
+    few : memory / 24 ≤ 2 ^ 26
     few = omega (arith, not_more)
 
-    fitting : (l u : ℕ) → Fits bits memory (record { lanes = l; updates = u }) → l * (1 + 5 * bits * u) ≤ room
+    fitting : (l u : ℕ) → Fits bits memory (record { lanes = l; updates = u; tables = 3 }) → l * (1 + 5 * bits * u) ≤ room
     fitting l u f = let a = all l u in let b = f.bytes in let c = f.laid_out.words in omega (arith, a, b, c, is)
 
     m : IsMost (5 * bits) room handles lanes updates

@@ -12,13 +12,14 @@ use Rattle.aug_live.specs.declared.error.OpenError.{OpenError}
 use Rattle.aug_live.specs.declared.error.OpenError.TheVariants as opening
 use Rattle.aug_live.specs.declared.error.TryError.{TryError}
 use Rattle.aug_live.specs.declared.error.TryError.TheVariants.{Again, Refused}
-use Rattle.aug_live.specs.declared.error.LiveError.TheVariants.{Closed, Exhausted, Replaced, NoLane, TooMany}
+use Rattle.aug_live.specs.declared.error.LiveError.TheVariants.{Closed, Exhausted, Replaced, NoLane, TooMany, Looking}
 
 -- how a refusal is printed: by its name
 abbrev pub open_text : OpenError → List ℕ
 open_text opening.BadHandles = codes "BadHandles"
 open_text opening.BadLanes = codes "BadLanes"
 open_text opening.BadUpdates = codes "BadUpdates"
+open_text opening.BadTables = codes "BadTables"
 open_text opening.TooLarge = codes "TooLarge"
 open_text opening.OutOfMemory = codes "OutOfMemory"
 
@@ -28,6 +29,7 @@ live_text Exhausted = codes "Exhausted"
 live_text Replaced = codes "Replaced"
 live_text NoLane = codes "NoLane"
 live_text TooMany = codes "TooMany"
+live_text (Looking found) = codes "Looking"
 
 -- of a call that waits for nobody: if it is refused, and need not be made again, this holds of the cause
 abbrev pub IfRefused : {M : Type 0} → (LiveError → Type 0) → TryError M → Type 0
@@ -49,6 +51,7 @@ RefusesRoll trie Exhausted = IsExhausted trie
 RefusesRoll trie Replaced = ⊥
 RefusesRoll trie NoLane = ⊥
 RefusesRoll trie TooMany = ⊥
+RefusesRoll trie (Looking found) = ⊥
 
 -- why no round goes on for a handle, by what it knows of the trie then
 abbrev pub RefusesRound : TrieFacts → LiveError → Type 0
@@ -57,6 +60,7 @@ RefusesRound trie Exhausted = IsExhausted trie
 RefusesRound trie Replaced = ⊥
 RefusesRound trie NoLane = ⊥
 RefusesRound trie TooMany = ⊥
+RefusesRound trie (Looking found) = ⊥
 
 -- why a call of a handle is refused, by what the handle knows then
 abbrev pub RefusesCall : HandleFacts → LiveError → Type 0
@@ -65,6 +69,20 @@ RefusesCall handle Exhausted = RefusesRound handle.who.trie Exhausted
 RefusesCall handle Replaced = handle.who.replaced ≡ true
 RefusesCall handle NoLane = ⊥
 RefusesCall handle TooMany = ⊥
+RefusesCall handle (Looking found) = ⊥
+
+-- why what lies in a slot is not taken: a look has it
+abbrev pub RefusesSlot : LiveError → Type 0
+RefusesSlot Closed = ⊥
+RefusesSlot Exhausted = ⊥
+RefusesSlot Replaced = ⊥
+RefusesSlot NoLane = ⊥
+RefusesSlot TooMany = Unit {0}
+RefusesSlot (Looking found) = Unit {0}
+
+-- why a look is refused, by what its handle knows then
+abbrev pub RefusesLook : HandleFacts → LiveError → Type 0
+RefusesLook handle cause = RefusesCall handle cause ⊎ RefusesSlot cause
 
 -- a lane's last handle is another one than that with this number, or came back already
 pub record HasOther (lane number : ℕ) (trie : TrieFacts) : Type 0 where
@@ -79,6 +97,7 @@ RefusesBack lane number trie Exhausted = IsExhausted trie
 RefusesBack lane number trie Replaced = HasOther lane number trie
 RefusesBack lane number trie NoLane = ⊥
 RefusesBack lane number trie TooMany = ⊥
+RefusesBack lane number trie (Looking found) = ⊥
 
 -- why a trie gives no lane of this number to a new handle
 abbrev pub RefusesLane : ℕ → TrieFacts → LiveError → Type 0
@@ -87,6 +106,7 @@ RefusesLane lane trie Exhausted = 2 ^ 64 ≤ sum_by (λ (l : LaneKnown). length 
 RefusesLane lane trie Replaced = ⊥
 RefusesLane lane trie NoLane = length trie.lanes ≤ lane
 RefusesLane lane trie TooMany = Unit {0}
+RefusesLane lane trie (Looking found) = ⊥
 
 -- why a call for a new handle of this lane is refused
 abbrev pub RefusesHandle : ℕ → TrieFacts → LiveError → Type 0

@@ -1,6 +1,6 @@
 -- What contracts see of a handle and of a look, and what their calls do. An update or a look is one of a pass, made from a state that follows on what
 -- the handle knew (`Follows`).
-use Rattle.std.specs.Prelude.{◌≡◌, ◌⊎◌, ℕ, ◌+◌, ◌<◌, ◌≤◌, List, [], ◌++◌, length, drop, Bool, true}
+use Rattle.std.specs.Prelude.{◌≡◌, ◌≢◌, ◌⊎◌, ℕ, ◌+◌, ◌<◌, ◌≤◌, List, [], ◌++◌, length, drop, Bool, true, false}
 use mathlib.Core.Option.{some}
 use lib.ListN.{get_elem?}
 use Rattle.aug_model.specs.Keys.{SetFacts}
@@ -9,7 +9,9 @@ use Rattle.aug_core.specs.declared.view.Change.{Change}
 use Rattle.aug_trie.specs.Chains.{IsPart}
 use Rattle.aug_trie.specs.Note.{NoteFacts}
 use Rattle.aug_trie.specs.Pass.{PassFacts, GoesOn, chain_of}
-use Rattle.aug_trie.specs.Snapshot.{set_at, snapshot_cut}
+use Rattle.aug_trie.specs.Round.{table_of}
+use Rattle.aug_trie.specs.Reader.{Lends}
+use Rattle.aug_trie.specs.Snapshot.{HasSnapshot, set_at, snapshot_cut}
 use Rattle.aug_trie.specs.Updates.{TakesSnapshot}
 use Rattle.aug_trie.specs.Node.{Reads}
 use Rattle.aug_model.specs.declared.summary.Summary.{Summary}
@@ -65,6 +67,7 @@ pub record Follows (old new : HandleFacts) : Type 0 where
   pub led : old.era < new.era → Leads new.half.round.bits new.half.past new.half.round.members
   pub table : new.half.round.table ≡ old.half.round.table
   pub bits : new.half.round.bits ≡ old.half.round.bits
+  pub together : table_of new.half.round ≡ table_of old.half.round
   pub same_handle : SameHandle old.who new.who
   pub made : new.made ≡ old.made
 
@@ -124,37 +127,47 @@ pub record IsHandleOf (lane : ℕ) (trie : TrieFacts) (handle : HandleFacts) : T
   pub bits : handle.half.round.bits ≡ trie.bits
   pub knows : IsPart trie.rounds (chain_of handle.half)
 
--- a look: what its handle was, with the pass as it is now, the snapshot that it shows, and the one that it showed before it took that
+-- a look: the number of its handle's lane; its reader, which is seen as a pass; the snapshot that it shows, and the one that it showed before it took that
 pub record LookFacts : Type 0 where
-  pub who : WhoFacts
-  pub era : ℕ
-  pub half : PassFacts
-  pub made : List Made
+  pub lane : ℕ
+  pub reader : PassFacts
   pub snapshot : Snapshot
   pub before : Snapshot
 
--- what its handle knows once the look is over
-abbrev pub handle_of : LookFacts → HandleFacts
-handle_of look = record { who = look.who; era = look.era; half = look.half; made = look.made }
-
 -- the set that it shows, and the one that it showed before
 abbrev pub set_of_look : LookFacts → SetFacts
-set_of_look look = set_at look.half look.snapshot
+set_of_look look = set_at look.reader look.snapshot
 
 abbrev pub set_before : LookFacts → SetFacts
-set_before look = set_at look.half look.before
+set_before look = set_at look.reader look.before
 
--- a look takes a newer snapshot of the same round, and has the one that it showed as the one before
-pub record LooksAgain (old new : LookFacts) : Type 0 where
-  pub same : new ≡ record old { half = new.half; snapshot = new.snapshot; before = old.snapshot }
-  pub same_before : set_before new ≡ set_of_look old
-  pub takes : TakesSnapshot old.half.knows new.half.knows (snapshot_cut new.half new.snapshot.number)
-  pub goes_on : GoesOn 0 1 old.half new.half
+-- a handle takes a snapshot for a look: it is one of its pass's, which lends the reader
+pub record ShowsTo (old new : HandleFacts) (look : LookFacts) : Type 0 where
+  pub makes : Makes 0 (λ a b. TakesSnapshot a.knows b.knows (snapshot_cut b look.snapshot.number)) old new
+  pub known : HasSnapshot new.half look.snapshot.number
+  pub lends : Lends new.half look.reader
+  pub of_lane : look.lane ≡ new.who.lane
+
+-- that is a new look, before whose snapshot there is none
+pub record OpensLook (old new : HandleFacts) (look : LookFacts) : Type 0 where
+  pub shows : ShowsTo old new look
+  pub first : look.before ≡ look.snapshot
+
+-- the look is of the handle's trie and lane
+pub record IsLookOf (handle : HandleFacts) (look : LookFacts) : Type 0 where
+  pub table : table_of look.reader.round ≡ table_of handle.half.round
+  pub lane : look.lane ≡ handle.who.lane
+
+-- a look takes a newer snapshot with its handle. If that is of the same round, it has the one that it showed as the one before, and otherwise none
+pub record LooksAgain (same : Bool) (old new : LookFacts) (handle handle' : HandleFacts) : Type 0 where
+  pub shows : ShowsTo handle handle' new
+  pub same_round : same ≡ true → (new.reader.round.era ≡ old.reader.round.era) × (new.before ≡ old.snapshot) × (set_before new ≡ set_of_look old)
+  pub other_round : same ≡ false → (new.reader.round.era ≢ old.reader.round.era) × (new.before ≡ new.snapshot)
 
 module _ {A B : Type 0} (summary_of : List (ℕ × ℕ) → Summary A B) where
   -- a query of a look keeps what the look shows and showed, and makes at most `most` steps
   pub record IsAsked (most : ℕ) (old new : LookFacts) : Type 0 where
-    pub same : new ≡ record old { half = new.half }
+    pub same : new ≡ record old { reader = new.reader }
     pub same_set : set_of_look new ≡ set_of_look old
     pub same_before : set_before new ≡ set_before old
-    pub reads : Reads summary_of most old.half new.half
+    pub reads : Reads summary_of most old.reader new.reader

@@ -4,4 +4,5 @@ pub mod DeskKnowledge
 pub mod LaneKnowledge
 pub mod Looks
 pub mod Rolls
+pub mod Slots
 pub mod SameChanges

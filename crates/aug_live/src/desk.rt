@@ -6,9 +6,12 @@ ghost use lib.ListN.{get_elem?};
 ghost use Rattle.atomic_table.specs.Seated.{TableId};
 ghost use Rattle.aug_trie.specs.Note.{chain_of_note};
 ghost use Rattle.aug_trie.specs.Chains.{IsPart};
+ghost use Rattle.aug_trie.specs.Round.{table_of};
 ghost use Rattle.aug_live.specs.LiveErrors.{IfRefused, RefusesBack, RefusesLane, RefusesRoll};
 ghost use Rattle.aug_live.specs.LiveHandles.{IsHandleOf};
 ghost use Rattle.aug_live.specs.LiveTries.{CameBack, Closes, KeepsHandles, KnowsMore, ids_of};
+ghost use Rattle.aug_live.specs.inside.LaneKnowledge.{IsSameEnd};
+ghost use Rattle.aug_live.specs.inside.Looks.{EndShows, HasReaders};
 ghost use Rattle.aug_live.specs.declared.known.Whose.TheVariants as whose;
 
 use crate::ahead::{Ahead, PIECE, Pace, SHARE};
@@ -18,11 +21,13 @@ use crate::end::End;
 use crate::error::{LiveError, TryError};
 use crate::handle::Handle;
 use crate::held::{Emptied, Held};
+use crate::operation::Show;
 use crate::plan::Plan;
 use crate::rolling::{deal_all, finish, give_all, put_all_back, take_all};
+use crate::slot::{SlotEnd, end_of, may_renew};
 use crate::work::SharedRound;
 use aug_monoid::Monoid;
-use aug_trie::{Crew, Members, Note};
+use aug_trie::{Crew, Members, Note, Round, Snapshot};
 use ruled_lock::Patience;
 use std::marker::Model;
 use std::sync::Arc;
@@ -39,6 +44,8 @@ pub(crate) struct Working<A: Monoid, B: Monoid> {
     pub(crate) round: SharedRound<A, B>,
     pub(crate) crew: Crew<A, B>,
     pub(crate) ports: Vec<End<A, B>>,
+    // Where the readers of the lanes lie, the last lane first.
+    pub(crate) slots: Vec<SlotEnd<A, B>>,
     // The last lanes, the last one first, if a roll-over took them and waits for the others.
     pub(crate) held: Vec<Held<A, B>>,
     // Room for them once their passes are back, and for the members once the trie is closed.
@@ -47,7 +54,7 @@ pub(crate) struct Working<A: Monoid, B: Monoid> {
 }
 
 impl<A: Monoid, B: Monoid> Model for Working<A, B> {
-    ghost use Rattle.std.specs.Prelude.{◌≡◌, ◌+◌, ◌++◌, ◌≤◌, ◌^◌, [], map, reverse, vec_len, vec_capacity, false};
+    ghost use Rattle.std.specs.Prelude.{◌≡◌, ◌+◌, ◌++◌, ◌≤◌, ◌^◌, [], All, Some, map, reverse, vec_len, vec_capacity, false};
     ghost use Rattle.std.specs.Arc.{arc_value};
     ghost use Rattle.aug_trie.specs.Crew.{crew_chain};
     ghost use Rattle.aug_live.specs.LiveTries.{TrieFacts};
@@ -61,11 +68,12 @@ impl<A: Monoid, B: Monoid> Model for Working<A, B> {
     ghost invariant = { λ w. IsWorking w.plan.lanes w.plan.updates w.counts (arc_value w.round) w.crew (w.ports.items ++ reverse w.held.items) (vec_len w.ports + vec_len w.held)
         × (w.idle.items ≡ []) × (vec_len w.ports + vec_len w.held ≤ vec_capacity w.ports) × (vec_len w.ports + vec_len w.held ≤ vec_capacity w.held)
         × (vec_len w.ports + vec_len w.held ≤ vec_capacity w.idle)
-        × (w.list.items ≡ []) × (2 ^ (arc_value w.round).bits ≤ vec_capacity w.list) × ((arc_value w.round).bits ≡ w.bits) };
+        × (w.list.items ≡ []) × (2 ^ (arc_value w.round).bits ≤ vec_capacity w.list) × ((arc_value w.round).bits ≡ w.bits)
+        × All (λ s. s ≡ Some (arc_value w.round)) w.slots.items × (vec_len w.slots ≡ vec_len w.ports + vec_len w.held) };
 }
 
 impl<A: Monoid, B: Monoid> Working<A, B> {
-    /// Ends the round: its set, and the counts of all rounds. If a handle works or looks, the round comes back.
+    /// Ends the round: its set, and the counts of all rounds. If a handle is in a call, the round comes back.
     pub(crate) fn stop<W: Patience>(
         self,
         how: &W,
@@ -98,7 +106,7 @@ impl<A: Monoid, B: Monoid> Working<A, B> {
         Ok((set, counts))
     }
 
-    /// Ends the round and begins the next one in its memory, so that nothing is asked for. If a handle works or looks, the lanes that were taken stay
+    /// Ends the round and begins the next one in its memory, so that nothing is asked for. If a handle is in a call, the lanes that were taken stay
     /// so, for whoever rolls the round over next. If the counts might not go further, the round goes on. So it does, with `false`, if readers are out in
     /// each other part of the table; then no lane stays taken.
     pub(crate) fn roll<W: Patience>(
@@ -118,7 +126,12 @@ impl<A: Monoid, B: Monoid> Working<A, B> {
         {
             return (working, Err(TryError::Refused(LiveError::Exhausted)));
         }
-        if !working.crew.may_renew(&working.round) {
+        if !may_renew(
+            &working.round,
+            &mut working.crew,
+            &mut working.slots,
+            counts.rounds,
+        ) {
             put_all_back(&mut working.ports, &mut working.held);
             return (working, Ok(false));
         }
@@ -131,6 +144,7 @@ impl<A: Monoid, B: Monoid> Working<A, B> {
             round,
             mut crew,
             mut ports,
+            slots,
             mut held,
             mut idle,
             list,
@@ -151,6 +165,7 @@ impl<A: Monoid, B: Monoid> Working<A, B> {
             round,
             crew,
             ports,
+            slots,
             held,
             idle,
             list,
@@ -181,6 +196,12 @@ impl<A: Monoid, B: Monoid> Working<A, B> {
             let after = u32::try_from(after).unwrap_or(u32::MAX).max(PIECE);
             return Ahead { after, more: false };
         }
+        may_renew(
+            &self.round,
+            &mut self.crew,
+            &mut self.slots,
+            self.counts.rounds,
+        );
         let done = self.crew.prepare(&self.round, nodes);
         Ahead {
             after: PIECE,
@@ -245,6 +266,38 @@ impl<A: Monoid, B: Monoid> Working<A, B> {
         Ok(true)
     }
 
+    /// Takes a snapshot for a look with the end of a lane. The reader of the look before goes to the pass that lent it, or to the crew, where that pass is.
+    /// None if something is in the way of the lane.
+    pub(crate) fn show(
+        &mut self,
+        end: End<A, B>,
+        number: u64,
+        round: &Round<A, B>,
+        show: &mut Show<A, B>,
+    ) -> (End<A, B>, Option<Snapshot>)
+        requires handle { end.known.whose ≡ whose.Handle }
+        requires some { 0 < end.known.at.era }
+        requires number { end.known.number ≡ number }
+        requires together { table_of end.known.at.half.round ≡ round.now }
+        requires table { self.old.table ≡ round.now.table }
+        requires readers { HasReaders show.old.reader show.old.left round.now.table }
+        ensures working { self.new ≡ self.old }
+        ensures same { IsSameEnd end result.0 }
+        ensures shows { EndShows show.old.reader show.new.reader show.new.left show.new.era result.1 end result.0 }
+    {
+        show.at_desk = true;
+        let (end, done) = end.run(number, round, show);
+        show.at_desk = false;
+        if let Some(reader) = show.left.take() {
+            // A reader that its crew does not count, as there are too many, is dropped.
+            let _ = self.crew.take_reader(&self.round, reader);
+        }
+        match done {
+            Ok(shown) => (end, shown),
+            Err(_) => (end, None),
+        }
+    }
+
     /// Has the crew know what a note of this trie tells.
     pub(crate) fn learn(self, note: Note<A, B>) -> Working<A, B>
         requires { note.round.table ≡ self.table }
@@ -296,6 +349,7 @@ impl<A: Monoid, B: Monoid> Working<A, B> {
     ) -> Result<Handle<A, B>, TryError<W::GaveUp>>
         requires settled { self.old.held ≡ 0 }
         requires desk { ids_of desk ≡ ids_of self.old }
+        requires table { desk.table ≡ self.old.table }
         ensures more { KnowsMore self.old self.new }
         ensures given { IfOk result (λ _. self.new.given ≡ self.old.given + 1) }
         ensures none_given { IfErr result (λ _. self.new.given ≡ self.old.given) }
@@ -316,6 +370,9 @@ impl<A: Monoid, B: Monoid> Working<A, B> {
         let Ok(round) = Arc::try_clone(&self.round) else {
             return Err(TryError::Refused(LiveError::TooMany));
         };
+        let Ok(slot) = end_of(&self.round, &mut self.slots, lane) else {
+            return Err(TryError::Refused(LiveError::TooMany));
+        };
         let number = self.counts.handles + 1;
         match self.ports[lane].renew(how, number, theirs, &round, &mut self.crew) {
             Ok(end) => {
@@ -328,6 +385,7 @@ impl<A: Monoid, B: Monoid> Working<A, B> {
                     number,
                     pace: Pace::after(PIECE),
                     round,
+                    slot,
                     desk,
                 })
             }

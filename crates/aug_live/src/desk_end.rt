@@ -1,18 +1,24 @@
 //! The desk, and the ends of its lock.
-ghost use Rattle.std.specs.Prelude.{◌≡◌, [], ◌∷◌, ◌<◌, IfOk, IfErr, IsSome, None};
+ghost use Rattle.std.specs.Prelude.{◌≡◌, [], ◌∷◌, ◌<◌, IfOk, IfErr, IsSome, None, Some};
 ghost use Rattle.std.specs.Arc.{arc_value};
 ghost use Rattle.ruled_lock.specs.Locks.{HoldsNothing, IsSameKey, client_of};
-ghost use Rattle.aug_live.specs.LiveErrors.{IfRefused, RefusesRoll, RefusesRound};
+ghost use Rattle.aug_trie.specs.Round.{table_of};
+ghost use Rattle.aug_live.specs.LiveErrors.{IfRefused, RefusesRoll, RefusesRound, RefusesSlot};
 ghost use Rattle.aug_live.specs.LiveTries.{KeepsHandles, KnowsMore};
 ghost use Rattle.aug_live.specs.inside.DeskKnowledge.{GoesOnFrom, IsOwner};
+ghost use Rattle.aug_live.specs.inside.LaneKnowledge.{IsSameEnd};
+ghost use Rattle.aug_live.specs.inside.Looks.{EndShows, HasReaders};
+ghost use Rattle.aug_live.specs.declared.known.Whose.TheVariants.{Handle};
 
 use crate::ahead::Ahead;
 use crate::desk::Working;
 use crate::end::End;
 use crate::error::{LiveError, TryError};
+use crate::operation::Show;
+use crate::slot::{Slot, SlotEnd, SlotOut};
 use atomic_table::Split;
 use aug_monoid::Monoid;
-use aug_trie::PassHalf;
+use aug_trie::{PassHalf, Round, Snapshot};
 use ruled_lock::{Key, Lesson, LockRule, Patience, RuledLock, Transition, Tries};
 use std::alloc::{AllocError, Global};
 use std::marker::Model;
@@ -214,6 +220,76 @@ impl<A: Monoid, B: Monoid> DeskEnd<A, B> {
         ensures { self.new ≡ self.old }
     {
         prepare_on(how, &self.lock, &mut self.key, nodes)
+    }
+
+    /// Takes what lies in a slot where the desk is at hand, which whoever collects readers has. Refused with `Looking` if a look has it.
+    #[inline(never)]
+    pub(crate) fn take_slot<W: Patience>(
+        &mut self,
+        how: &W,
+        slot: SlotEnd<A, B>,
+    ) -> Result<(SlotOut<A, B>, Slot<A, B>), TryError<W::GaveUp>>
+        requires { IsSome slot }
+        ensures same { self.new ≡ self.old }
+        ensures taken { IfOk result (λ t. (t.0 ≡ slot) × (Some t.1 ≡ slot)) }
+        ensures refused { IfErr result (IfRefused RefusesSlot) }
+    {
+        match self.lock.take::<Read, W>(how, &mut self.key) {
+            Ok(desk) => {
+                let taken = slot.take();
+                self.lock.put::<Keep>(&mut self.key, desk);
+                match taken {
+                    Ok(taken) => Ok(taken),
+                    Err((_, lock)) => Err(TryError::Refused(LiveError::Looking(lock))),
+                }
+            }
+            Err(missed) => Err(TryError::Again(missed)),
+        }
+    }
+
+    /// Takes a snapshot for a look with the end of a lane, where the desk is at hand, as `Working::show` does. None if no round lies there.
+    pub(crate) fn show<W: Patience>(
+        &mut self,
+        how: &W,
+        end: End<A, B>,
+        number: u64,
+        round: &Round<A, B>,
+        show: &mut Show<A, B>,
+    ) -> (End<A, B>, Result<Option<Snapshot>, W::GaveUp>)
+        requires handle { end.known.whose ≡ Handle }
+        requires some { 0 < end.known.at.era }
+        requires number { end.known.number ≡ number }
+        requires together { table_of end.known.at.half.round ≡ round.now }
+        requires table { self.old.table ≡ round.now.table }
+        requires readers { HasReaders show.old.reader show.old.left round.now.table }
+        ensures desk { self.new ≡ self.old }
+        ensures same { IsSameEnd end result.0 }
+        ensures shows { IfOk result.1 (λ shown. EndShows show.old.reader show.new.reader show.new.left show.new.era shown end result.0) }
+        ensures missed { IfErr result.1 (λ _. (result.0 ≡ end) × (show.new ≡ show.old)) }
+    {
+        match self.lock.take::<Read, W>(how, &mut self.key) {
+            Ok(Desk { working, opened }) => match working {
+                Some(working) => {
+                    let mut working = working;
+                    let (end, shown) = working.show(end, number, round, show);
+                    let desk = Desk {
+                        working: Some(working),
+                        opened,
+                    };
+                    self.lock.put::<Keep>(&mut self.key, desk);
+                    (end, Ok(shown))
+                }
+                None => {
+                    let none = Desk {
+                        working: None,
+                        opened,
+                    };
+                    self.lock.put::<Keep>(&mut self.key, none);
+                    (end, Ok(None))
+                }
+            },
+            Err(missed) => (end, Err(missed)),
+        }
     }
 
     /// Sleeps for a while, unless somebody has the desk.

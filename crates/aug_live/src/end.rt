@@ -9,13 +9,14 @@ ghost use Rattle.aug_trie.specs.Pass.{chain_of};
 ghost use Rattle.aug_trie.specs.Round.{table_of};
 ghost use Rattle.aug_live.specs.LiveErrors.{IfRefused};
 ghost use Rattle.aug_live.specs.LiveHandles.{Follows};
-ghost use Rattle.aug_live.specs.inside.LaneKnowledge.{EndStays, Learnt, Seen, Worked, is_out_by, knows_nothing, passed_by, rounds_at, taken_in, worked};
+ghost use Rattle.aug_live.specs.inside.LaneKnowledge.{EndFollows, EndRuns, EndStays, IsSameEnd, Learnt, Seen, Worked, is_out_by, knows_nothing, passed_by, rounds_at, taken_in, worked};
 ghost use Rattle.aug_live.specs.inside.Rolls.{GetsHandle, IsHandleEnd, IsOf, IsPort, given, kept_of, rounds_in};
 ghost use Rattle.aug_live.specs.declared.known.Whose.TheVariants.{Alone, Idle, Roller, Handle};
 
 use crate::error::{LiveError, TryError};
 use crate::known::Known;
 use crate::lane::{Lane, Obstacle};
+use crate::operation::Operation;
 use crate::tie::{Deal, Keep, Learn, Meet, Parts, PassBy, Renumber, Settle, Tie, Work};
 use crate::work::start;
 use aug_monoid::Monoid;
@@ -127,6 +128,34 @@ impl<A: Monoid, B: Monoid> End<A, B> {
             }
             Err((end, shown)) => Err((end, Obstacle::Held(shown))),
         }
+    }
+
+    /// Runs an operation with the pass of the lane, for the handle with this number, unless the lane is held, its round has to roll over first, or it has
+    /// a newer handle.
+    #[inline(always)]
+    pub(crate) fn run<O: Operation<A, B>>(
+        self,
+        number: u64,
+        round: &Round<A, B>,
+        op: &mut O,
+    ) -> (End<A, B>, Result<O::Answer, Obstacle>)
+        requires handle { self.known.whose ≡ Handle }
+        requires some { 0 < self.known.at.era }
+        requires number { self.known.number ≡ number }
+        requires together { table_of self.known.at.half.round ≡ round.now }
+        requires needs { O.Needs op.old self.known.at.half.round.table self.known.at.half.round.bits }
+        ensures same { IsSameEnd self result.0 }
+        ensures made { IfOk result.1 (λ answer. EndRuns (O.Does op.old op.new answer) self result.0) }
+        ensures not_made { IfErr result.1 (λ _. EndFollows self result.0) }
+        ensures kept { IfErr result.1 (λ _. op.new ≡ op.old) }
+        ensures seen { IfErr result.1 (λ obstacle. Seen obstacle result.0.known.replaced) }
+    {
+        let (out, lane) = match self.take_to_work(number) {
+            Ok(taken) => taken,
+            Err((same, obstacle)) => return (same, Err(obstacle)),
+        };
+        let (lane, done) = lane.run(round, op);
+        (out.put(lane), done)
     }
 
     /// Takes what lies in the lane.

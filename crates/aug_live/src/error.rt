@@ -17,10 +17,14 @@ pub enum OpenError {
     /// Refusal 3: the updates of a lane are outside 1 to 65,536.
     BadUpdates,
 
-    /// Refusal 4: the table would have more than 2^26 words, or more bytes than it may take; or it may take more than 2^30.
+    /// Refusal 4: the plan has fewer than two tables.
+    BadTables,
+
+    /// Refusal 5: a part of the table would have more than 2^26 words, or the table more bytes than it may take; or it may take more than
+    /// 3 * 2^29 (1,610,612,736).
     TooLarge,
 
-    /// Refusal 5: a request for memory was refused.
+    /// Refusal 6: a request for memory was refused.
     OutOfMemory,
 }
 
@@ -42,6 +46,9 @@ pub enum LiveError {
     /// Refusal 5: a lock of the trie has as many owners as can be counted. No machine gets there, and no clause sees the count: that of
     /// `Arc::try_clone` does not say when it refuses.
     TooMany,
+
+    /// Refusal 6: a look of the handle's lane is open, by which this was found out.
+    Looking(WasOut),
 }
 
 /// What a call that waits for nobody would have waited for.
@@ -78,6 +85,7 @@ impl fmt::Display for OpenError {
             OpenError::BadHandles => "BadHandles",
             OpenError::BadLanes => "BadLanes",
             OpenError::BadUpdates => "BadUpdates",
+            OpenError::BadTables => "BadTables",
             OpenError::TooLarge => "TooLarge",
             OpenError::OutOfMemory => "OutOfMemory",
         })
@@ -99,6 +107,7 @@ impl fmt::Display for LiveError {
             LiveError::Replaced => "Replaced",
             LiveError::NoLane => "NoLane",
             LiveError::TooMany => "TooMany",
+            LiveError::Looking(_) => "Looking",
         })
     }
 }

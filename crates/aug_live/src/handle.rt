@@ -1,10 +1,10 @@
 //! The end of a lane that a thread works with.
-ghost use Rattle.std.specs.Prelude.{◌≡◌, ◌≢◌, ◌^◌, ◌<◌, ◌≤◌, All, length, take, IfOk, IfErr};
+ghost use Rattle.std.specs.Prelude.{◌≡◌, ◌≢◌, ◌^◌, ◌<◌, ◌≤◌, All, length, take, IfOk, IfErr, IfSome, IfNone, Some};
 ghost use Rattle.std.specs.Bool.{OnTrue, OnFalse};
 ghost use Rattle.aug_trie.specs.Knowledge.{insertion, removal};
 ghost use Rattle.aug_trie.specs.declared.updates.request.Request.TheVariants as asked;
-ghost use Rattle.aug_trie.specs.Updates.{AcceptedUpdate, RefusedUpdate, TakesSnapshot, Updates};
-ghost use Rattle.aug_trie.specs.Snapshot.{snapshot_cut};
+ghost use Rattle.aug_trie.specs.Round.{table_of};
+ghost use Rattle.aug_trie.specs.Updates.{AcceptedUpdate, RefusedUpdate, Updates};
 ghost use Rattle.aug_trie.specs.Chains.{IsPart};
 ghost use Rattle.aug_trie.specs.Note.{chain_of_note};
 ghost use Rattle.aug_trie.specs.UpdateBatches.{DoesBatch};
@@ -12,20 +12,22 @@ ghost use Rattle.aug_trie.specs.Pass.{chain_of};
 ghost use Rattle.aug_trie.specs.Pops.{popped, pop_updates, Pops};
 ghost use Rattle.aug_model.specs.Folds.{summary_of};
 ghost use Rattle.aug_monoid.specs.Extent.{extent_parts};
-ghost use Rattle.aug_live.specs.LiveErrors.{IfRefused, RefusesCall};
+ghost use Rattle.aug_live.specs.LiveErrors.{IfRefused, RefusesCall, RefusesLook, RefusesSlot};
 ghost use Rattle.aug_live.specs.inside.LaneKnowledge.{Seen};
-ghost use Rattle.aug_live.specs.LiveHandles.{AllOrSpent, Follows, IsRoom, IsSomeOf, Makes, Runs, handle_of, note_at};
+ghost use Rattle.aug_live.specs.inside.Looks.{HandleShows, HasReaders};
+ghost use Rattle.aug_live.specs.LiveHandles.{AllOrSpent, Follows, IsRoom, IsSomeOf, OpensLook, Makes, Runs, note_at};
 
 use crate::ahead::{NODES, PIECE, Pace};
 use crate::desk_end::DeskEnd;
 use crate::end::End;
 use crate::error::{Busy, LiveError, TryError};
-use crate::lane::{Lane, Obstacle};
-use crate::look::Look;
-use crate::operation::{Batch, LearnNote, MakeNote, OneUpdate, Operation, PopAt, TellRoom};
+use crate::lane::Obstacle;
+use crate::look::{Look, leave};
+use crate::operation::{Batch, LearnNote, MakeNote, OneUpdate, Operation, PopAt, Show, TellRoom};
+use crate::slot::{Slot, SlotEnd, SlotOut};
 use crate::work::SharedRound;
 use aug_monoid::{Extent, Monoid};
-use aug_trie::{Note, Outcome, Pop, Request, Side, Told};
+use aug_trie::{Note, Outcome, Pop, Request, Side, Snapshot, Told};
 use ruled_lock::{Patience, Tries, Waits};
 use std::marker::Model;
 use std::sync::Wait;
@@ -35,8 +37,8 @@ use std::sync::Wait;
 ///
 /// A call with an `rt` waits for a roll-over and for nothing else: it then continues in the next round. If the updates of its lane are spent, it takes a
 /// spare lane of the round, and waits only for a handle that does the same. If no spare lane is left, it rolls the round over itself, which
-/// waits for the update that another handle is in, and for each look. Near the end of a round a handle lays a piece of the next one out after some of its
-/// updates, so that the roll-over has little to do.
+/// waits for the update that another handle is in, and, if looks of an earlier round are open in each other part of the table, until one of these parts
+/// has none. Near the end of a round a handle lays a piece of the next one out after some of its updates, so that the roll-over has little to do.
 #[derive(Drop)]
 pub struct Handle<A: Monoid, B: Monoid> {
     // An update takes it out and puts it back.
@@ -48,10 +50,13 @@ pub struct Handle<A: Monoid, B: Monoid> {
     // When it lays the next piece out.
     pub(crate) pace: Pace,
     pub(crate) round: SharedRound<A, B>,
+    // Where the reader of a look lies afterwards.
+    pub(crate) slot: SlotEnd<A, B>,
     pub(crate) desk: DeskEnd<A, B>,
 }
 
 impl<A: Monoid, B: Monoid> Model for Handle<A, B> {
+    ghost use Rattle.std.specs.Prelude.{◌≡◌, Some};
     ghost use Rattle.std.specs.Arc.{arc_value};
     ghost use Rattle.aug_live.specs.LiveHandles.{HandleFacts};
     ghost use Rattle.aug_live.specs.inside.LaneKnowledge.{handle_by};
@@ -62,7 +67,7 @@ impl<A: Monoid, B: Monoid> Model for Handle<A, B> {
 
     ghost view = { λ h. handle_by h.desk h.lane h.end };
 
-    ghost invariant = { λ h. HoldsHandle h.end (arc_value h.round) h.bits h.lane h.number (ids_of h.desk) };
+    ghost invariant = { λ h. HoldsHandle h.end (arc_value h.round) h.bits h.lane h.number (ids_of h.desk) × (h.slot ≡ Some (arc_value h.round)) × (h.desk.table ≡ (arc_value h.round).table) };
 }
 
 impl<A: Monoid, B: Monoid> Handle<A, B> {
@@ -159,7 +164,7 @@ impl<A: Monoid, B: Monoid> Handle<A, B> {
     }
 
     /// The same, and waits for nobody. `Again` if the lane is spent and somebody has the desk, or if a roll-over is due and another handle is in a
-    /// call or holds a look. Then the lanes that the roll-over took wait for it, and whoever calls again goes on with it.
+    /// call. Then the lanes that the roll-over took wait for it, and whoever calls again goes on with it.
     #[inline(always)]
     pub fn try_update(&mut self, k: u32, request: Request) -> Result<Told, TryError<Busy>>
         requires key { k < 2 ^ self.old.half.round.bits }
@@ -228,50 +233,49 @@ impl<A: Monoid, B: Monoid> Handle<A, B> {
         self.try_make(&mut batch)
     }
 
-    /// Takes a snapshot to query. The look owns the handle, and `Look::done` gives it back; after a refusal it comes back at once. As
-    /// long as the look exists it holds its lane: updates and looks of others continue, and a roll-over waits for it.
-    pub fn look<R: Wait>(self, rt: &R) -> Result<Look<A, B>, (Handle<A, B>, LiveError)>
-        ensures looks { IfOk result (λ look. Makes 0 (λ a b. TakesSnapshot a.knows b.knows (snapshot_cut b look.snapshot.number)) self (handle_of look)) }
-        ensures first { IfOk result (λ look. look.before ≡ look.snapshot) }
-        ensures not_made { IfErr result (λ e. Follows self e.0) }
-        ensures refused { IfErr result (λ e. RefusesCall e.0 e.1) }
+    /// Takes a snapshot to query: a look, which is independent of the handle. It shows the same for as long as it is there, while this handle and all others
+    /// make updates and rounds roll over, and it may go to another thread. A handle has one look at a time: as long as one of its lane is open, the next one is
+    /// refused with `Looking`.
+    pub fn look<R: Wait>(&mut self, rt: &R) -> Result<Look<A, B>, LiveError>
+        ensures looks { IfOk result (λ look. OpensLook self.old self.new look) }
+        ensures not_made { IfErr result (λ _. Follows self.old self.new) }
+        ensures refused { IfErr result (RefusesLook self.new) }
     {
-        let mut handle = self;
-        for _ in rt.forever() {
-            let obstacle = match handle.attempt_look() {
-                Ok(look) => return Ok(look),
-                Err((same, obstacle)) => {
-                    handle = same;
-                    obstacle
-                }
-            };
-            if let Err(cause) = handle.wait_to_refill(rt, obstacle) {
-                return Err((handle, cause));
+        let (out, slot) = match self.take_slot(&Waits(rt)) {
+            Ok(taken) => taken,
+            Err(TryError::Refused(cause)) => return Err(cause),
+            Err(TryError::Again(never)) => match never {},
+        };
+        let Slot { reader, round, era } = slot;
+        let mut show = Show::after(reader, era);
+        match self.show(rt, &mut show) {
+            Ok(held) => Ok(Look::of(out, round, show, held, self.lane)),
+            Err(cause) => {
+                leave(out, round, show);
+                Err(cause)
             }
         }
-        unreachable!()
     }
 
     /// The same, and waits for nobody, as `try_update`.
     #[inline(always)]
-    pub fn try_look(self) -> Result<Look<A, B>, (Handle<A, B>, TryError<Busy>)>
-        ensures looks { IfOk result (λ look. Makes 0 (λ a b. TakesSnapshot a.knows b.knows (snapshot_cut b look.snapshot.number)) self (handle_of look)) }
-        ensures first { IfOk result (λ look. look.before ≡ look.snapshot) }
-        ensures not_made { IfErr result (λ e. Follows self e.0) }
-        ensures refused { IfErr result (λ e. IfRefused (RefusesCall e.0) e.1) }
+    pub fn try_look(&mut self) -> Result<Look<A, B>, TryError<Busy>>
+        ensures looks { IfOk result (λ look. OpensLook self.old self.new look) }
+        ensures not_made { IfErr result (λ _. Follows self.old self.new) }
+        ensures refused { IfErr result (IfRefused (RefusesLook self.new)) }
     {
-        let (mut handle, obstacle) = match self.attempt_look() {
-            Ok(look) => return Ok(look),
-            Err(obstacle) => obstacle,
+        let (out, slot) = match self.take_slot(&Tries) {
+            Ok(taken) => taken,
+            Err(TryError::Refused(cause)) => return Err(TryError::Refused(cause)),
+            Err(TryError::Again(lock)) => return Err(TryError::Again(Busy::Lock(lock))),
         };
-        if let Err(cause) = handle.try_to_refill(obstacle) {
-            return Err((handle, cause));
-        }
-        match handle.attempt_look() {
-            Ok(look) => Ok(look),
-            Err((handle, obstacle)) => {
-                let cause = handle.still(obstacle);
-                Err((handle, cause))
+        let Slot { reader, round, era } = slot;
+        let mut show = Show::after(reader, era);
+        match self.try_show(&mut show) {
+            Ok(held) => Ok(Look::of(out, round, show, held, self.lane)),
+            Err(cause) => {
+                leave(out, round, show);
+                Err(cause)
             }
         }
     }
@@ -369,6 +373,7 @@ impl<A: Monoid, B: Monoid> Handle<A, B> {
         requires needs { O.Needs op.old self.old.half.round.table self.old.half.round.bits }
         ensures made { IfOk result (λ answer. Runs (O.Does op.old op.new answer) self.old self.new) }
         ensures not_made { IfErr result (λ _. Follows self.old self.new) }
+        ensures kept { IfErr result (λ _. op.new ≡ op.old) }
         ensures refused { IfErr result (IfRefused (RefusesCall self.new)) }
     {
         match self.attempt(op) {
@@ -391,6 +396,7 @@ impl<A: Monoid, B: Monoid> Handle<A, B> {
         requires seen { Seen obstacle self.old.who.replaced }
         ensures made { IfOk result (λ answer. Runs (O.Does op.old op.new answer) self.old self.new) }
         ensures not_made { IfErr result (λ _. Follows self.old self.new) }
+        ensures kept { IfErr result (λ _. op.new ≡ op.old) }
         ensures refused { IfErr result (IfRefused (RefusesCall self.new)) }
     {
         if let Err(cause) = self.try_to_refill(obstacle) {
@@ -417,63 +423,99 @@ impl<A: Monoid, B: Monoid> Handle<A, B> {
         let Some(end) = self.end.take() else {
             unreachable!()
         };
-        let (out, lane) = match end.take_to_work(self.number) {
-            Ok(taken) => taken,
-            Err((same, obstacle)) => {
-                self.end = Some(same);
-                return Err(obstacle);
-            }
-        };
-        let (lane, done) = lane.run(&self.round, op);
-        self.end = Some(out.put(lane));
+        let (end, done) = end.run(self.number, &self.round, op);
+        self.end = Some(end);
         done
     }
 
-    // Takes a snapshot, unless the lane is held, the next round has to begin first, or a newer handle has the lane.
+    // Takes what lies in the slot of the lane's reader. While somebody holds the desk, nobody has it but a look. Refused with `Looking` and `TooMany`.
     #[inline(always)]
-    fn attempt_look(self) -> Result<Look<A, B>, (Handle<A, B>, Obstacle)>
-        ensures looks { IfOk result (λ look. Makes 0 (λ a b. TakesSnapshot a.knows b.knows (snapshot_cut b look.snapshot.number)) self (handle_of look)) }
-        ensures first { IfOk result (λ look. look.before ≡ look.snapshot) }
-        ensures at_rest { IfErr result (λ e. Follows self e.0) }
-        ensures seen { IfErr result (λ e. Seen e.1 e.0.who.replaced) }
+    fn take_slot<W: Patience>(
+        &mut self,
+        how: &W,
+    ) -> Result<(SlotOut<A, B>, Slot<A, B>), TryError<W::GaveUp>>
+        ensures same { self.new ≡ self.old }
+        ensures taken { IfOk result (λ t. (t.0 ≡ Some t.1) × (t.1 ≡ table_of self.old.half.round)) }
+        ensures refused { IfErr result (IfRefused RefusesSlot) }
     {
-        let mut handle = self;
-        let Some(end) = handle.end.take() else {
+        let Ok(mine) = self.slot.another() else {
+            return Err(TryError::Refused(LiveError::TooMany));
+        };
+        match mine.take() {
+            Ok(taken) => Ok(taken),
+            Err((mine, _)) => self.desk.take_slot(how, mine),
+        }
+    }
+
+    // Takes a snapshot for a look, and waits until nothing is in its way any more.
+    #[inline(always)]
+    pub(crate) fn show<R: Wait>(
+        &mut self,
+        rt: &R,
+        show: &mut Show<A, B>,
+    ) -> Result<Snapshot, LiveError>
+        requires needs { HasReaders show.old.reader show.old.left self.old.half.round.table }
+        ensures shows { IfOk result (λ held. HandleShows show.old.reader show.new.reader show.new.era held self.old self.new) }
+        ensures not_made { IfErr result (λ _. Follows self.old self.new × (show.new.reader ≡ show.old.reader)) }
+        ensures refused { IfErr result (RefusesCall self.new) }
+    {
+        for _ in rt.forever() {
+            let made = self.make(rt, show)?;
+            match made {
+                Some(held) => return Ok(held),
+                None => {}
+            }
+            let shown = match self.show_at_desk(&Waits(rt), show) {
+                Ok(shown) => shown,
+                Err(never) => match never {},
+            };
+            match shown {
+                Some(held) => return Ok(held),
+                None => {}
+            }
+        }
+        unreachable!()
+    }
+
+    // The same, and waits for nobody.
+    pub(crate) fn try_show(&mut self, show: &mut Show<A, B>) -> Result<Snapshot, TryError<Busy>>
+        requires needs { HasReaders show.old.reader show.old.left self.old.half.round.table }
+        ensures shows { IfOk result (λ held. HandleShows show.old.reader show.new.reader show.new.era held self.old self.new) }
+        ensures not_made { IfErr result (λ _. Follows self.old self.new × (show.new.reader ≡ show.old.reader)) }
+        ensures refused { IfErr result (IfRefused (RefusesCall self.new)) }
+    {
+        let made = self.try_make(show)?;
+        match made {
+            Some(held) => return Ok(held),
+            None => {}
+        }
+        match self.show_at_desk(&Tries, show) {
+            Ok(shown) => match shown {
+                Some(held) => Ok(held),
+                None => Err(TryError::Again(Busy::Round)),
+            },
+            Err(lock) => Err(TryError::Again(Busy::Lock(lock))),
+        }
+    }
+
+    // Takes a snapshot for a look where the desk is at hand, to which the last reader goes. None if something is in its way.
+    #[inline(never)]
+    fn show_at_desk<W: Patience>(
+        &mut self,
+        how: &W,
+        show: &mut Show<A, B>,
+    ) -> Result<Option<Snapshot>, W::GaveUp>
+        requires needs { HasReaders show.old.reader show.old.left self.old.half.round.table }
+        ensures shows { IfOk result (λ shown. IfSome shown (λ held. HandleShows show.old.reader show.new.reader show.new.era held self.old self.new)) }
+        ensures not_made { IfOk result (λ shown. IfNone shown (Follows self.old self.new × (show.new.reader ≡ show.old.reader) × HasReaders show.new.reader show.new.left self.old.half.round.table)) }
+        ensures missed { IfErr result (λ _. (self.new ≡ self.old) × (show.new ≡ show.old)) }
+    {
+        let Some(end) = self.end.take() else {
             unreachable!()
         };
-        let (out, lane) = match end.take_to_work(handle.number) {
-            Ok(taken) => taken,
-            Err((same, obstacle)) => {
-                handle.end = Some(same);
-                return Err((handle, obstacle));
-            }
-        };
-        if lane.parts.work.is_none() {
-            let obstacle = Obstacle::Round(lane.parts.era);
-            handle.end = Some(out.put(lane));
-            return Err((handle, obstacle));
-        }
-        let Handle {
-            bits,
-            lane: index,
-            pace,
-            round,
-            desk,
-            ..
-        } = handle;
-        let Lane { mut parts } = lane;
-        let held = parts.look(&round);
-        Ok(Look {
-            out,
-            parts,
-            held,
-            before: held,
-            round,
-            bits,
-            lane: index,
-            pace,
-            desk,
-        })
+        let (end, done) = self.desk.show(how, end, self.number, &self.round, show);
+        self.end = Some(end);
+        done
     }
 
     // Counts updates that were made, after some of which it has the next round laid out further.

@@ -88,6 +88,7 @@ impl<A: Monoid, B: Monoid> Emptied<A, B> {
         requires led { Leads crew.old.round.bits crew.old.past crew.old.round.members }
         requires some { 0 < era }
         requires small { era + 1 < 2 ^ 64 }
+        requires era { crew.old.round.era ≡ era }
         requires together { table_of crew.old.round ≡ round.now }
         requires lane_left { crew.old.handed < crew.old.round.workers }
         ensures of_round { IsOf (rounds_in crew.old) (era + 1) result }

@@ -1,16 +1,13 @@
 //! What lies in a lane.
 ghost use Rattle.std.specs.Prelude.{◌≡◌, ◌+◌, ◌^◌, ◌<◌, IfOk, IfErr, IsSome, Some, None, true, false};
 ghost use Rattle.std.specs.Option.{is_some};
-ghost use Rattle.aug_trie.specs.Node.{Keeps};
 ghost use Rattle.aug_trie.specs.Round.{table_of};
-ghost use Rattle.aug_model.specs.Folds.{summary_of};
-ghost use Rattle.aug_live.specs.inside.LaneKnowledge.{LacksUpdates, RunsHere, Seen, Worked, half_in, stands};
-ghost use Rattle.aug_live.specs.inside.Looks.{LooksIn};
+ghost use Rattle.aug_live.specs.inside.LaneKnowledge.{IsDated, LacksUpdates, RunsHere, Seen, Worked, half_in, stands};
 
 use crate::ghost_value::GhostValue;
 use crate::operation::Operation;
 use aug_monoid::Monoid;
-use aug_trie::{PassHalf, Round, Snapshot};
+use aug_trie::{PassHalf, Round};
 use ruled_lock::WasOut;
 use std::alloc::{AllocError, Global};
 use std::marker::Model;
@@ -51,13 +48,13 @@ pub(crate) enum Obstacle {
 impl<A: Monoid, B: Monoid> Model for Lane<A, B> {
     ghost use Rattle.std.specs.Prelude.{◌≡◌, IfSome};
     ghost use Rattle.std.specs.Option.{is_some};
-    ghost use Rattle.aug_live.specs.inside.LaneKnowledge.{LaneFacts, half_in, stands};
+    ghost use Rattle.aug_live.specs.inside.LaneKnowledge.{IsDated, LaneFacts, half_in, stands};
 
     ghost Value = { LaneFacts };
 
     ghost view = { λ l. record { works = is_some l.parts.value.work; number = l.parts.value.number; is_out = l.parts.value.is_out; at = stands l.parts.value.era (half_in l.parts.value.last.value) } };
 
-    ghost invariant = { λ l. IfSome l.parts.value.work (λ w. w ≡ half_in l.parts.value.last.value) };
+    ghost invariant = { λ l. IfSome l.parts.value.work (λ w. w ≡ half_in l.parts.value.last.value) × IsDated l.parts.value.era (half_in l.parts.value.last.value) };
 }
 
 impl<A: Monoid, B: Monoid> Parts<A, B> {
@@ -70,20 +67,6 @@ impl<A: Monoid, B: Monoid> Parts<A, B> {
         match self.work.replace(work) {
             Some(_) => unreachable!(),
             None => {}
-        }
-    }
-
-    /// The pass that is there takes a new snapshot, without being moved.
-    #[inline(always)]
-    pub(crate) fn look(&mut self, round: &Round<A, B>) -> Snapshot
-        requires some { IsSome self.old.work }
-        requires together { table_of (half_in self.old.work).round ≡ round.now }
-        ensures looks { LooksIn self.old self.new result }
-        ensures keeps { Keeps (summary_of A.parts B.parts) (half_in self.old.work) (half_in self.new.work) }
-    {
-        match &mut self.work {
-            Some(work) => work.snapshot(round),
-            None => unreachable!(),
         }
     }
 }
@@ -109,9 +92,10 @@ impl<A: Monoid, B: Monoid> Lane<A, B> {
         }
     }
 
-    /// The lane of these parts, with the pass in them.
+    // The lane of these parts, with the pass in them.
     #[inline(always)]
-    pub(crate) fn of(parts: Box<Parts<A, B>, Global>) -> Lane<A, B>
+    fn of(parts: Box<Parts<A, B>, Global>) -> Lane<A, B>
+        requires { IsDated parts.value.era (half_in parts.value.work) }
         ensures { result ≡ record { works = is_some parts.value.work; number = parts.value.number; is_out = parts.value.is_out; at = stands parts.value.era (half_in parts.value.work) } }
     {
         let mut parts = parts;
@@ -145,7 +129,8 @@ impl<A: Monoid, B: Monoid> Lane<A, B> {
     /// The same lane with this pass, where none is.
     #[inline(always)]
     pub(crate) fn with(self, work: PassHalf<A, B>) -> Lane<A, B>
-        requires { self.works ≡ false }
+        requires none { self.works ≡ false }
+        requires round { work.round.era ≡ self.at.half.round.era }
         ensures { result ≡ record self { works = true; at = record self.at { half = work } } }
     {
         let Lane { mut parts } = self;
@@ -157,6 +142,7 @@ impl<A: Monoid, B: Monoid> Lane<A, B> {
     pub(crate) fn next(self, work: PassHalf<A, B>) -> Lane<A, B>
         requires none { self.works ≡ false }
         requires small { self.at.era + 1 < 2 ^ 64 }
+        requires round { work.round.era ≡ self.at.era }
         ensures { result ≡ record self { works = true; at = record self.at { era = self.at.era + 1; half = work } } }
     {
         let Lane { mut parts } = self;
@@ -167,6 +153,7 @@ impl<A: Monoid, B: Monoid> Lane<A, B> {
 
     /// The lane with this pass, for a handle of this number in a round of this era.
     pub(crate) fn working(self, era: u64, number: u64, work: PassHalf<A, B>) -> Lane<A, B>
+        requires { IsDated era work }
         ensures { result ≡ record { works = true; number = number; is_out = true; at = stands era work } }
     {
         let Lane { mut parts } = self;
@@ -185,6 +172,7 @@ impl<A: Monoid, B: Monoid> Lane<A, B> {
         op: &mut O,
     ) -> (Lane<A, B>, Result<O::Answer, Obstacle>)
         requires together { table_of self.at.half.round ≡ round.now }
+        requires some { 0 < self.at.era }
         requires needs { O.Needs op.old self.at.half.round.table self.at.half.round.bits }
         ensures made { IfOk result.1 (λ answer. RunsHere (O.Does op.old op.new answer) self.at result.0.at) }
         ensures same { IfErr result.1 (λ _. result.0.at ≡ self.at) }
@@ -197,13 +185,13 @@ impl<A: Monoid, B: Monoid> Lane<A, B> {
             let obstacle = Obstacle::Round(self.parts.era);
             return (self, Err(obstacle));
         }
+        let era = self.parts.era;
         let (work, rest) = self.into_work();
         if work.budget() < op.least() {
-            let era = rest.parts.era;
             return (rest.with(work), Err(Obstacle::Round(era)));
         }
         let mut pass = round.pass(work);
-        let answer = op.run(&mut pass);
+        let answer = op.run(era, &mut pass);
         (rest.with(pass.into_half()), Ok(answer))
     }
 }

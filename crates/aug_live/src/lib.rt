@@ -17,6 +17,7 @@ mod look;
 mod operation;
 mod plan;
 mod rolling;
+mod slot;
 mod tie;
 mod work;
 

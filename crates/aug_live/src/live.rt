@@ -3,6 +3,7 @@ ghost use Rattle.std.specs.Prelude.{◌≡◌, ◌≢◌, ◌↔◌, ◌⊎◌, 
 ghost use Rattle.std.specs.Arc.{arc_value};
 ghost use Rattle.ruled_lock.specs.Locks.{HoldsNothing, IsSameKey, client_of};
 ghost use Rattle.aug_core.specs.Layout.{IsRefused, IsLayout, IsWithin, IsOutside};
+ghost use Rattle.aug_core.specs.Places.{shape_of};
 ghost use Rattle.aug_trie.specs.Chains.{IsPart};
 ghost use Rattle.aug_trie.specs.Pass.{chain_of};
 ghost use Rattle.aug_trie.specs.Round.{table_of};
@@ -29,6 +30,7 @@ use crate::handle::Handle;
 use crate::held::{Emptied, Held};
 use crate::plan::Plan;
 use crate::rolling::{Begun, Share, next_round};
+use crate::slot::SlotEnd;
 use crate::work::SharedRound;
 use aug_core::LayoutError;
 use aug_monoid::Monoid;
@@ -72,6 +74,7 @@ struct Room<A: Monoid, B: Monoid> {
     held: Vec<Held<A, B>>,
     idle: Vec<Emptied<A, B>>,
     shares: Vec<Share<A, B>>,
+    slots: Vec<SlotEnd<A, B>>,
     ends: Vec<End<A, B>>,
     handles: Vec<Handle<A, B>>,
     list: Vec<(u32, u32)>,
@@ -82,7 +85,8 @@ impl<A: Monoid, B: Monoid> Live<A, B> {
     /// Opens a trie over a set, for `handles` handles, with a plan of its rounds that has a lane for each.
     ///
     /// Refused with `BadLanes`, `BadUpdates` and `TooLarge` as `Layout::new` refuses the plan for the full set of its
-    /// bits, so that no later round is refused for it, and then with `OutOfMemory`. After a refusal the same set comes back.
+    /// bits, so that no later round is refused for it, then with `BadTables` for fewer than two tables, and then with `OutOfMemory`.
+    /// After a refusal the same set comes back.
     pub fn open_with(
         alloc: Global,
         set: Members,
@@ -98,6 +102,7 @@ impl<A: Monoid, B: Monoid> Live<A, B> {
         ensures bad_lanes { IsErrOf result (set, OpenError.BadLanes) ↔ IsRefused LayoutError.BadWorkers set.bits plan.lanes plan.updates (2 ^ set.bits) }
         ensures bad_updates { IsErrOf result (set, OpenError.BadUpdates) ↔ IsRefused LayoutError.BadUpdates set.bits plan.lanes plan.updates (2 ^ set.bits) }
         ensures too_large { IsErrOf result (set, OpenError.TooLarge) ↔ IsRefused LayoutError.TooLarge set.bits plan.lanes plan.updates (2 ^ set.bits) }
+        ensures bad_tables { IsErrOf result (set, OpenError.BadTables) ↔ (IsLayout (shape_of set.bits plan.lanes plan.updates (2 ^ set.bits)) × (plan.tables < 2)) }
         ensures others { IfErr result (λ e. e.1 ≢ OpenError.BadHandles) }
     {
         let bits = set.bits();
@@ -115,12 +120,13 @@ impl<A: Monoid, B: Monoid> Live<A, B> {
             held,
             idle,
             shares,
+            slots,
             ends,
             handles,
             list,
             desk,
         } = room;
-        let begun = match next_round(alloc, set, plan, list, shares, &desk.lock, lanes) {
+        let begun = match next_round(alloc, set, plan, list, shares, slots, &desk.lock, lanes) {
             Ok(begun) => begun,
             Err(set) => return Err((set, OpenError::OutOfMemory)),
         };
@@ -129,6 +135,7 @@ impl<A: Monoid, B: Monoid> Live<A, B> {
             mut crew,
             list,
             shares,
+            slots,
         } = begun;
         let (ports, ends) = open_lanes(&round, &mut crew, berths, ports, ends);
         let of = Snapshot::of(&round);
@@ -146,6 +153,7 @@ impl<A: Monoid, B: Monoid> Live<A, B> {
             round,
             crew,
             ports,
+            slots,
             held,
             idle,
             list,
@@ -155,11 +163,12 @@ impl<A: Monoid, B: Monoid> Live<A, B> {
         Ok((Live { lock, key }, handles))
     }
 
-    /// Opens a trie over a set, for `handles` handles, whose rounds have a table of at most `memory` bytes: `Plan::new` computes their
-    /// lanes and updates. While the trie is opened, a list of the table's words takes as much again; all later rounds are in this table.
+    /// Opens a trie over a set, for `handles` handles, whose rounds have a table of at most `memory` bytes, with three parts, a third of the
+    /// bytes for each: `Plan::new` computes their lanes and updates. While the trie is opened, a list of the table's words takes as much
+    /// again; all later rounds are in this table.
     ///
     /// Refused with `BadHandles` for no handle and for more than 64, with `TooLarge` if a table with 64 updates of each handle takes more
-    /// bytes or if no table takes that many, 2^30 and no more, and with `OutOfMemory`. After a refusal the same set comes back.
+    /// bytes or if no table takes that many, 3 * 2^29 and no more, and with `OutOfMemory`. After a refusal the same set comes back.
     pub fn open(
         alloc: Global,
         set: Members,
@@ -173,7 +182,7 @@ impl<A: Monoid, B: Monoid> Live<A, B> {
         ensures same { IfErr result (λ e. e.0 ≡ set) }
         ensures bad_handles { IsErrOf result (set, OpenError.BadHandles) ↔ IsOutside 1 64 handles }
         ensures too_large { IsErrOf result (set, OpenError.TooLarge) ↔ (IsWithin 1 64 handles × (Suits set.bits handles memory → ⊥)) }
-        ensures others { IfErr result (λ e. (e.1 ≢ OpenError.BadLanes) × (e.1 ≢ OpenError.BadUpdates)) }
+        ensures others { IfErr result (λ e. (e.1 ≢ OpenError.BadLanes) × (e.1 ≢ OpenError.BadUpdates) × (e.1 ≢ OpenError.BadTables)) }
     {
         if !(1..=64).contains(&handles) {
             return Err((set, OpenError::BadHandles));
@@ -184,7 +193,8 @@ impl<A: Monoid, B: Monoid> Live<A, B> {
         Self::open_with(alloc, set, handles, plan)
     }
 
-    /// Rolls the round over now, as in a quiet hour. It waits for the update or look that each handle is in. Refused with `Exhausted`.
+    /// Rolls the round over now, as in a quiet hour. It waits for the call that each handle is in, and, if looks of an earlier round are open in each other
+    /// part of the table, until one of these parts has none. Refused with `Exhausted`.
     pub fn roll<R: Wait>(&mut self, rt: &R) -> Result<(), LiveError>
         ensures goes_on { KeepsHandles self.old self.new }
         ensures rolls { IfOk result (λ _. length self.old.rounds.past < length self.new.rounds.past) }
@@ -204,7 +214,7 @@ impl<A: Monoid, B: Monoid> Live<A, B> {
         unreachable!()
     }
 
-    /// The same, and waits for nobody: `Again` if somebody has the desk, or another handle is in a call or holds a look. The lanes that it took then
+    /// The same, and waits for nobody: `Again` if somebody has the desk, or another handle is in a call. The lanes that it took then
     /// stay taken until the round has rolled over, which whoever comes to one of them tries. With `Busy::Look` none stays taken.
     pub fn try_roll(&mut self) -> Result<(), TryError<Busy>>
         ensures goes_on { KeepsHandles self.old self.new }
@@ -249,7 +259,7 @@ impl<A: Monoid, B: Monoid> Live<A, B> {
 
     /// Gives a lane to a new handle, if the lane's own handle came back, was dropped, or is in a thread that ended. Lanes are numbered from 0, in
     /// the order of the handles that `open` gave. The new handle continues from the state in which the old one left the lane, and knows what the
-    /// trie does. If the old one is still there, it answers `Replaced` from then on, and the call waits for the update or look that it is in. No
+    /// trie does. If the old one is still there, it answers `Replaced` from then on, and the call waits for the update that it is in, but not for its look. No
     /// round ends for it, unless a roll-over was begun, and no memory is taken.
     ///
     /// Refused with `NoLane`, `Exhausted` and `TooMany`. After a refusal nothing has changed.
@@ -269,7 +279,7 @@ impl<A: Monoid, B: Monoid> Live<A, B> {
         }
     }
 
-    /// The same, and waits for nobody: `Again` if somebody has the desk, or the lane's old handle is in a call or holds a look,
+    /// The same, and waits for nobody: `Again` if somebody has the desk, or the lane's old handle is in a call,
     /// or any handle is if a roll-over was begun.
     pub fn try_handle(&mut self, lane: u32) -> Result<Handle<A, B>, TryError<WasOut>>
         ensures more { KnowsMore self.old self.new }
@@ -354,7 +364,7 @@ impl<A: Monoid, B: Monoid> Live<A, B> {
         }
     }
 
-    /// Gives the set back, and the counts of the rounds. It waits for the update or look that each handle is in. From then on
+    /// Gives the set back, and the counts of the rounds. It waits for the call that each handle is in; looks go on. From then on
     /// handles answer `Closed`.
     pub fn close<R: Wait>(self, rt: &R) -> (Members, LiveCounts)
         ensures closes { Closes self result.0 result.1 }
@@ -410,6 +420,7 @@ impl<A: Monoid, B: Monoid> Room<A, B> {
         ensures held { IfOk result (λ r. (r.held.items ≡ []) × (handles ≤ vec_capacity r.held)) }
         ensures idle { IfOk result (λ r. (r.idle.items ≡ []) × (handles ≤ vec_capacity r.idle)) }
         ensures shares { IfOk result (λ r. (r.shares.items ≡ []) × (handles ≤ vec_capacity r.shares)) }
+        ensures slots { IfOk result (λ r. (r.slots.items ≡ []) × (handles ≤ vec_capacity r.slots)) }
         ensures ends { IfOk result (λ r. (r.ends.items ≡ []) × (handles ≤ vec_capacity r.ends)) }
         ensures handles { IfOk result (λ r. (r.handles.items ≡ []) × (handles ≤ vec_capacity r.handles)) }
         ensures list { IfOk result (λ r. (r.list.items ≡ []) × (universe ≤ vec_capacity r.list)) }
@@ -421,6 +432,7 @@ impl<A: Monoid, B: Monoid> Room<A, B> {
             held: Vec::with_capacity(alloc, count)?,
             idle: Vec::with_capacity(alloc, count)?,
             shares: Vec::with_capacity(alloc, count)?,
+            slots: Vec::with_capacity(alloc, count)?,
             ends: Vec::with_capacity(alloc, count)?,
             handles: Vec::with_capacity(alloc, count)?,
             list: Vec::with_capacity(alloc, universe as usize)?,
@@ -468,6 +480,7 @@ fn open_lanes<A: Monoid, B: Monoid>(
     requires berths { All IsNewBerth berths.items }
     requires together { table_of crew.old.round ≡ round.now }
     requires none_out { crew.old.handed ≡ 0 }
+    requires first_era { crew.old.round.era ≡ 0 }
     requires lanes { vec_len berths ≤ crew.old.round.workers }
     requires ports { (ports.items ≡ []) × (vec_len berths ≤ vec_capacity ports) }
     requires ends { (ends.items ≡ []) × (vec_len berths ≤ vec_capacity ends) }
@@ -502,6 +515,7 @@ fn hand_out<A: Monoid, B: Monoid>(
     requires free { HoldsNothing mine.old }
     requires owner { IsOwner mine.old.id (client_of mine.old) }
     requires bits { bits ≡ (arc_value round.value).bits }
+    requires table { (client_of mine.old).table ≡ (arc_value round.value).table }
     requires shares { All (λ s. s ≡ (arc_value round.value, mine.old.table_id)) shares.items × (vec_len shares ≡ vec_len ends) }
     requires ends { All (IsHandleEnd 1 (arc_value round.value)) ends.items }
     requires locks { map (λ e. e.lock) ends.items ≡ ids_of (client_of mine.old) }
@@ -515,7 +529,11 @@ fn hand_out<A: Monoid, B: Monoid>(
         let Some(share) = shares.pop() else {
             unreachable!()
         };
-        let Share { round, desk: lock } = share;
+        let Share {
+            round,
+            slot,
+            desk: lock,
+        } = share;
         let key = lock.another::<Same>(mine);
         let lane = handles.len();
         handles.push_reserved(Handle {
@@ -525,6 +543,7 @@ fn hand_out<A: Monoid, B: Monoid>(
             number: 1,
             pace: Pace::after(PIECE),
             round,
+            slot,
             desk: DeskEnd { lock, key },
         });
     }

@@ -1,86 +1,106 @@
-//! A look of a handle: a snapshot to query.
-ghost use Rattle.std.specs.Prelude.{◌≡◌, take};
+//! A look: a snapshot to query.
+ghost use Rattle.std.specs.Prelude.{◌≡◌, IfErr, IfOk, IfSome, Some, take};
+ghost use Rattle.std.specs.Arc.{arc_value};
 ghost use Rattle.aug_model.specs.Differences.{changes_from};
 ghost use Rattle.aug_model.specs.Folds.{summary_of};
 ghost use Rattle.aug_query.specs.BothMembers.{since_loads};
 ghost use Rattle.aug_trie.specs.Comparing.{compare_steps};
 ghost use Rattle.aug_trie.specs.Node.{steps_for};
-ghost use Rattle.aug_live.specs.LiveHandles.{handle_of, set_before, set_of_look, IsAsked, LooksAgain};
+ghost use Rattle.aug_trie.specs.Round.{TableFacts, table_of};
+ghost use Rattle.aug_live.specs.LiveErrors.{IfRefused, RefusesCall};
+ghost use Rattle.aug_live.specs.LiveHandles.{Follows, IsAsked, IsLookOf, LooksAgain, set_before, set_of_look};
+ghost use Rattle.aug_live.specs.inside.LaneKnowledge.{half_in};
+ghost use Rattle.aug_live.specs.inside.Looks.{IsShownIn};
 
-use crate::ahead::Pace;
-use crate::desk_end::DeskEnd;
-use crate::end::Out;
+use crate::error::{Busy, LiveError, TryError};
 use crate::handle::Handle;
-use crate::lane::{Lane, Parts};
+use crate::operation::Show;
+use crate::slot::{Slot, SlotOut};
 use crate::work::SharedRound;
 use aug_monoid::Monoid;
 use aug_query::descent::{Changes, ChangesSince};
 use aug_query::{MemberList, Query};
-use aug_trie::Snapshot;
-use std::alloc::Global;
+use aug_trie::{Reader, Snapshot};
 use std::marker::Model;
+use std::sync::Wait;
 
-/// A look of a handle: a snapshot, which is asked as a pass's is. Nothing that anybody does changes what it shows. As long as
-/// it is there a roll-over waits for it, and with that each handle whose updates are spent, or whose lane the roll-over took. So a look cannot be dropped: the
-/// check refuses a program that does not end it by `done`, which gives the handle back.
+/// A look: a snapshot, which is asked as a pass's is. Nothing that anybody does changes what it shows, and no call waits for it, with one exception: while
+/// looks of earlier rounds are open in each part of the table but the one at work, no round rolls over, so updates wait once those of this round are
+/// spent. A look ends when it is dropped.
 pub struct Look<A: Monoid, B: Monoid> {
-    pub(crate) out: Out<A, B>,
-    // What lies in the lane. A query takes the pass out and puts it back.
-    pub(crate) parts: Box<Parts<A, B>, Global>,
-    pub(crate) held: Snapshot,
+    out: SlotOut<A, B>,
+    round: SharedRound<A, B>,
+    // There is always one, which `again` takes out.
+    reader: Option<Reader<A, B>>,
+    held: Snapshot,
     // The one that it showed before that, or the same.
-    pub(crate) before: Snapshot,
-    pub(crate) round: SharedRound<A, B>,
-    pub(crate) bits: u32,
-    pub(crate) lane: usize,
-    pub(crate) pace: Pace,
-    pub(crate) desk: DeskEnd<A, B>,
+    before: Snapshot,
+    // The number of the reader's round, counted from 1, and of the lane of its handle, from 0.
+    era: u64,
+    lane: usize,
 }
 
 impl<A: Monoid, B: Monoid> Model for Look<A, B> {
-    ghost use Rattle.aug_live.specs.LiveHandles.{LookFacts};
-    ghost use Rattle.aug_live.specs.inside.LaneKnowledge.{half_in, who_by};
     ghost use Rattle.std.specs.Arc.{arc_value};
-    ghost use Rattle.aug_live.specs.inside.Looks.{HoldsLook, without_pass};
-    ghost use Rattle.aug_live.specs.LiveTries.{ids_of};
+    ghost use Rattle.aug_live.specs.LiveHandles.{LookFacts};
+    ghost use Rattle.aug_live.specs.inside.LaneKnowledge.{half_in};
+    ghost use Rattle.aug_live.specs.inside.Looks.{HoldsLook};
 
     ghost Value = { LookFacts };
 
-    ghost view = { λ l. record { who = who_by l.desk l.lane l.out.known; era = l.parts.value.era; half = half_in l.parts.value.work; made = l.out.known.made; snapshot = l.held; before = l.before } };
+    ghost view = { λ l. record { lane = l.lane; reader = half_in l.reader; snapshot = l.held; before = l.before } };
 
-    ghost invariant = { λ l. HoldsLook l.out (without_pass l.parts.value) l.parts.value.work l.held l.before (arc_value l.round) l.bits l.lane (ids_of l.desk) };
+    ghost invariant = { λ l. HoldsLook l.out (arc_value l.round) l.reader l.held l.before l.era };
 }
 
 impl<A: Monoid, B: Monoid> Look<A, B> {
+    #[inline(always)]
+    pub(crate) fn of(
+        out: SlotOut<A, B>,
+        round: SharedRound<A, B>,
+        show: Show<A, B>,
+        held: Snapshot,
+        lane: usize,
+    ) -> Look<A, B>
+        requires out { out ≡ Some (arc_value round) }
+        requires shown { IsShownIn (arc_value round) show.reader show.era held }
+        ensures { result ≡ record { lane = lane; reader = half_in show.reader; snapshot = held; before = held } }
+    {
+        let Show { reader, era, .. } = show;
+        Look {
+            out,
+            round,
+            reader,
+            held,
+            before: held,
+            era,
+            lane,
+        }
+    }
+
     /// Asks the snapshot, in so many steps as a pass takes for that.
     #[inline(always)]
     pub fn ask<Q: Query<A, B>>(&mut self, query: Q) -> Q::Answer
         ensures answer { Q.Answers query (set_of_look self.old) result }
         ensures asked { IsAsked (summary_of A.parts B.parts) (steps_for (Q.most query (set_of_look self.old))) self.old self.new }
     {
-        let Some(work) = self.parts.work.take() else {
+        let Some(reader) = &mut self.reader else {
             unreachable!()
         };
-        let mut pass = self.round.pass(work);
-        let answer = pass.ask(self.held, query);
-        self.parts.put(pass.into_half());
-        answer
+        reader.ask(&self.round, self.held, query)
     }
 
     /// What changed between the snapshot that the look showed before the last `again` and the one that it shows, among the keys from `from` on: a page of
     /// at most 32 changes, as `Pass::changes` of `aug_trie` gives, in as many steps. The next page begins at the last of these keys plus one. Before
-    /// the first `again` nothing has changed.
+    /// the first `again`, and after one that met another round, nothing has changed.
     pub fn changes(&mut self, from: u32) -> Changes
         ensures answer { result.items ≡ take 32 (changes_from (set_before self.old) (set_of_look self.old) from) }
-        ensures asked { IsAsked (summary_of A.parts B.parts) (compare_steps self.old.half self.old.before self.old.snapshot from) self.old self.new }
+        ensures asked { IsAsked (summary_of A.parts B.parts) (compare_steps self.old.reader self.old.before self.old.snapshot from) self.old self.new }
     {
-        let Some(work) = self.parts.work.take() else {
+        let Some(reader) = &mut self.reader else {
             unreachable!()
         };
-        let mut pass = self.round.pass(work);
-        let page = pass.changes(self.before, self.held, from);
-        self.parts.put(pass.into_half());
-        page
+        reader.changes(&self.round, self.before, self.held, from)
     }
 
     /// What changed between a set that the caller listed and the snapshot that the look shows, among the keys from `from` on: a page of at most 32
@@ -94,41 +114,85 @@ impl<A: Monoid, B: Monoid> Look<A, B> {
         self.ask(ChangesSince { before, from })
     }
 
-    /// Takes a newer snapshot, in the same round, without letting the lane go. `changes` compares it with the one before.
-    #[inline(always)]
-    pub fn again(&mut self)
-        ensures { LooksAgain self.old self.new }
+    /// Takes a newer snapshot with its handle, which shows all that this handle did. True if it is of the same round: then `changes` compares it with the one
+    /// before. False if the round rolled over in between: then `changes` has nothing to compare it with, but `changes_since` has what the caller listed.
+    /// It waits as an update does, and after a refusal the look shows what it showed.
+    pub fn again<R: Wait>(&mut self, rt: &R, handle: &mut Handle<A, B>) -> Result<bool, LiveError>
+        requires own { IsLookOf handle.old self.old }
+        ensures looks { IfOk result (λ same. LooksAgain same self.old self.new handle.old handle.new) }
+        ensures not_made { IfErr result (λ _. (self.new ≡ self.old) × Follows handle.old handle.new) }
+        ensures refused { IfErr result (RefusesCall handle.new) }
     {
-        self.before = self.held;
-        self.held = self.parts.look(&self.round);
-    }
-
-    /// Ends the look, and gives its handle back.
-    #[inline(always)]
-    pub fn done(self) -> Handle<A, B>
-        ensures { result ≡ handle_of self }
-    {
-        let Look {
-            out,
-            parts,
-            held: _,
-            before: _,
-            round,
-            bits,
-            lane,
-            pace,
-            desk,
-        } = self;
-        let number = parts.number;
-        let end = out.put(Lane::of(parts));
-        Handle {
-            end: Some(end),
-            bits,
-            lane,
-            number,
-            pace,
-            round,
-            desk,
+        let mut show = Show::after(self.reader.take(), self.era);
+        let done = handle.show(rt, &mut show);
+        self.reader = show.reader;
+        match done {
+            Ok(held) => {
+                if show.era != self.era {
+                    self.before = held;
+                    self.held = held;
+                    self.era = show.era;
+                    return Ok(false);
+                }
+                self.before = self.held;
+                self.held = held;
+                Ok(true)
+            }
+            Err(cause) => Err(cause),
         }
     }
+
+    /// The same, and waits for nobody, as `Handle::try_update`.
+    pub fn try_again(&mut self, handle: &mut Handle<A, B>) -> Result<bool, TryError<Busy>>
+        requires own { IsLookOf handle.old self.old }
+        ensures looks { IfOk result (λ same. LooksAgain same self.old self.new handle.old handle.new) }
+        ensures not_made { IfErr result (λ _. (self.new ≡ self.old) × Follows handle.old handle.new) }
+        ensures refused { IfErr result (IfRefused (RefusesCall handle.new)) }
+    {
+        let mut show = Show::after(self.reader.take(), self.era);
+        let done = handle.try_show(&mut show);
+        self.reader = show.reader;
+        match done {
+            Ok(held) => {
+                if show.era != self.era {
+                    self.before = held;
+                    self.held = held;
+                    self.era = show.era;
+                    return Ok(false);
+                }
+                self.before = self.held;
+                self.held = held;
+                Ok(true)
+            }
+            Err(cause) => Err(cause),
+        }
+    }
+}
+
+impl<A: Monoid, B: Monoid> Drop for Look<A, B> {
+    fn drop(self) {
+        let Look {
+            out,
+            round,
+            reader,
+            held: _,
+            before: _,
+            era,
+            lane: _,
+        } = self;
+        drop(out.put(Slot { reader, round, era }));
+    }
+}
+
+/// Puts back what was to be a look.
+pub(crate) fn leave<A: Monoid, B: Monoid>(
+    out: SlotOut<A, B>,
+    round: SharedRound<A, B>,
+    show: Show<A, B>,
+)
+    requires out { out ≡ Some (arc_value round) }
+    requires reader { IfSome show.reader (λ r. table_of r.round ≡ arc_value round) }
+{
+    let Show { reader, era, .. } = show;
+    drop(out.put(Slot { reader, round, era }));
 }

@@ -1,5 +1,5 @@
 //! The end of a round whose passes lie in the lanes, and the beginning of the next.
-ghost use Rattle.std.specs.Prelude.{◌≡◌, ℕ, true, ◌+◌, ◌<◌, ◌≤◌, ◌^◌, List, [], ◌++◌, All, IfOk, IfErr, vec_len, vec_capacity, length, map, flat_map, reverse};
+ghost use Rattle.std.specs.Prelude.{◌≡◌, ℕ, true, ◌+◌, ◌<◌, ◌≤◌, ◌^◌, List, [], ◌++◌, All, IfOk, IfErr, Some, vec_len, vec_capacity, length, map, flat_map, reverse};
 ghost use Rattle.std.specs.Arc.{arc_value};
 ghost use Rattle.aug_model.specs.Keys.{IsKeySet, keys_of};
 ghost use Rattle.aug_core.specs.Layout.{IsLayout};
@@ -17,6 +17,7 @@ use crate::desk_end::DeskLock;
 use crate::end::{Berth, End, Out};
 use crate::held::{Emptied, Held};
 use crate::plan::Plan;
+use crate::slot::SlotEnd;
 use crate::tie::{Parts, Renumber};
 use crate::work::{SharedRound, start};
 use aug_monoid::Monoid;
@@ -31,10 +32,12 @@ use std::sync::Arc;
 #[derive(Drop)]
 pub(crate) struct Share<A: Monoid, B: Monoid> {
     pub(crate) round: SharedRound<A, B>,
+    pub(crate) slot: SlotEnd<A, B>,
     pub(crate) desk: Arc<DeskLock<A, B>, Global>,
 }
 
 impl<A: Monoid, B: Monoid> Model for Share<A, B> {
+    ghost use Rattle.std.specs.Prelude.{◌≡◌, Some};
     ghost use Rattle.std.specs.Arc.{arc_value};
     ghost use Rattle.atomic_table.specs.Seated.{TableId};
     ghost use Rattle.aug_trie.specs.Round.{TableFacts};
@@ -42,6 +45,8 @@ impl<A: Monoid, B: Monoid> Model for Share<A, B> {
     ghost Value = { TableFacts × TableId };
 
     ghost view = { λ s. (arc_value s.round, (arc_value s.desk).table.shared.table_id) };
+
+    ghost invariant = { λ s. s.slot ≡ Some (arc_value s.round) };
 }
 
 /// A round that was begun, with what each handle owns a part of.
@@ -51,6 +56,7 @@ pub(crate) struct Begun<A: Monoid, B: Monoid> {
     pub(crate) crew: Crew<A, B>,
     pub(crate) list: Vec<(u32, u32)>,
     pub(crate) shares: Vec<Share<A, B>>,
+    pub(crate) slots: Vec<SlotEnd<A, B>>,
 }
 
 /// Begins a round over a set of a plan, as `Live` does, with `handles` owners more of it and of the desk. It is refused only for lack of memory, and
@@ -61,22 +67,26 @@ pub(crate) fn next_round<A: Monoid, B: Monoid>(
     plan: Plan,
     list: Vec<(u32, u32)>,
     shares: Vec<Share<A, B>>,
+    slots: Vec<SlotEnd<A, B>>,
     desk: &Arc<DeskLock<A, B>, Global>,
     handles: u32,
 ) -> Result<Begun<A, B>, Members>
     requires laid_out { IsLayout (shape_of set.bits plan.lanes plan.updates (2 ^ set.bits)) }
+    requires tables { 2 ≤ plan.tables }
     requires few { length set.pairs ≤ 2 ^ set.bits }
     requires list { (list.items ≡ []) × (2 ^ set.bits ≤ vec_capacity list) }
     requires shares { (shares.items ≡ []) × (handles ≤ vec_capacity shares) }
+    requires slots { (slots.items ≡ []) × (handles ≤ vec_capacity slots) }
     ensures begun { IfOk result (λ t. BeginsIn (2 ^ set.bits) set.pairs set.bits plan.lanes plan.updates (arc_value t.round) t.crew) }
     ensures list { IfOk result (λ t. t.list ≡ list) }
     ensures shares { IfOk result (λ t. All (λ s. s ≡ (arc_value t.round, (arc_value desk.now).table.shared.table_id)) t.shares.items × (vec_len t.shares ≡ handles)) }
+    ensures slots { IfOk result (λ t. All (λ s. s ≡ Some (arc_value t.round)) t.slots.items × (vec_len t.slots ≡ handles)) }
     ensures same { IfErr result (λ e. e ≡ set) }
 {
     // For the proof alone: how many bits keys have at most.
     let _universe = set.universe();
     let old = Snapshot::of(&set);
-    let (round, crew) = Round::begin_for_all(alloc, set, plan.lanes, plan.updates)?;
+    let (round, crew) = Round::begin_for_all(alloc, set, plan.lanes, plan.updates, plan.tables)?;
     let round = match Arc::new(alloc, round) {
         Ok(round) => round,
         Err(failed) => {
@@ -84,10 +94,13 @@ pub(crate) fn next_round<A: Monoid, B: Monoid>(
             return Err(taken_back(old, &value, crew, list));
         }
     };
-    let mut shares = shares;
+    let (mut shares, mut slots) = (shares, slots);
     for _ in 0..handles {
-        match make_share(&round, desk) {
-            Ok(share) => shares.push_reserved(share),
+        match make_share(alloc, &round, desk) {
+            Ok((share, slot)) => {
+                shares.push_reserved(share);
+                slots.push_reserved(slot);
+            }
             Err(_) => return Err(taken_back(old, &round, crew, list)),
         }
     }
@@ -96,20 +109,26 @@ pub(crate) fn next_round<A: Monoid, B: Monoid>(
         crew,
         list,
         shares,
+        slots,
     })
 }
 
-// One more owner of each.
+// One more owner of each, with a slot of which the desk has the other end.
 fn make_share<A: Monoid, B: Monoid>(
+    alloc: Global,
     round: &SharedRound<A, B>,
     desk: &Arc<DeskLock<A, B>, Global>,
-) -> Result<Share<A, B>, AllocError>
-    ensures { IfOk result (λ s. s ≡ (arc_value round.now, (arc_value desk.now).table.shared.table_id)) }
+) -> Result<(Share<A, B>, SlotEnd<A, B>), AllocError>
+    ensures share { IfOk result (λ t. t.0 ≡ (arc_value round.now, (arc_value desk.now).table.shared.table_id)) }
+    ensures slot { IfOk result (λ t. t.1 ≡ Some (arc_value round.now)) }
 {
-    Ok(Share {
+    let (ours, slot) = SlotEnd::pair(alloc, round)?;
+    let share = Share {
         round: Arc::try_clone(round)?,
+        slot,
         desk: Arc::try_clone(desk)?,
-    })
+    };
+    Ok((share, ours))
 }
 
 // Ends a round that nobody worked in.
@@ -134,6 +153,7 @@ impl<A: Monoid, B: Monoid> Berth<A, B> {
         requires first { self.out.known ≡ knows_nothing Alone }
         requires number { self.out.taken.number ≡ 0 }
         requires together { table_of crew.old.round ≡ round.now }
+        requires first_era { crew.old.round.era ≡ 0 }
         requires lane_left { crew.old.handed < crew.old.round.workers }
         ensures of_round { IsOf (rounds_in crew.old) 1 result.0 }
         ensures opened { IsOpenedLane result.0 }
@@ -159,7 +179,7 @@ impl<A: Monoid, B: Monoid> Berth<A, B> {
     }
 }
 
-/// Takes what lies in each lane, from the last lane on, unless a handle works or looks there. The lanes that it took stay taken.
+/// Takes what lies in each lane, from the last lane on, unless a handle is in a call there. The lanes that it took stay taken.
 pub(crate) fn take_all<W: Patience, A: Monoid, B: Monoid>(
     how: &W,
     ports: &mut Vec<End<A, B>>,
@@ -245,6 +265,7 @@ pub(crate) fn deal_all<A: Monoid, B: Monoid>(
     requires led { Leads crew.old.round.bits crew.old.past crew.old.round.members }
     requires some { 0 < era }
     requires small { era + 1 < 2 ^ 64 }
+    requires era { crew.old.round.era ≡ era }
     requires together { table_of crew.old.round ≡ round.now }
     requires none_out { crew.old.handed ≡ 0 }
     requires lanes { vec_len idle.old ≤ crew.old.round.workers }

@@ -9,32 +9,82 @@ use aug_trie_testing::sweeps::{EACH, SOME, Sweep, UPDATES, sizes};
 use std::alloc::Global;
 use std::process::Abort;
 
-// The bits of the keys, the handles, the bytes of a table, and the lanes and the updates of the greatest plan that fits. The plans grow where there is room
-// for one more update of each lane, or for one more lane. Too few bytes are refused, and too many.
-const PLANS: [(u32, u32, u64, Option<(u32, u32)>); 12] = [
-    (6, 2, 69_023, None),
-    (6, 2, 69_024, Some((2, 64))),
-    (6, 2, 69_983, Some((2, 64))),
-    (6, 2, 69_984, Some((2, 65))),
-    (6, 2, 376_239, Some((2, 384))),
-    (6, 2, 376_240, Some((3, 256))),
-    (16, 4, 128 << 20, Some((64, 1_548))),
-    (16, 4, 1 << 30, Some((64, 13_017))),
-    (1, 1, 1 << 30, Some((64, 65_536))),
-    (1, 1, (1 << 30) + 1, None),
+// The bits of the keys, the handles, the bytes of three tables, and the lanes and the updates of the greatest plan that fits. The plans grow where there is
+// room for one more update of each lane, or for one more lane. Too few bytes are refused, and too many.
+const PLANS: [(u32, u32, u64, Option<(u32, u32)>); 13] = [
+    (6, 2, 103_535, None),
+    (6, 2, 103_536, Some((2, 64))),
+    (6, 2, 104_975, Some((2, 64))),
+    (6, 2, 104_976, Some((2, 65))),
+    (6, 2, 564_359, Some((2, 384))),
+    (6, 2, 564_360, Some((3, 256))),
+    (16, 4, 128 << 20, Some((64, 1_002))),
+    (16, 4, 192 << 20, Some((64, 1_548))),
+    (16, 4, 3 << 29, Some((64, 13_017))),
+    (1, 1, 3 << 29, Some((64, 65_536))),
+    (1, 1, (3 << 29) + 1, None),
     (1, 1, u64::MAX, None),
-    (6, 65, 1 << 30, None),
+    (6, 65, 3 << 29, None),
 ];
 
 #[test]
 fn a_plan_is_the_greatest_that_fits(rt: HostRuntime) {
     for (bits, handles, memory, expected) in PLANS {
         let plan = Plan::new(bits, handles, memory);
-        equal(&rt, plan.map(|it| (it.lanes, it.updates)), expected);
+        let expected = expected.map(|(lanes, updates)| of(lanes, updates, 3));
+        equal(&rt, plan, expected);
     }
 }
 
-// The words of a part of a table for the full set of keys of `bits` bits.
+// A plan.
+fn of(lanes: u32, updates: u32, tables: u32) -> Plan {
+    Plan {
+        lanes,
+        updates,
+        tables,
+    }
+}
+
+// The bits of the keys, the lanes, the updates and the tables of a plan, and why it is refused. Each refusal of a table comes before that of too few tables.
+const REFUSED: [((u32, u32, u32, u32), Option<OpenError>); 11] = [
+    ((1, 1, 1, 0), Some(OpenError::BadTables)),
+    ((1, 1, 1, 1), Some(OpenError::BadTables)),
+    ((1, 1, 1, 2), None),
+    ((6, 64, 20, 0), Some(OpenError::BadTables)),
+    ((6, 64, 20, 1), Some(OpenError::BadTables)),
+    ((6, 64, 20, 2), None),
+    ((6, 64, 20, 66), None),
+    ((6, 65, 20, 1), Some(OpenError::BadLanes)),
+    ((6, 1, 0, 1), Some(OpenError::BadUpdates)),
+    ((6, 1, 65_537, 0), Some(OpenError::BadUpdates)),
+    ((16, 64, 65_536, 1), Some(OpenError::TooLarge)),
+];
+
+// Opens a trie over a set with a plan that has a lane, and closes it: the same set, and why it was refused.
+fn refused_by<R: Host + Abort>(rt: &R, set: Members, plan: Plan) -> (Members, Option<OpenError>) {
+    if plan.lanes == 0 {
+        return (set, None);
+    }
+    match Live::<Sum, Extent>::open_with(rt.alloc(), set, 1, plan) {
+        Ok((live, hands)) => {
+            drop(hands);
+            (ended(rt, live).0, None)
+        }
+        Err((set, cause)) => (set, Some(cause)),
+    }
+}
+
+#[test]
+fn a_plan_of_fewer_than_two_tables_is_refused(rt: HostRuntime) -> Result<(), OpenError> {
+    for ((bits, lanes, updates, tables), expected) in REFUSED {
+        let set = grown(&rt, no_keys(rt.alloc(), bits)?, 2)?;
+        let (set, cause) = refused_by(&rt, set, of(lanes, updates, tables));
+        equal(&rt, (set.bits(), set.size(), cause), (bits, 2, expected));
+    }
+    Ok(())
+}
+
+// The words of a table for the full set of keys of `bits` bits.
 fn words_of(bits: u32, plan: Plan) -> u64 {
     let keys = 1u64 << (bits % 32);
     let calls = u64::from(plan.lanes).saturating_mul(u64::from(plan.updates));
@@ -56,7 +106,7 @@ fn opens<R: Host + Abort>(
     count: u32,
 ) -> Result<Members, OpenError> {
     let (from, lanes, updates) = (set.size(), plan.lanes, plan.updates.max(64));
-    let memory = words_of(set.bits(), Plan { lanes, updates }).saturating_mul(16);
+    let memory = words_of(set.bits(), of(lanes, updates, 3)).saturating_mul(24);
     let opened = if by_plan && handles <= plan.lanes {
         Live::<Sum, Extent>::open_with(rt.alloc(), set, handles, plan)
     } else {
@@ -79,7 +129,7 @@ fn swept<R: Host + Abort>(rt: &R, it: &Sweep, bits: u32) -> Result<u32, OpenErro
     let mut tries = 0u32;
     for &updates in it.2 {
         for &lanes in it.1 {
-            let plan = Plan { lanes, updates };
+            let plan = of(lanes, updates, 2);
             if words_of(bits, plan) <= it.3 {
                 let way = bits.saturating_add(tries) % 3;
                 let handles = if way == 1 { 1 } else { lanes };
@@ -144,12 +194,10 @@ fn no_trie_is_refused_for_its_updates(rt: HostRuntime) -> Result<(), OpenError> 
 // Tries over a set, into the first of which the keys are put that it does not have of the `members` least ones: the set after them.
 fn grown<R: Host + Abort>(rt: &R, set: Members, members: u32) -> Result<Members, OpenError> {
     let count = members.saturating_sub(set.size());
-    let (lanes, updates) = (1, count.max(1));
-    let plan = Plan { lanes, updates };
+    let plan = of(1, count.max(1), 2);
     let set = opens(rt, set, (1, true), plan, count)?;
     let set = opens(rt, set, (1, false), plan, 0)?;
-    let updates = 1;
-    opens(rt, set, (1, true), Plan { lanes, updates }, 0)
+    opens(rt, set, (1, true), of(1, 1, 2), 0)
 }
 
 // The same set for keys of `bits` bits.

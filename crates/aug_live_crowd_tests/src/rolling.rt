@@ -2,7 +2,7 @@
 
 use crate::assertions::{equal, holds};
 use aug_live::OpenError;
-use aug_live_testing::acting::{User, at_last, give_up};
+use aug_live_testing::acting::{User, at_last};
 use aug_live_testing::opening::{HandleOf, Host, LiveOf, opened};
 use aug_trie::Outcome::Accepted;
 use aug_trie_testing::rows::Act::{Close, Has, Look, Now, Over, Renew, Roll, Tend};
@@ -16,13 +16,14 @@ use std::thread::Threads;
 // A thread's handle, the number of its lane, and whether its calls wait. Those that wait for nobody are made again until they are done.
 type Job = (HandleOf, u32, bool);
 
-// What a thread did: which of its own keys are members, those that leave the number of its lane as the remainder divided by 4; how many it put in and took
-// out; whether all that it saw was right; and whether the trie was closed.
+// What a thread did: which of its own keys are members, those that leave the number of its lane as the remainder divided by 4, and which ones its open look
+// shows; how many it put in and took out; whether all that it saw was right; and whether the trie was closed.
 #[derive(Clone, Copy)]
 struct Did {
     lane: u32,
     waits: bool,
     own: [bool; 64],
+    shown: Option<[bool; 64]>,
     inserts: u64,
     removals: u64,
     right: bool,
@@ -41,20 +42,43 @@ fn calls<R: Host>(rt: &R, user: User, waits: bool, act: Act) -> (User, Reply) {
     (user, reply)
 }
 
-// Looks whether each own key is there as it should be, unless the trie was closed.
+// Takes a look, unless the trie was closed.
+fn begins<R: Host>(rt: &R, user: User, did: &mut Did) -> User {
+    let (user, looked) = calls(rt, user, did.waits, Look);
+    did.right &= looked == Done || looked == IsClosed;
+    did.shown = if looked == Done { Some(did.own) } else { None };
+    user
+}
+
+// Whether a key is among these.
+fn has(keys: &[bool; 64], k: u32) -> bool {
+    keys.get(k as usize) == Some(&true)
+}
+
+// Looks whether each own key is there as it should be by the open look, if there is one.
 fn looks<R: Host>(rt: &R, user: User, did: &mut Did) -> User {
-    let (mut user, looked) = calls(rt, user, did.waits, Look);
-    if looked == IsClosed {
+    let Some(shown) = did.shown else {
         return user;
-    }
+    };
+    let mut user = user;
     for i in 0..16 {
         let k = 4 * i + did.lane % 4;
-        let (same, shown) = calls(rt, user, did.waits, Has(k));
-        did.right &= shown == Is(did.own.get(k as usize) == Some(&true));
+        let (same, found) = calls(rt, user, did.waits, Has(k));
+        did.right &= found == Is(has(&shown, k));
         user = same;
     }
+    user
+}
+
+// The same, and ends the look.
+fn ends<R: Host>(rt: &R, user: User, did: &mut Did) -> User {
+    if did.shown.is_none() {
+        return user;
+    }
+    let user = looks(rt, user, did);
     let (user, over) = calls(rt, user, did.waits, Over);
     did.right &= over == Done;
+    did.shown = None;
     user
 }
 
@@ -77,14 +101,15 @@ fn updates<R: Host>(rt: &R, user: User, did: &mut Did, seed: u64) -> User {
     user
 }
 
-// Makes so many updates, with a look after each few.
-fn work<R: Host>(rt: &R, job: Job, steps: u32) -> Did {
+// Makes so many updates, with a look after each few, which stays open over so many.
+fn work<R: Host>(rt: &R, job: Job, steps: u32, open: u32) -> Did {
     let (hand, lane, waits) = job;
     let mut user = User::Works(hand);
     let mut did = Did {
         lane,
         waits,
         own: [false; 64],
+        shown: None,
         inserts: 0,
         removals: 0,
         right: true,
@@ -98,10 +123,14 @@ fn work<R: Host>(rt: &R, job: Job, steps: u32) -> Did {
             break;
         }
         if i % 64 == 0 {
+            user = begins(rt, user, &mut did);
             user = looks(rt, user, &mut did);
         }
+        if i % 64 == open {
+            user = ends(rt, user, &mut did);
+        }
     }
-    give_up(user);
+    drop(ends(rt, user, &mut did));
     did
 }
 
@@ -132,7 +161,7 @@ fn besides<R: Host>(rt: &R, live: LiveOf, it: Beside) -> (Option<LiveOf>, Reply,
             (live, user, last) = (same, next, reply);
         }
     }
-    give_up(user);
+    drop(user);
     (live, last, right)
 }
 
@@ -169,18 +198,19 @@ fn assert_end(rt: &impl Abort, end: Reply, done: &[Did], closed: bool, with: &Us
 // Uses a trie, and compares what the threads did with what it counted.
 fn assert_used<R: Threads + Host + Abort + Sync>(rt: &R, with: &Use) -> Result<(), OpenError> {
     let ((used, trying, steps), (spare, updates), beside, _, _) = *with;
+    // No thread waits for its own look, as its lane has more updates in the round behind that of the look.
+    let open = updates.saturating_sub(1).min(16);
     let (live, mut hands) = opened(rt.alloc(), 6, 4, spare, updates)?;
     let idle = idle_of(&mut hands, used);
     let jobs = jobs(rt, hands, trying);
     let (done, (live, last, right)) = thread::join(
         rt,
-        || thread::map_vec(rt, jobs, &|job| work(rt, job, steps)),
+        || thread::map_vec(rt, jobs, &|job| work(rt, job, steps, open)),
         move || besides(rt, live, beside),
     );
     drop(idle);
     holds(rt, right);
-    let (_, nobody, ended) = at_last(rt, live, User::Gone, true, Close);
-    give_up(nobody);
+    let (_, _, ended) = at_last(rt, live, User::Gone, true, Close);
     let closed = ended == Not;
     let end = if closed { last } else { ended };
     let done = done.expect(rt, "memory");

@@ -6,7 +6,7 @@ use crate::assertions::{equal, holds};
 use aug_live::{Live, LiveError, OpenError, Plan};
 use aug_live_testing::acting::does;
 use aug_live_testing::opening::{
-    HandleOf, Host, LiveOf, ended, looked, no_keys, opened, renewed, rolled,
+    HandleOf, Host, LiveOf, LookOf, ended, looked, no_keys, opened, renewed, rolled, size,
 };
 use aug_trie_testing::rows::Act::Has;
 use aug_trie_testing::rows::Reply::{Done, Is};
@@ -22,7 +22,12 @@ fn two<R: Host + Abort>(
     ensures tables { IfOk result (λ t. (t.1.half.round.table ≡ t.0.table) × (t.2.half.round.table ≡ t.0.table)) }
     ensures lanes { IfOk result (λ t. (ids_of t.1.who.trie ≡ ids_of t.0) × (ids_of t.2.who.trie ≡ ids_of t.0)) }
 {
-    let (alloc, plan) = (rt.alloc(), Plan { lanes, updates: 4 });
+    let (alloc, updates, tables) = (rt.alloc(), 4, 2);
+    let plan = Plan {
+        lanes,
+        updates,
+        tables,
+    };
     let (live, mut hands) = match Live::open_with(alloc, no_keys(alloc, bits)?, lanes, plan) {
         Ok(opened) => opened,
         Err((_, cause)) => return Err(cause),
@@ -133,26 +138,43 @@ fn assert_back<R: Wait + Abort>(rt: &R, live: LiveOf, hand: HandleOf, lanes: u32
     equal(rt, end(rt, live), (1, 1, lanes.saturating_add(1), lanes));
 }
 
-// A handle comes back whose lane a roll-over took, which waited for a look of another.
-fn assert_back_later<R: Wait + Abort>(rt: &R, live: LiveOf, hand: HandleOf, other: HandleOf)
+// Takes a look with a handle that comes back.
+fn look_of<R: Wait + Abort>(rt: &R, hand: &mut HandleOf) -> LookOf
+    ensures table { hand.new.half.round.table ≡ hand.old.half.round.table }
+    ensures lanes { ids_of hand.new.who.trie ≡ ids_of hand.old.who.trie }
+{
+    let Ok(look) = hand.look(rt) else {
+        panic!(rt; "no look");
+    };
+    look
+}
+
+// A handle comes back at once while its look and one of another handle are open, and a roll-over waits for them. They answer on.
+fn assert_back_beside<R: Wait + Abort>(rt: &R, live: LiveOf, hand: HandleOf, other: HandleOf)
     requires table { hand.half.round.table ≡ live.table }
     requires lanes { ids_of hand.who.trie ≡ ids_of live }
 {
-    let mut live = live;
-    let look = looked(rt, other, true).ok().expect(rt, "a look");
+    let (mut live, mut hand, mut other) = (live, hand, other);
+    let mut beside = looked(rt, &mut other, true).ok().expect(rt, "a look");
+    insert(rt, &mut hand, 3);
+    let mut own = look_of(rt, &mut hand);
+    holds(rt, !waits(&mut live));
     holds(rt, waits(&mut live));
-    drop(look.done());
     equal(rt, back(rt, &mut live, hand), Ok(()));
-    equal(rt, end(rt, live), (0, 2, 2, 1));
+    equal(rt, (size(&mut own), size(&mut beside)), (1, 0));
+    drop(own);
+    holds(rt, waits(&mut live));
+    drop(beside);
+    holds(rt, !waits(&mut live));
+    equal(rt, end(rt, live), (1, 3, 2, 1));
 }
 
 #[test]
 fn a_note_tells_what_its_maker_did_over_roll_overs(rt: HostRuntime) -> Result<(), OpenError> {
     for bits in 1..=16 {
         let (mut live, a, b) = two(&rt, bits, 2)?;
-        let hand = learnt(&rt, &mut live, a, b, true).expect(&rt, "a note");
-        let (_, seen) = does(&rt, hand, true, Has(1));
-        equal(&rt, seen, Is(true));
+        let mut hand = learnt(&rt, &mut live, a, b, true).expect(&rt, "a note");
+        equal(&rt, does(&rt, &mut hand, true, Has(1)), Is(true));
     }
     Ok(())
 }
@@ -176,9 +198,9 @@ fn a_trie_knows_what_a_handle_did_that_came_back(rt: HostRuntime) -> Result<(), 
 }
 
 #[test]
-fn a_handle_comes_back_whose_lane_a_roll_over_took(rt: HostRuntime) -> Result<(), OpenError> {
+fn a_handle_comes_back_while_looks_are_open(rt: HostRuntime) -> Result<(), OpenError> {
     let (live, a, b) = two(&rt, 6, 2)?;
-    assert_back_later(&rt, live, b, a);
+    assert_back_beside(&rt, live, b, a);
     Ok(())
 }
 

@@ -5,7 +5,8 @@ use crate::assertions::{equal, holds};
 use aug_live::OpenError;
 use aug_live_testing::acting::does;
 use aug_live_testing::opening::{
-    HandleOf, Host, LiveOf, changed, closed, ended, fill, opened, renewed, rolled,
+    HandleOf, Host, LiveOf, LookOf, changed, closed, ended, fill, looked, opened, renewed, rolled,
+    size,
 };
 use aug_trie::Outcome::{Accepted, Replaced};
 use aug_trie::{Outcome, Pop};
@@ -58,19 +59,28 @@ fn left_of(updates: u32, made: u32) -> u32 {
     }
 }
 
-// Each handle gives each key a weight of its own, and sees them all.
-fn each_puts<R: Host + Abort>(rt: &R, hands: Vec<HandleOf>, keys: Keys, updates: u32) {
-    let mut weight = 0u32;
+// Each handle gives each key a weight of its own, and sees them all. The look of the last one.
+fn each_puts<R: Host + Abort>(
+    rt: &R,
+    hands: Vec<HandleOf>,
+    keys: Keys,
+    updates: u32,
+) -> Option<LookOf> {
+    let (mut weight, mut last) = (0u32, None);
     for hand in hands {
+        // A roll-over would wait for it.
+        drop(last.take());
         let mut hand = hand;
         let outcome = if weight == 0 { Accepted } else { Replaced };
         holds(rt, puts_all(rt, &mut hand, keys, weight, outcome));
-        let (hand, left) = does(rt, hand, weight % 2 == 1, Room);
+        let left = does(rt, &mut hand, weight % 2 == 1, Room);
         equal(rt, left, Number(left_of(updates, keys.count)));
-        let (_, members) = does(rt, hand, weight % 2 == 0, Size);
+        let members = does(rt, &mut hand, weight % 2 == 0, Size);
         equal(rt, members, Number(keys.count));
+        last = looked(rt, &mut hand, weight % 2 == 0).ok();
         weight = weight.saturating_add(1);
     }
+    last
 }
 
 // The members that are left, by their numbers, and the weight of each.
@@ -131,8 +141,10 @@ fn assert_made<R: Host + Abort>(
     let keys = keys_of(bits);
     let spare = (bits % 3).min(64u32.saturating_sub(handles));
     let (mut live, hands) = opened(rt.alloc(), bits, handles, spare, updates)?;
-    each_puts(rt, hands, keys, updates);
+    let mut look = each_puts(rt, hands, keys, updates).expect(rt, "a look");
     equal(rt, rolled(rt, &mut live, false), Done);
+    equal(rt, size(&mut look), keys.count);
+    drop(look);
     equal(rt, rolled(rt, &mut live, true), Done);
     each_lane_takes_out(rt, &mut live, handles, keys);
     let (set, counts) = closed(rt, live, false).ok().expect(rt, "an end");
@@ -213,8 +225,8 @@ fn assert_goes_on<R: Host + Abort>(rt: &R, it: &Crowd) -> Result<(), OpenError> 
         are_refused(rt, &mut live, &mut hands, handles);
     }
     for hand in hands {
-        let (_, seen) = does(rt, hand, true, Size);
-        equal(rt, seen, Number(members));
+        let mut hand = hand;
+        equal(rt, does(rt, &mut hand, true, Size), Number(members));
     }
     let (set, counts) = ended(rt, live);
     let (all, handles) = (u64::from(members), u64::from(handles).saturating_add(3));
@@ -259,9 +271,7 @@ fn goes_on<R: Host>(rt: &R, hand: HandleOf) -> bool {
             (number % 3 == 0, Size, Number(1 - number % 2)),
         ];
         for (waits, act, expected) in acts {
-            let (same, found) = does(rt, hand, waits, act);
-            right &= found == expected;
-            hand = same;
+            right &= does(rt, &mut hand, waits, act) == expected;
         }
     }
     right

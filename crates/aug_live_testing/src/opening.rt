@@ -1,5 +1,8 @@
-//! How tries are opened, and the calls of a trie and its handles that tests make, in functions that promise nothing. Those with `waits` make a call that
-//! waits, or one that waits for nobody and answers where it would have to.
+//! How tries are opened, and the calls of a trie and its handles that tests make, in functions that promise nothing but that a handle stays one of its trie
+//! and lane. Those with `waits` make a call that waits, or one that waits for nobody and answers where it would have to.
+ghost use Rattle.std.specs.Prelude.{◌≡◌, IfOk};
+ghost use Rattle.aug_trie.specs.Round.{table_of};
+ghost use Rattle.aug_live.specs.LiveHandles.{IsLookOf};
 
 use aug_live::{Busy, Handle, Live, LiveCounts, LiveError, Look, OpenError, Plan, TryError};
 use aug_monoid::{Extent, Sum};
@@ -26,7 +29,7 @@ pub fn no_keys(alloc: Global, bits: u32) -> Result<Members, OpenError> {
     Members::empty(alloc, bits).map_err(|_| OpenError::TooLarge)
 }
 
-/// A trie over the empty set of keys of `bits` bits, with `spare` spare lanes.
+/// A trie over the empty set of keys of `bits` bits, with `spare` spare lanes and two tables.
 pub fn opened(
     alloc: Global,
     bits: u32,
@@ -35,12 +38,27 @@ pub fn opened(
     updates: u32,
 ) -> Result<(LiveOf, Vec<HandleOf>), OpenError> {
     let lanes = handles.saturating_add(spare);
-    let opened = Live::open_with(
-        alloc,
-        no_keys(alloc, bits)?,
-        handles,
-        Plan { lanes, updates },
-    );
+    let tables = 2;
+    let plan = Plan {
+        lanes,
+        updates,
+        tables,
+    };
+    planned(alloc, bits, handles, plan)
+}
+
+/// A trie over the empty set of keys of `bits` bits with this plan, of which each handle has a lane at least.
+pub fn planned(
+    alloc: Global,
+    bits: u32,
+    handles: u32,
+    plan: Plan,
+) -> Result<(LiveOf, Vec<HandleOf>), OpenError> {
+    let set = no_keys(alloc, bits)?;
+    if handles > plan.lanes {
+        return Err(OpenError::BadLanes);
+    }
+    let opened = Live::open_with(alloc, set, handles, plan);
     opened.map_err(|refused| refused.1)
 }
 
@@ -50,6 +68,7 @@ pub fn refused(cause: LiveError) -> Reply {
         LiveError::Closed => Reply::IsClosed,
         LiveError::Replaced => Reply::IsReplaced,
         LiveError::NoLane => Reply::NoLane,
+        LiveError::Looking(_) => Reply::IsLooking,
         _ => Reply::Fails,
     }
 }
@@ -94,7 +113,10 @@ fn popped(done: Result<Option<(u32, u32)>, LiveError>) -> Reply {
 }
 
 /// An update of a key by a call that waits.
-fn updated<R: Wait>(rt: &R, hand: &mut HandleOf, change: Change) -> Reply {
+fn updated<R: Wait>(rt: &R, hand: &mut HandleOf, change: Change) -> Reply
+    ensures table { table_of hand.new.half.round ≡ table_of hand.old.half.round }
+    ensures lane { hand.new.who.lane ≡ hand.old.who.lane }
+{
     let universe = hand.universe();
     match change {
         Change::Insert(k) if k < universe => hand.insert(rt, k).map_or_else(refused, came_by),
@@ -110,7 +132,10 @@ fn updated<R: Wait>(rt: &R, hand: &mut HandleOf, change: Change) -> Reply {
 }
 
 /// The same by a call that waits for nobody.
-fn tried(hand: &mut HandleOf, change: Change) -> Reply {
+fn tried(hand: &mut HandleOf, change: Change) -> Reply
+    ensures table { table_of hand.new.half.round ≡ table_of hand.old.half.round }
+    ensures lane { hand.new.who.lane ≡ hand.old.who.lane }
+{
     match (change, request_of(change)) {
         (Change::PopFirst, _) => hand.try_pop_first().map_or_else(missed, Reply::Popped),
         (Change::PopLast, _) => hand.try_pop_last().map_or_else(missed, Reply::Popped),
@@ -122,7 +147,10 @@ fn tried(hand: &mut HandleOf, change: Change) -> Reply {
 }
 
 /// Makes an update of a key, and says what it tells.
-pub fn told<R: Wait>(rt: &R, hand: &mut HandleOf, waits: bool, change: Change) -> Reply {
+pub fn told<R: Wait>(rt: &R, hand: &mut HandleOf, waits: bool, change: Change) -> Reply
+    ensures table { table_of hand.new.half.round ≡ table_of hand.old.half.round }
+    ensures lane { hand.new.who.lane ≡ hand.old.who.lane }
+{
     match request_of(change) {
         Some((k, request)) if k < hand.universe() && waits => {
             hand.update(rt, k, request).map_or_else(refused, tells)
@@ -135,7 +163,10 @@ pub fn told<R: Wait>(rt: &R, hand: &mut HandleOf, waits: bool, change: Change) -
 }
 
 /// Makes an update. None is made of a key of more bits.
-pub fn changed<R: Wait>(rt: &R, hand: &mut HandleOf, waits: bool, change: Change) -> Reply {
+pub fn changed<R: Wait>(rt: &R, hand: &mut HandleOf, waits: bool, change: Change) -> Reply
+    ensures table { table_of hand.new.half.round ≡ table_of hand.old.half.round }
+    ensures lane { hand.new.who.lane ≡ hand.old.who.lane }
+{
     if waits {
         updated(rt, hand, change)
     } else {
@@ -144,7 +175,10 @@ pub fn changed<R: Wait>(rt: &R, hand: &mut HandleOf, waits: bool, change: Change
 }
 
 /// Puts `count` keys in, from the key `from` on. How many of them went in.
-pub fn fill<R: Wait>(rt: &R, hand: &mut HandleOf, waits: bool, from: u32, count: u32) -> u32 {
+pub fn fill<R: Wait>(rt: &R, hand: &mut HandleOf, waits: bool, from: u32, count: u32) -> u32
+    ensures table { table_of hand.new.half.round ≡ table_of hand.old.half.round }
+    ensures lane { hand.new.who.lane ≡ hand.old.who.lane }
+{
     let mut made = 0u32;
     for k in from..from.saturating_add(count) {
         let reply = changed(rt, hand, waits, Change::Insert(k));
@@ -175,7 +209,10 @@ pub fn changed_all<R: Wait>(
 }
 
 /// How many updates are left to the lane of a handle.
-pub fn room<R: Wait>(rt: &R, hand: &mut HandleOf, waits: bool) -> Reply {
+pub fn room<R: Wait>(rt: &R, hand: &mut HandleOf, waits: bool) -> Reply
+    ensures table { table_of hand.new.half.round ≡ table_of hand.old.half.round }
+    ensures lane { hand.new.who.lane ≡ hand.old.who.lane }
+{
     if waits {
         hand.room(rt).map_or_else(refused, Reply::Number)
     } else {
@@ -206,6 +243,11 @@ pub fn rolled<R: Wait>(rt: &R, live: &mut LiveOf, waits: bool) -> Reply {
     }
 }
 
+/// Rolls the round over, unless that has to wait. Whether it has to wait for looks.
+pub fn awaits_looks(live: &mut LiveOf) -> bool {
+    matches!(live.try_roll(), Err(TryError::Again(Busy::Look)))
+}
+
 /// The end of a trie, or the same trie if that would have to wait.
 pub fn closed<R: Wait>(rt: &R, live: LiveOf, waits: bool) -> Result<(Members, LiveCounts), LiveOf> {
     if waits {
@@ -219,14 +261,41 @@ pub fn ended<R: Wait>(rt: &R, live: LiveOf) -> (Members, LiveCounts) {
     live.close(rt)
 }
 
-/// A look, or the handle with why there is none.
-pub fn looked<R: Wait>(rt: &R, hand: HandleOf, waits: bool) -> Result<LookOf, (HandleOf, Reply)> {
+/// How a note comes out that a handle makes.
+pub fn noted<R: Wait>(rt: &R, hand: &mut HandleOf) -> Reply
+    ensures table { table_of hand.new.half.round ≡ table_of hand.old.half.round }
+    ensures lane { hand.new.who.lane ≡ hand.old.who.lane }
+{
+    hand.note(rt).map_or_else(refused, |_| Reply::Done)
+}
+
+/// A look, or why there is none.
+pub fn looked<R: Wait>(rt: &R, hand: &mut HandleOf, waits: bool) -> Result<LookOf, Reply>
+    ensures own { IfOk result (λ look. IsLookOf hand.new look) }
+    ensures table { table_of hand.new.half.round ≡ table_of hand.old.half.round }
+    ensures lane { hand.new.who.lane ≡ hand.old.who.lane }
+{
     if waits {
-        hand.look(rt)
-            .map_err(|(hand, cause)| (hand, refused(cause)))
+        hand.look(rt).map_err(refused)
     } else {
-        hand.try_look()
-            .map_err(|(hand, cause)| (hand, missed(cause)))
+        hand.try_look().map_err(missed)
+    }
+}
+
+/// What it comes to that a look takes a newer snapshot, which is of the same round or of another.
+fn again_in(same: bool) -> Reply {
+    if same { Reply::Done } else { Reply::NewRound }
+}
+
+/// Takes a newer snapshot with a look's own handle.
+pub fn again<R: Wait>(rt: &R, hand: &mut HandleOf, look: &mut LookOf, waits: bool) -> Reply
+    requires { IsLookOf hand.old look.old }
+    ensures { IsLookOf hand.new look.new }
+{
+    if waits {
+        look.again(rt, hand).map_or_else(refused, again_in)
+    } else {
+        look.try_again(hand).map_or_else(missed, again_in)
     }
 }
 

@@ -6,6 +6,8 @@ mod assertions;
 #[cfg(test)]
 mod batching;
 #[cfg(test)]
+mod looking;
+#[cfg(test)]
 mod own;
 #[cfg(test)]
 mod refused;

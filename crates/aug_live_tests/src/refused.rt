@@ -19,8 +19,13 @@ type Opened = (LiveOf, Vec<HandleOf>);
 // Opens a trie over a set, for rounds of two updates of one handle, or within so many bytes.
 fn opens(alloc: Global, set: Members, by_plan: bool) -> Result<Opened, (Members, OpenError)> {
     if by_plan {
-        let (lanes, updates) = (1, 2);
-        return Live::open_with(alloc, set, 1, Plan { lanes, updates });
+        let (lanes, updates, tables) = (1, 2, 2);
+        let plan = Plan {
+            lanes,
+            updates,
+            tables,
+        };
+        return Live::open_with(alloc, set, 1, plan);
     }
     Live::open(alloc, set, 2, 1 << 16)
 }
@@ -52,9 +57,13 @@ const LINES: &[Line] = &[
     A(Now(Remove(2)), Came(Accepted)),
     A(Size, Number(5)),
     A(Renew(0), Done),
+    A(Look, Done),
     A(Now(Insert(4)), Came(Refused)),
     A(Weight(3), Finds(Some(30))),
+    A(Again, NewRound),
     A(Roll, Done),
+    A(Size, Number(5)),
+    A(Over, Done),
     A(Close, Closed(5, 5, 4, 1)),
 ];
 

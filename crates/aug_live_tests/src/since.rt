@@ -1,10 +1,11 @@
 //! What changed between two snapshots of a look, by updates through another handle, and since a look was listed: stage after stage, with a roll-over in
-//! between; pages of many changes; a list with fewer bits; and drawn updates. The changes are those between two arrays.
+//! between, over which the look stays open; pages of many changes; a list with fewer bits; and drawn updates. The changes are those between two arrays.
 
 use crate::assertions::{equal, holds};
 use aug_live::OpenError;
 use aug_live_testing::opening::{
-    HandleOf, Host, LookOf, changed, ended, fill, looked, no_keys, opened, rolled, size,
+    HandleOf, Host, LiveOf, LookOf, again, changed, ended, fill, looked, no_keys, opened, rolled,
+    size,
 };
 use aug_query::descent::Changes;
 use aug_trie::{AllMembers, Members};
@@ -127,40 +128,68 @@ fn assert_pages(
     equal(rt, next_difference(sets.0, sets.1, from), None);
 }
 
-// Two handles. One holds a look while the other makes updates.
-type Two = (HandleOf, HandleOf);
-
 // What a list has, and the trie that is compared with it.
 type Sets = (Plain, Plain);
 
-// A stage behind a list. The new list, and what it has.
-fn stage<R: Host + Abort>(
-    rt: &R,
-    hands: Two,
+// What changed since the snapshot before, between these two sets, and since the list, on pages from several keys on.
+fn assert_since(
+    rt: &impl Abort,
+    look: &mut LookOf,
     list: &Members,
-    sets: Sets,
+    sets: (&Plain, &Plain, &Plain),
+    name: &str,
+) {
+    let (listed, before, after) = sets;
+    for from in [0, 5, 31, u32::MAX] {
+        assert_pages(rt, look, None, (before, after), (name, from));
+        assert_pages(rt, look, Some(list), (listed, after), (name, from));
+    }
+}
+
+// A look, and the same again once another handle made the updates of a stage, which is asked in the next round too. The new list.
+fn shows<R: Host + Abort>(
+    rt: &R,
+    live: &mut LiveOf,
+    hands: (&mut HandleOf, &mut HandleOf),
+    list: &Members,
+    sets: &Sets,
     it: &Stage,
-) -> Result<(Two, Members, Plain), OpenError> {
-    let ((hand, mut other), (listed, before)) = (hands, sets);
+) -> Result<(Members, Plain), OpenError> {
+    let ((hand, other), (listed, before)) = (hands, sets);
     let Ok(mut look) = looked(rt, hand, true) else {
         return Err(OpenError::OutOfMemory);
     };
-    let mut after = before;
+    let mut after = *before;
     for updates in it.1 {
-        set(rt, &mut other, &mut after, *updates);
+        set(rt, other, &mut after, *updates);
     }
-    look.again();
-    for from in [0, 5, 31, u32::MAX] {
-        let shows = (it.0, from);
-        assert_pages(rt, &mut look, None, (&before, &after), shows);
-        assert_pages(rt, &mut look, Some(list), (&listed, &after), shows);
+    equal(rt, again(rt, hand, &mut look, true), Reply::Done);
+    assert_since(rt, &mut look, list, (listed, before, &after), it.0);
+    equal(rt, rolled(rt, live, true), Reply::Done);
+    assert_since(rt, &mut look, list, (listed, before, &after), it.0);
+    match look.ask(AllMembers(rt.alloc())) {
+        Ok(members) => Ok((members, after)),
+        Err(_) => Err(OpenError::OutOfMemory),
     }
-    let members = look.ask(AllMembers(rt.alloc()));
-    let hands = (look.done(), other);
-    let Ok(members) = members else {
+}
+
+// A look that is taken again in the next round compares with nothing but a list.
+fn meets<R: Host + Abort>(
+    rt: &R,
+    live: &mut LiveOf,
+    hand: &mut HandleOf,
+    list: &Members,
+    sets: &Sets,
+    name: &'static str,
+) -> Result<(), OpenError> {
+    let (listed, now) = sets;
+    let Ok(mut look) = looked(rt, hand, true) else {
         return Err(OpenError::OutOfMemory);
     };
-    Ok((hands, members, after))
+    equal(rt, rolled(rt, live, true), Reply::Done);
+    equal(rt, again(rt, hand, &mut look, true), Reply::NewRound);
+    assert_since(rt, &mut look, list, (listed, now, now), name);
+    Ok(())
 }
 
 // Stages of a trie of so many bits, of which the first is compared with a list of another. The last list, and what it has.
@@ -171,17 +200,18 @@ fn stages<R: Host + Abort>(
     stages: &[Stage],
 ) -> Result<(Members, Plain), OpenError> {
     let (mut live, mut hands) = opened(rt.alloc(), bits, 2, 0, 150)?;
-    let (Some(hand), Some(other)) = (hands.pop(), hands.pop()) else {
+    let (Some(mut hand), Some(mut other)) = (hands.pop(), hands.pop()) else {
         return Err(OpenError::OutOfMemory);
     };
-    let (mut hands, mut before) = ((hand, other), [None; 64]);
-    let (mut list, mut listed) = list;
+    let ((mut list, mut listed), mut before) = (list, [None; 64]);
     for it in stages {
-        let (same, members, after) = stage(rt, hands, &list, (listed, before), it)?;
-        equal(rt, rolled(rt, &mut live, true), Reply::Done);
-        (hands, list, listed, before) = (same, members, after, after);
+        let (hands, sets) = ((&mut hand, &mut other), (listed, before));
+        let (members, after) = shows(rt, &mut live, hands, &list, &sets, it)?;
+        let now = (listed, after);
+        meets(rt, &mut live, &mut hand, &list, &now, it.0)?;
+        (list, listed, before) = (members, after, after);
     }
-    let rounds = (stages.len() as u64).saturating_add(1);
+    let rounds = (stages.len() as u64).saturating_mul(2).saturating_add(1);
     equal(rt, ended(rt, live).1.rounds, rounds);
     Ok((list, listed))
 }
@@ -203,13 +233,13 @@ fn refused_lists_of_a_look_lose_nothing(rt: HostRuntime) -> Result<(), OpenError
         return Err(OpenError::OutOfMemory);
     };
     equal(&rt, fill(&rt, &mut hand, true, 3, 2), 2);
-    let Ok(mut look) = looked(&rt, hand, true) else {
+    let Ok(mut look) = looked(&rt, &mut hand, true) else {
         return Err(OpenError::OutOfMemory);
     };
     let first = look.ask(AllMembers(alloc));
     let again = look.ask(AllMembers(alloc));
     equal(&rt, size(&mut look), 2);
-    look.done();
+    drop(look);
     let list = first.or(again).map_err(|_| OpenError::OutOfMemory)?;
     equal(&rt, list.as_slice(), [(3, 3), (4, 4)].as_slice());
     Ok(())

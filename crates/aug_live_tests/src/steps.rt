@@ -3,13 +3,14 @@
 use super::own::Band;
 use crate::assertions::equal;
 use aug_live::OpenError;
-use aug_live_testing::acting::{Then, User, done, give_up, next_user};
+use aug_live_testing::acting::{Then, User, by_look, done, next_user};
 use aug_live_testing::opening::{HandleOf, Host, LiveOf, opened};
 use aug_trie_testing::rows::{Act, Line, Reply};
 use std::alloc::Global;
 use std::process::Abort;
 
 /// A trie that is not closed, and two of its users.
+#[derive(Drop)]
 pub(super) struct State {
     live: Option<LiveOf>,
     a: User,
@@ -24,17 +25,9 @@ pub(super) fn state_of(live: LiveOf, hands: Vec<HandleOf>) -> State {
     State { live, a, b }
 }
 
-/// Gives all up.
-fn end(state: State) {
-    let State { live, a, b } = state;
-    drop(live);
-    give_up(a);
-    give_up(b);
-}
-
 /// A trie with so many handles, spare lanes, and updates of a lane, in the place of another.
 fn begun(alloc: Global, state: State, numbers: (u32, u32, u32, u32)) -> Result<State, OpenError> {
-    end(state);
+    drop(state);
     let (live, hands) = opened(alloc, numbers.0, numbers.1, numbers.2, numbers.3)?;
     Ok(state_of(live, hands))
 }
@@ -44,13 +37,8 @@ fn acted<R: Host>(rt: &R, live: Option<LiveOf>, user: User, waits: bool, act: Ac
     let Act::Band(level, band) = act else {
         return done(rt, live, user, waits, act);
     };
-    match user {
-        User::Looks(mut look) => {
-            let count = look.ask(Band { level, band });
-            (live, User::Looks(look), Reply::Number(count))
-        }
-        user => (live, user, Reply::Not),
-    }
+    let (user, count) = by_look(user, Band { level, band });
+    (live, user, count.map_or(Reply::Not, Reply::Number))
 }
 
 /// What a line comes to, and what it should come to. Handles count nothing, so that it is passed over what passes count.
@@ -103,7 +91,7 @@ pub(super) fn rows<R: Host + Abort>(
             }
         };
     }
-    end(state);
+    drop(state);
     Ok(())
 }
 

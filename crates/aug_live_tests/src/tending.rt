@@ -4,7 +4,7 @@
 use super::steps::tables;
 use crate::assertions::equal;
 use aug_live::OpenError;
-use aug_live_testing::acting::{User, done, give_up, next_user};
+use aug_live_testing::acting::{User, done, next_user};
 use aug_live_testing::opening::{Host, LiveOf, opened};
 use aug_trie::Outcome::{Accepted, Refused, Replaced};
 use aug_trie_testing::rows::Act::*;
@@ -44,23 +44,30 @@ const PIECES: &[Line] = &[
     A(Roll, Done),
     A(Pairs, Listed(Some((9, 1)), None, None)),
     A(Close, Closed(1, 2, 4, 3)),
-    Row("a piece is laid out while a look is held, and none once a roll-over waits for it"),
+    Row("a piece is laid out while looks are open, and none where no part of the table is free"),
     Live(6, 2, 0, 4),
     A(Now(Insert(0)), Came(Accepted)),
     B(Look, Done),
     A(Tend, Done),
     A(Now(Insert(1)), Came(Accepted)),
-    B(Size, Number(1)),
+    A(Roll, Done),
+    A(Tend, Done),
     TryB(Roll, Later),
     A(Tend, Done),
-    TryA(Now(Insert(2)), Later),
-    B(Again, Done),
+    A(Now(Insert(2)), Came(Accepted)),
+    B(Now(Remove(0)), Came(Accepted)),
+    A(Tend, Done),
+    B(Pairs, Listed(Some((0, 0)), None, None)),
+    B(Again, NewRound),
+    A(Tend, Done),
+    B(Pairs, Listed(Some((1, 1)), Some((2, 2)), None)),
+    TryA(Roll, Done),
+    A(Tend, Done),
+    A(Now(Insert(3)), Came(Accepted)),
     B(Size, Number(2)),
     B(Over, Done),
-    A(Tend, Done),
-    TryA(Now(Insert(2)), Came(Accepted)),
-    A(Size, Number(3)),
-    B(Close, Closed(3, 2, 3, 0)),
+    B(Pairs, Listed(Some((1, 1)), Some((2, 2)), Some((3, 3)))),
+    B(Close, Closed(3, 3, 4, 1)),
     Row("a handle is given up and given on between pieces"),
     Live(6, 2, 1, 3),
     A(Fill(0, 2), Number(2)),
@@ -88,6 +95,7 @@ fn pieces_of_the_next_round_change_nothing_that_is_seen(rt: HostRuntime) -> Resu
 type Plain = [Option<u32>; 64];
 
 // A trie, the user that makes the next call, and the lane that this user had first.
+#[derive(Drop)]
 struct State {
     live: Option<LiveOf>,
     user: User,
@@ -191,15 +199,8 @@ fn assert_drawn<R: Host + Abort>(
         };
         (other, lane) = (user, was);
     }
-    let last = assert_all(rt, state, true, &plain);
-    let State {
-        live,
-        user,
-        lane: _,
-    } = last;
-    drop(live);
-    give_up(other);
-    give_up(user);
+    drop(assert_all(rt, state, true, &plain));
+    drop(other);
     Ok(())
 }
 

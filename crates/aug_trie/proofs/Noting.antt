@@ -24,20 +24,24 @@ use Rattle.aug_trie.specs.Chains.{Chapter, Chain, chain, chapters, BeginsWith, I
 use Rattle.aug_trie.specs.Note.{NoteFacts}
 use Rattle.aug_trie.specs.Pass.{PassFacts, chain_of}
 use Rattle.aug_trie.specs.Passes.{HasLearnt}
+use Rattle.aug_trie.specs.Reader.{TakesUp}
 use Rattle.aug_trie.specs.inside.Counted.{HasCounts}
 use Rattle.aug_trie.specs.inside.CrewState.{crew_facts, HoldsCrew}
 use Rattle.aug_trie.specs.inside.Knows.{knows, root_history, KnowsRound}
 use Rattle.aug_trie.specs.inside.NoteState.{note_facts}
 use Rattle.aug_trie.specs.inside.PassState.{pass_facts, known_in, IsPass}
+use Rattle.aug_trie.specs.inside.ReaderState.{HoldsReader}
 use Rattle.aug_trie.specs.inside.RoundState.{round_of, past_rounds}
 use Rattle.aug_trie.specs.declared.rounds.account.Account.{Account}
 use Rattle.aug_trie.proofs.Accepting.{knows_on, stands_on}
 use Rattle.aug_trie.proofs.Keeping.{weighs_later}
 use Rattle.aug_trie.proofs.Chaining.{begins_alike, either_part}
 use Rattle.aug_trie.proofs.Histories.{is_history}
+use Rattle.aug_trie.proofs.Lending.{reader_told}
 use Rattle.aug_trie.proofs.PassCalls.{Holds, SnapshotTaken, snapshot_taken}
 use Rattle.aug_trie.proofs.Passing.{pass_told}
 use Rattle.aug_trie.proofs.Snapshots.{root_node}
+use Rattle.aug_trie.proofs.Trees.{keeps_on}
 
 -- what a view knows of the rounds of its table
 abbrev view_chain : SeatView → Chain
@@ -179,6 +183,26 @@ module _ {A B : Type 0} (parts_a : Parts A) (parts_b : Parts B) (words : Option 
       let both : HasLearnt v.era (view_chain v) (knows v) (note_facts n) (view_chain w.view) (knows w.view) = learns_both f v n.view w.view number p.knows_table kn l n.table in record {
         learns = subst (λ (z : PassFacts × NoteFacts). HasLearnt z.0.round.era (chain_of z.0) z.0.knows z.1 (view_chain w.view) (knows w.view)) (λ j. (told.1 j, note_is j)) both;
         taken = snapshot_taken parts_a parts_b (Some mid) a now mid still told.1 refl number w loads table;
+      }
+
+  -- a reader was followed, and a snapshot was taken
+  pub record Followed (reader : PassFacts) (number : ℕ) (w : Known) : Type 0 where
+    pub takes_up : TakesUp reader (pass_facts w a.left)
+    pub learns : IsPart (chain_of reader) (view_chain w.view)
+    pub taken : SnapshotTaken parts_a parts_b now a number w
+
+  pub followed : (words' : Option Known) (bits : ℕ) (reader : PassFacts) (r w : Known) (number : ℕ) → HoldsReader f words' bits → words' ≡ Some r → pass_facts (known_in words') 0 ≡ reader → LearnsNote f k.view (noted r.view) number w.view → w.table ≡ k.table → Followed reader number w
+  followed words' bits reader r w number holds' there' facts' l table =
+      let of_reader = reader_told f words' r bits reader holds' there' facts' in let v : SeatView = k.view in
+      let n : Known = record { table = r.table; view = noted r.view } in let kn = noted_table f r.view of_reader.1 in
+      let learnt = note_learnt n w (note_facts n) number refl kn l table in
+      let knows_table : KnowsTable f w.view = learnt_table f v n.view w.view number told.0.knows_table kn l in
+      let shaped : w.view.shape ≡ r.view.shape = same_shape f v n.view w.view number told.0.knows_table kn l ∙ sym l.told.one_shape in record {
+        takes_up = subst (λ (z : PassFacts). TakesUp z (pass_facts w a.left)) of_reader.2 (λ one_era s has.
+            let both = l.of_both (one_era ∙ ap (λ (z : SeatView). z.era) l.loaded.stepped) in
+            let keeps = keeps_on parts_a parts_b r w 0 a.left of_reader.1 knows_table shaped both.from_second in (keeps.snapshots s has, keeps.same_sets s has));
+        learns = subst (λ (z : PassFacts). IsPart (chain_of z) (view_chain w.view)) of_reader.2 learnt.learns.takes_up;
+        taken = learnt.taken;
       }
 
 -- ---- crews

@@ -88,7 +88,7 @@ pub record CrewLooks (old new : CrewFacts) : Type 0 where
   pub knowledge : IsKnowledge new.round.bits new.round.members new.knows
   pub loads : LoadsRoot old new
 
--- the crew loads the root and lays the next round out further, in the part of the table that is not at work
+-- the crew loads the root and lays the next round out further, in a part of the table that is not at work
 pub record CrewPrepares (old new : CrewFacts) : Type 0 where
   pub crew_is : new ≡ record old { knows = new.knows; steps = new.steps; words = new.words }
   pub weights : KeepWeights old.words new.words

@@ -44,7 +44,7 @@ pub enum Act {
     Handed,
     Open,
     Back,
-    /// The pass, also amid an update by turns, or the handle, is given up.
+    /// The pass, also amid an update by turns, or the handle, is given up. A look that is open beside the handle stays.
     GiveUp,
     /// The number of the lane, and what its pass counts: insertions, removals, and updates that are left. Of a trie at rest, insertions, removals, and
     /// passes that did not come back.
@@ -73,7 +73,8 @@ pub enum Act {
     KeptOver(&'static [Change]),
     /// What a cursor passes over a new snapshot: on from the first key, on once more after the pass took the second key out, and back.
     PassesOver(u32, u32),
-    /// What changed from a key on over some updates; and as the keys from the first number on and below the second come in, or back from then.
+    /// What changed from a key on over some updates, or of a look, which makes none, since the snapshot before; and as the keys from the first number on and
+    /// below the second come in, or back from then.
     Since(&'static [Change], u32),
     Grown((u32, u32), u32, bool),
     /// How many of the keys of 2 bits are members, if the sums of all are those of each key.
@@ -88,7 +89,7 @@ pub enum Act {
     Note,
     /// How many updates are left to the lane of the handle.
     Room,
-    /// The handle takes a look, the look takes a newer snapshot, and it is over.
+    /// The handle takes a look, which stays open beside it, the look takes a newer snapshot, and it is over.
     Look,
     Again,
     Over,
@@ -97,10 +98,11 @@ pub enum Act {
     SelectByWeight(u64),
     /// A handle of the lane with this number comes in the place of the handle.
     Renew(u32),
-    /// The round rolls over, a piece of the next one is laid out, or the trie is closed.
+    /// The round rolls over, a piece of the next one is laid out, or the trie is closed, or dropped.
     Roll,
     Tend,
     Close,
+    DropTrie,
 }
 
 /// What an act comes to.
@@ -137,12 +139,15 @@ pub enum Reply {
 
     /// Memory was refused, twice if it was requested twice.
     NoMemory,
-    /// It would have to wait for a lock, or the round that the lane came into was spent at once.
+    /// It would have to wait for a lock, or for looks, or the round that the lane came into was spent at once.
     Later,
     Anew,
-    /// It was refused: the trie was closed, the lane has a newer handle, or there is no such lane.
+    /// The look took a newer snapshot, which is of another round.
+    NewRound,
+    /// It was refused: the trie was closed, the lane has a newer handle, or a look that is open, or there is no such lane.
     IsClosed,
     IsReplaced,
+    IsLooking,
     NoLane,
     /// It was refused for another cause.
     Fails,

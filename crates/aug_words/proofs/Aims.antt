@@ -4,7 +4,7 @@ use Rattle.std.proofs.Math.Nat.{min-le_right, mul-div_cancel}
 use Rattle.std.proofs.lemmas.Bool.{cases_eq}
 use mathlib.Core.Option.{some-injective}
 use Rattle.atomic_table.specs.Seated.{TableId}
-use Rattle.aug_core.specs.Places.{Shape, word_count}
+use Rattle.aug_core.specs.Places.{word_count}
 use Rattle.aug_core.specs.Effects.{Sat, stepping}
 use Rattle.aug_core.specs.Readers.{IsAside, lending, taking_reader, times_in, without}
 use Rattle.aug_core.specs.Rule.{Lists}
@@ -89,15 +89,15 @@ module _ (face : ℕ → ℕ → List (ℕ × ℕ) → List ℕ) (a : TableId) (
         (subst (λ (z : ℕ). z < length p.out.items) (sym where_next) n.0, (λ is. n.1 (sym where_next ∙ is)), n.2 ∙ ap (λ z. z * size) (sym where_next))),
   )
 
-  -- the part where a reader of its table reads
-  pub reader_part : (t : TableId) (base n : ℕ) (r : SeatView) → IsPlaced t base r → t ≡ a → r.shape ≡ v.shape → n ≡ size → (base / n < length p.out.items) × (r.base ≡ base / n * size)
-  reader_part t base n r placed one shape sized =
-      let starts : r.base ≡ placed.part * size = placed.starts ∙ ap (λ (z : Shape). placed.part * word_count z) shape in
-      let found : base / n ≡ placed.part = (λ i. (placed.base_is ∙ starts) i / sized i) ∙ mul-div_cancel placed.part some_words in
-      let inside : placed.part * size + size ≤ a.words = subst (λ (z : ℕ × Shape × TableId). z.0 + word_count z.1 ≤ z.2.words) (λ i. (starts i, shape i, one i)) placed.wide in
-      (subst (λ (z : ℕ). z < length p.out.items) (sym found) (part_of a p b other v.shape v.lent some_words lead.4 placed.part inside), starts ∙ ap (λ z. z * size) (sym found))
+  -- a reader that reads where none of its parts begins is none for which it answers
+  pub lead_elsewhere : (base n : ℕ) (r : SeatView) → base ≡ r.base → n ≡ size → (base / n * n ≢ base) ⊎ (length p.out.items ≤ base / n) → IsNotTaken v r
+  lead_elsewhere base n r at sized which = inl (λ has. let t = lead.4.starts r.base has in
+      let is : base ≡ t.0 * size = at ∙ t.2 in
+      let found : base / n ≡ t.0 = (λ i. is i / sized i) ∙ mul-div_cancel t.0 some_words in
+      ⊎_elim (λ (off : base / n * n ≢ base). absurd (off ((λ i. found i * sized i) ∙ sym is)))
+      (λ past. let low = t.1 in absurd (omega (arith, past, found))) which)
 
-  -- which it does not take back where none is counted, or too many are
+  -- nor does it take one back of a part where none is counted, or too many are
   pub lead_refuses : (part : ℕ) (r : SeatView) → part < length p.out.items → r.base ≡ part * size → (get_or p.out.items part 0 ≡ 0) ⊎ (get_or p.out.items part 0 ≡ 2 ^ 32 - 1) → IsNotTaken v r
   lead_refuses part r low at which = let times : times_in r.base v.lent ≡ times_in (part * size) v.lent = ap (λ (z : ℕ). times_in z v.lent) at in let counted = lead.4.counted part low in ⊎_elim
       (λ (none : get_or p.out.items part 0 ≡ 0). inl (λ has. let zero_times = counted_none (get_or p.out.items part 0) (times_in (part * size) v.lent) none counted in let some_times = times_has r.base v.lent has.0 has.1 in absurd (omega arith)))

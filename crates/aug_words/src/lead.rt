@@ -192,13 +192,18 @@ impl<A: Monoid, B: Monoid> Lead<A, B> {
         reader: WordReader<A, B>,
     ) -> Result<(), WordReader<A, B>>
         requires together { AreTogether words.now self.old }
-        requires reader { AreTogether words.now reader }
+        requires reader { reader.table ≡ self.old.table }
         ensures table { self.new.table ≡ self.old.table }
         ensures taken { IfOk result (λ _. self.new.view ≡ taking_reader self.old.view reader.view) }
         ensures same { IfErr result (λ r. (r ≡ reader) × (self.new ≡ self.old)) }
         ensures refused { IfErr result (λ _. IsNotTaken self.old.view reader.view) }
     {
-        let part = reader.base / words.layout.words() as usize;
+        // What was lent began with a part: a reader elsewhere, as of another layout, is none of these.
+        let size = words.layout.words() as usize;
+        let part = reader.base / size;
+        if part * size != reader.base || part >= self.parts.out.len() {
+            return Err(reader);
+        }
         if !self.parts.take(part) {
             return Err(reader);
         }

@@ -9,6 +9,7 @@ ghost use Rattle.aug_words.specs.Seats.{AreTogether};
 
 use crate::lead::Lead;
 use crate::pass::WordPass;
+use crate::reader::WordReader;
 use crate::words::Words;
 use atomic_table::Seat;
 use aug_core::{LoadAfterNote, MakeNote, SeatView, SharedWords, TakeNote};
@@ -67,6 +68,17 @@ impl<'r, A: Monoid, B: Monoid> WordPass<'r, A, B> {
         let WordNote { seat } = note;
         self.words.join_seat::<TakeNote>(&mut self.seat, seat);
         self.load_after_note()
+    }
+
+    /// Learns what a reader had seen, as it learns a note of it, and loads the root: the number of its newest record. The reader stays as it is.
+    pub fn follow(&mut self, reader: &mut WordReader<A, B>) -> u64
+        requires table { reader.old.table ≡ self.old.table }
+        ensures reader { reader.new ≡ reader.old }
+        ensures table { self.new.table ≡ self.old.table }
+        ensures learns { LearnsNote (face A.parts B.parts) self.old.view (noted reader.old.view) result self.new.view }
+    {
+        let seat = self.words.split_seat::<MakeNote>(&mut reader.seat);
+        self.learn(WordNote { seat })
     }
 
     // Loads the root after a note was taken in.

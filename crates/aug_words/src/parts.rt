@@ -14,16 +14,16 @@ pub(crate) struct Parts {
 }
 
 impl Parts {
-    /// So many parts, of which the first is at work and the last is laid out next, and in which nobody reads.
+    /// So many parts, in which nobody reads. The first is at work, and the second is laid out next, if there is more than one.
     pub(crate) fn new(alloc: Global, count: usize) -> Result<Parts, AllocError>
         requires { 0 < count }
         ensures own { IfOk result (λ p. p.own ≡ 0) }
-        ensures next { IfOk result (λ p. p.next ≡ count - 1) }
+        ensures next { IfOk result (λ p. p.next ≡ min 1 (count - 1)) }
         ensures out { IfOk result (λ p. p.out.items ≡ replicate count 0) }
     {
         Ok(Parts {
             own: 0,
-            next: count - 1,
+            next: (count - 1).min(1),
             out: Vec::from_elem(alloc, 0, count)?,
         })
     }

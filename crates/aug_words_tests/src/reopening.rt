@@ -25,7 +25,7 @@ fn opened_twice_again(
     requires members_fit { All FitsPair members.now }
     ensures { IfOk result (λ rest. rest.shape ≡ layout.now) }
 {
-    let (words, mut lead) = WordsOf::open(alloc, layout, members)?;
+    let (words, mut lead) = WordsOf::open(alloc, layout, 2, members)?;
     lead.prepare(&words, 0);
     lead.prepare(&words, 1);
     lead.prepare(&words, 7);
@@ -43,7 +43,7 @@ fn opened(alloc: Global, layout: &Layout, members: &[(u32, u32)]) -> Result<Rest
     requires members_fit { All FitsPair members.now }
     ensures { IfOk result (λ rest. rest.shape ≡ layout.now) }
 {
-    let (words, lead) = WordsOf::open(alloc, layout, members)?;
+    let (words, lead) = WordsOf::open(alloc, layout, 2, members)?;
     Ok(words.close(lead))
 }
 

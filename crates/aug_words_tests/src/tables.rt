@@ -36,7 +36,7 @@ pub(super) fn table_of(
     let Ok(layout) = Layout::new(bits, workers, updates, room) else {
         return Err(AllocError)
     };
-    Words::open(alloc, &layout, members)
+    Words::open(alloc, &layout, 2, members)
 }
 
 // A table of 2 bits, 3 workers and 2 updates, which opens with the keys 0 and 1.

@@ -57,13 +57,12 @@ fn depth(book: &mut Book, from: u32, to: u32) -> u64 {
 fn watch<R: Wait>(rt: &R, mut user: User) -> Result<bool, LiveError> {
     let mut agree = true;
     for _ in 0..500 {
-        let mut book = user.look(rt).map_err(|(_, cause)| cause)?;
+        let mut book = user.look(rt)?;
         let bids = depth(&mut book, 0, MIDDLE);
         if bids > 0 {
             agree &= book.ask(SelectByWeight(bids - 1)) == best_bid(&mut book);
         }
         agree &= book.ask(SelectByWeight(bids)) == best_offer(&mut book);
-        user = book.done();
     }
     Ok(agree)
 }
@@ -73,7 +72,7 @@ fn opened(alloc: Global) -> anyhow::Result<(Live<Sum, Extent>, Vec<User>)>
     ensures { IfOk result (λ t. vec_len t.1 ≡ 5) }
 {
     let set = Members::empty(alloc, 12)?;
-    Ok(Live::open(alloc, set, 5, 1 << 20).map_err(|(_, cause)| cause)?)
+    Ok(Live::open(alloc, set, 5, 1 << 21).map_err(|(_, cause)| cause)?)
 }
 
 // Four users trade, and a fifth one watches: whether each of its looks agreed with itself.
@@ -117,9 +116,7 @@ fn figures_of(book: &mut Book) -> Figures {
 // What the book shows to a new handle, in the lane of a thread that has ended, and the number of its prices.
 fn closed<R: Wait>(rt: &R, live: Live<Sum, Extent>) -> Result<(Figures, u32), LiveError> {
     let mut live = live;
-    let mut book = live.handle(rt, 0)?.look(rt).map_err(|(_, cause)| cause)?;
-    let last = figures_of(&mut book);
-    book.done();
+    let last = figures_of(&mut live.handle(rt, 0)?.look(rt)?);
     Ok((last, live.close(rt).0.size()))
 }
 

@@ -22,10 +22,9 @@ fn offer<R: Wait>(rt: &R, mut user: Handle<Sum, Nothing>) -> Result<(), LiveErro
 fn watch<R: Wait>(rt: &R, mut user: Handle<Sum, Nothing>) -> Result<bool, LiveError> {
     let mut agree = true;
     for _ in 0..500 {
-        let mut now = user.look(rt).map_err(|(_, cause)| cause)?;
+        let mut now = user.look(rt)?;
         let (count, low) = (now.ask(Rank(2_000)), now.ask(Range(0, 2_000)));
         agree &= low.count == count && low.a.value() == 10 * u64::from(count);
-        user = now.done();
     }
     Ok(agree)
 }

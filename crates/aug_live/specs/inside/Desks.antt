@@ -64,6 +64,7 @@ pub record IsWorking (lanes updates : ℕ) (counts : LiveCounts) (table : TableF
   pub led : Leads table.bits crew.past crew.round.members
   pub counted : AreCounts counts (length crew.round.members)
   pub rounds_are : counts.rounds ≡ length crew.past + 1
+  pub era_is : counts.rounds ≡ crew.round.era + 1
   pub accounts : Accounts table.bits counts crew (map kept_of ports)
   pub few_inserts : counts.inserts + 2 ^ 32 ≤ 2 ^ 64
   pub few_removals : counts.removals + 2 ^ 32 ≤ 2 ^ 64

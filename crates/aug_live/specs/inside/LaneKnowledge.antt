@@ -8,7 +8,7 @@ use Rattle.aug_trie.specs.Round.{RoundFacts, table_of}
 use Rattle.aug_core.specs.Prefixes.{IsPrefix}
 use Rattle.atomic_table.specs.Seated.{TableId}
 use Rattle.aug_live.specs.Ledgers.{Made, dated}
-use Rattle.aug_live.specs.LiveHandles.{HandleFacts, IsSuccessor, WhoFacts, Follows, added}
+use Rattle.aug_live.specs.LiveHandles.{HandleFacts, IsSuccessor, WhoFacts, Follows, Runs, added}
 use Rattle.aug_live.specs.LiveTries.{Done, LaneKnown, TrieFacts, made_through}
 use Rattle.aug_live.specs.declared.lane.Obstacle.{Obstacle}
 use Rattle.aug_live.specs.declared.lane.Obstacle.TheVariants.{Held, Round, Replaced}
@@ -54,6 +54,10 @@ stands era half = record { who = nobody; era = era; half = half; made = [] }
 
 abbrev pub nothing_known : HandleFacts
 nothing_known = stands 0 no_half
+
+-- an era has the number of its round in its table, which counts from 0
+abbrev pub IsDated : ℕ → PassFacts → Type 0
+IsDated era half = 0 < era → era ≡ half.round.era + 1
 
 -- a lane: whether a pass of its round lies in it, and not only what the last one knew; the number of its handle, and whether that is out; and where it stands
 pub record LaneFacts : Type 0 where
@@ -262,3 +266,19 @@ pub record RunsHere (does : PassFacts → PassFacts → Type 0) (old new : Handl
 -- it makes no update, and knows as much as before, or more
 abbrev pub MakesNothing : PassFacts → PassFacts → Type 0
 MakesNothing old new = IsSuccessor old new × (new.knows.accepted ≡ old.knows.accepted)
+
+-- an end is that of the same handle still, and of a pass in the same table
+pub record IsSameEnd (old new : EndFacts) : Type 0 where
+  pub lock : new.lock ≡ old.lock
+  pub whose : new.known.whose ≡ old.known.whose
+  pub number : new.known.number ≡ old.known.number
+  pub some_era : 0 < new.known.at.era
+  pub together : table_of new.known.at.half.round ≡ table_of old.known.at.half.round
+  pub bits : new.known.at.half.round.bits ≡ old.known.at.half.round.bits
+
+-- whatever its handle knows of its trie, that runs an operation with it, or finds its lane where it can go on
+abbrev pub EndRuns : (PassFacts → PassFacts → Type 0) → EndFacts → EndFacts → Type 0
+EndRuns does old new = (trie : TrieFacts) (lane : ℕ) → Runs does (handle_by trie lane (Some old)) (handle_by trie lane (Some new))
+
+abbrev pub EndFollows : EndFacts → EndFacts → Type 0
+EndFollows old new = (trie : TrieFacts) (lane : ℕ) → Follows (handle_by trie lane (Some old)) (handle_by trie lane (Some new))

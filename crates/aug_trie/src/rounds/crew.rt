@@ -100,8 +100,9 @@ impl<A: Monoid, B: Monoid> Crew<A, B> {
         lead.survey(&round.words);
     }
 
-    /// Loads the root, and then lays the next round out, from where the call before stopped: in the part of the table that is not at work it brings about
-    /// so many nodes up to the last cut. The round has room for all keys. True if nothing is left to do until the set changes.
+    /// Loads the root, and then lays the next round out, from where the call before stopped: in a part of the table that is not at work, and in which no
+    /// reader is out, it brings about so many nodes up to the last cut. The round has room for all keys. True if nothing is left to do until the set
+    /// changes, or if readers are out in each other part.
     pub fn prepare(&mut self, round: &Round<A, B>, nodes: u32) -> bool
         requires together { table_of self.old.round ≡ round.now }
         requires room { 2 ^ self.old.round.bits ≤ self.old.round.room }
@@ -136,7 +137,7 @@ impl<A: Monoid, B: Monoid> Crew<A, B> {
         reader: Reader<A, B>,
     ) -> Result<(), Reader<A, B>>
         requires together { table_of self.old.round ≡ round.now }
-        requires reader { table_of reader.round ≡ round.now }
+        requires reader { reader.round.table ≡ self.old.round.table }
         ensures crew { self.new ≡ self.old }
         ensures same { IfErr result (λ r. r ≡ reader) }
     {

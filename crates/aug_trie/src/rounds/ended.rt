@@ -12,6 +12,7 @@ ghost use Rattle.aug_trie.specs.Ended.{IsEmptyTrie, set_of_ended};
 
 use crate::error::BeginError;
 use crate::rounds::members::Members;
+use crate::rounds::round::PARTS;
 use aug_core::{Layout, RecordField};
 use aug_monoid::Monoid;
 use aug_query::{Calls, pairs};
@@ -58,7 +59,7 @@ impl<A: Monoid, B: Monoid> Ended<A, B> {
         let Ok(layout) = Layout::new(bits, 1, 1, 0) else {
             return Err(BeginError::BadBits);
         };
-        match Words::open(alloc, &layout, &[]) {
+        match Words::open(alloc, &layout, PARTS, &[]) {
             Ok((words, lead)) => Ok(Ended::at_rest(words, lead, bits)),
             Err(AllocError) => Err(BeginError::OutOfMemory),
         }

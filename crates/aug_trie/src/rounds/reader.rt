@@ -1,12 +1,16 @@
 //! Readers of a round, which its passes lend.
-ghost use Rattle.std.specs.Prelude.{◌≡◌, take, IfErr};
+ghost use Rattle.std.specs.Prelude.{◌≡◌, [], ◌∷◌, ◌++◌, take, IfErr};
+ghost use Rattle.aug_core.specs.Kinds.{load_node};
 ghost use Rattle.aug_model.specs.Differences.{changes_from};
 ghost use Rattle.aug_model.specs.Folds.{summary_of};
+ghost use Rattle.aug_trie.specs.Chains.{IsPart};
 ghost use Rattle.aug_trie.specs.Comparing.{compare_steps};
-ghost use Rattle.aug_trie.specs.Node.{Reads, steps_for};
-ghost use Rattle.aug_trie.specs.Reader.{Lends};
-ghost use Rattle.aug_trie.specs.Round.{table_of};
-ghost use Rattle.aug_trie.specs.Snapshot.{HasSnapshot, set_at};
+ghost use Rattle.aug_trie.specs.Node.{Keeps, Reads, steps_for};
+ghost use Rattle.aug_trie.specs.Pass.{GoesOn, chain_of};
+ghost use Rattle.aug_trie.specs.Reader.{Lends, TakesUp};
+ghost use Rattle.aug_trie.specs.Round.{root_of, table_of};
+ghost use Rattle.aug_trie.specs.Snapshot.{HasSnapshot, set_at, snapshot_cut};
+ghost use Rattle.aug_trie.specs.Updates.{TakesSnapshot};
 
 use crate::queries::both_walk::BothWalk;
 use crate::queries::record_words::ReaderWords;
@@ -124,5 +128,28 @@ impl<'r, A: Monoid, B: Monoid> Pass<'r, A, B> {
                 bits,
             }),
         }
+    }
+
+    /// Learns what a reader of this table knows, as it learns a note, and takes a snapshot, by one load of the root's word. The reader stays as it is. The
+    /// pass of a reader's round has the reader's snapshots from then on, and so has each reader that it lends.
+    pub fn follow(&mut self, reader: &mut Reader<A, B>) -> Snapshot
+        requires table { reader.old.round.table ≡ self.old.round.table }
+        ensures reader { reader.new ≡ reader.old }
+        ensures takes_up { TakesUp reader.old self.new }
+        ensures learns { IsPart (chain_of reader.old) (chain_of self.new) }
+        ensures takes { TakesSnapshot self.old.knows self.new.knows (snapshot_cut self.new result.number) }
+        ensures known { HasSnapshot self.new result.number }
+        ensures goes_on { GoesOn 0 1 self.old self.new }
+        ensures step { self.new.steps ≡ self.old.steps ++ load_node (root_of self.old.round) result.number ∷ [] }
+        ensures keeps { Keeps (summary_of A.parts B.parts) self.old self.new }
+    {
+        let Some(followed) = &mut reader.words else {
+            unreachable!()
+        };
+        let Some(words) = &mut self.words else {
+            unreachable!()
+        };
+        let number = words.follow(followed);
+        Snapshot { number }
     }
 }

@@ -20,6 +20,9 @@ use aug_words::Words;
 use std::alloc::{AllocError, Global};
 use std::marker::Model;
 
+// How many parts the table of a round has where its caller gives no number and the set has all keys: one is at work, and one is for the next round.
+pub(crate) const PARTS: u32 = 2;
+
 /// What the crew of a round and its passes share: the table that they work on. It is the same value from one round to the next, so a shared
 /// reference renews it; which round it is, the crew knows, and its passes.
 #[derive(Drop)]
@@ -105,7 +108,7 @@ impl<A: Monoid, B: Monoid> Round<A, B> {
         let Ok(members) = pairs(alloc, &mut ended) else {
             return Err((ended, BeginError::OutOfMemory));
         };
-        match Round::over(alloc, layout, members.as_slice()) {
+        match Round::over(alloc, layout, PARTS, members.as_slice()) {
             Ok(begun) => Ok(begun),
             Err(AllocError) => Err((ended, BeginError::OutOfMemory)),
         }
@@ -140,21 +143,24 @@ impl<A: Monoid, B: Monoid> Round<A, B> {
             Ok(layout) => layout,
             Err(cause) => return Err((members, BeginError::from(cause))),
         };
-        match Round::over(alloc, layout, members.as_slice()) {
+        match Round::over(alloc, layout, PARTS, members.as_slice()) {
             Ok(begun) => Ok(begun),
             Err(AllocError) => Err((members, BeginError::OutOfMemory)),
         }
     }
 
-    /// Begins a round over a set that was listed, with its bits and with room for all keys. Such a round can be renewed (`renew`). The
-    /// numbers are those of a table that can be laid out, so it is refused only for lack of memory, and then the same list comes back.
+    /// Begins a round over a set that was listed, with its bits and with room for all keys. Such a round can be renewed (`renew`). Its table
+    /// has so many parts, 2 or more: each round works in one, and in the others the readers of earlier rounds read on. The numbers are those
+    /// of a table that can be laid out, so it is refused only for lack of memory, and then the same list comes back.
     pub fn begin_for_all(
         alloc: Global,
         members: Members,
         workers: u32,
         updates: u32,
+        parts: u32,
     ) -> Result<(Round<A, B>, Crew<A, B>), Members>
-        requires { IsLayout (shape_of members.bits workers updates (2 ^ members.bits)) }
+        requires parts { 2 ≤ parts }
+        requires laid_out { IsLayout (shape_of members.bits workers updates (2 ^ members.bits)) }
         ensures begun { IfOk result (λ t. BeginsIn (2 ^ members.bits) members.pairs members.bits workers updates t.0 t.1) }
         ensures same { IfErr result (λ e. e ≡ members) }
     {
@@ -162,24 +168,26 @@ impl<A: Monoid, B: Monoid> Round<A, B> {
         let Ok(layout) = Layout::new(bits, workers, updates, members.universe()) else {
             unreachable!()
         };
-        match Round::over(alloc, layout, members.as_slice()) {
+        match Round::over(alloc, layout, parts, members.as_slice()) {
             Ok(begun) => Ok(begun),
             Err(AllocError) => Err(members),
         }
     }
 
-    // The round of a layout over a set, for which it has room.
+    // The round of a layout over a set, for which it has room. If it has room for all keys, its table has so many parts.
     fn over(
         alloc: Global,
         layout: Layout,
+        parts: u32,
         members: &[(u32, u32)],
     ) -> Result<(Round<A, B>, Crew<A, B>), AllocError>
         requires keys { IsKeySet layout.bits (keys_of members.now) }
         requires fit { All FitsPair members.now }
         requires few { length members.now ≤ layout.members }
+        requires parts { 2 ≤ parts }
         ensures { IfOk result (λ t. BeginsIn layout.members members.now layout.bits layout.workers layout.updates t.0 t.1) }
     {
-        let (words, lead) = Words::open(alloc, &layout, members)?;
+        let (words, lead) = Words::open(alloc, &layout, parts, members)?;
         let crew = Crew {
             lead: Some(lead),
             back: 0,

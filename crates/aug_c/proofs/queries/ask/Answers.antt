@@ -3,7 +3,7 @@ use Rattle.aug_c.specs.Handles.{state_in}
 use Rattle.aug_c.proofs.Calls.{looking_call}
 use Rattle.aug_c.proofs.queries.ask.Goals as goal
 
-pub returns-in-Looking : goal.returns-in-Looking
-returns-in-Looking g c = let code : to_z w64 (of_z w64 c.number.result) ≡ c.number.result = search rules in
-    looking_call _ _ c.args.user.now _ c.in-Looking.held c.held.inside.look c.ask.new.self _ c.number.result (c.is_open.ensures.0 c.if-not-is_open.false) (ap state_in c.as_slot.ensures.value ∙ c.in-Looking.is) c.held.view_is refl refl code
+pub returns-in-Some : goal.returns-in-Some
+returns-in-Some g c = let code : to_z w64 (of_z w64 c.number.result) ≡ c.number.result = search rules in
+    looking_call _ _ c.args.user.now _ c.in-User.held c.held.inside.access c.held.inside.look c.in-Some.look c.ask.new.self _ c.number.result (c.is_open.ensures.0 c.if-not-is_open.false) (ap state_in c.as_slot.ensures.value ∙ c.in-User.is) c.held.view_is c.in-Some.is refl refl code
     (record { answer = c.ask.result; is = c.ask.ensures.answer; says = c.number.ensures; most = _; asked = c.ask.ensures.asked })

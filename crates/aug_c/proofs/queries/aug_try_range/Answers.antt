@@ -6,8 +6,8 @@ use Rattle.aug_c.specs.UserCalls.{IsSpan}
 use Rattle.aug_c.proofs.Calls.{looking_call}
 use Rattle.aug_c.proofs.queries.aug_try_range.Goals as goal
 
-pub returns-in-Looking : goal.returns-in-Looking
-returns-in-Looking c = let code : to_z w64 (of_z w64 c.from.result) ≡ c.from.result = search rules in
-    let says : c.from.result ≡ pos (length (weighted_range_of (set_of_look c.held.inside.look).pairs c.args.from c.args.to)) = search rules in
-    looking_call _ _ c.args.user.now _ c.in-Looking.held c.held.inside.look c.ask-told.new.self _ c.from.result (c.is_open.ensures.0 c.if-not-is_open.false) (ap state_in c.as_slot.ensures.value ∙ c.in-Looking.is) c.held.view_is refl refl code
+pub returns-in-Some : goal.returns-in-Some
+returns-in-Some c = let code : to_z w64 (of_z w64 c.from.result) ≡ c.from.result = search rules in
+    let says : c.from.result ≡ pos (length (weighted_range_of (set_of_look c.in-Some.look).pairs c.args.from c.args.to)) = search rules in
+    looking_call _ _ c.args.user.now _ c.in-User.held c.held.inside.access c.held.inside.look c.in-Some.look c.ask-told.new.self _ c.from.result (c.is_open.ensures.0 c.if-not-is_open.false) (ap state_in c.as_slot.ensures.value ∙ c.in-User.is) c.held.view_is c.in-Some.is refl refl code
     (record { asks = record { says = says; most = _; asked = c.ask-told.ensures.asked }; is = subst (λ told. IsSpan told c.span_from.result) c.ask-told.ensures.answer c.span_from.ensures })

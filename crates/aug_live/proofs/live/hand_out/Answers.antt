@@ -60,18 +60,22 @@ invariant_of-push_reserved-in-loop-end g c =
     let parts : length (into_iter_items all) ≡ length was.3.front + length (into_iter_items c.loop-end.end-iterator) = ap length was.3.ends_are ∙ length-append was.3.front _ in
     let some : 0 < into_iter_len c.loop-end.end-iterator = omega (arith, step.1) in
     let mine = head_of (IsHandleEnd 1 (arc_value c.args.round.value)) _ c.in-Some.end _ _ step.0 some was.2 in
-    let before : length was.3.front ≡ vec_len c.loop-end.handles = omega (arith, was.0, was.4, long, parts) in record {
-      mine = c.in-Some.end;
-      there = refl;
-      whose = mine.whose;
-      id = ap (λ (z : List TableId). get_elem? z c.len-lane.result) (ap ids_of knows)
-          ∙ end_at (ids_of trie) (into_iter_items all) was.3.front (into_iter_items c.next.new.self) c.in-Some.end c.len-lane.result (ap (map (λ (e : EndFacts). e.lock)) gives ∙ c.requires.locks) (was.3.ends_are ∙ ap (λ (z : List EndFacts). was.3.front ++ z) step.0) (before ∙ sym c.len-lane.ensures);
-      number_is = mine.number_is;
-      some_era = mine.some_era;
-      together = mine.together ∙ ap (λ (z : TableFacts × TableId). z.0) (sym share ∙ sym c.share.view_is);
-      bits_are = ap (λ (z : TableFacts). z.bits) mine.together ∙ sym c.requires.bits;
-      few_bits = omega (arith, mine.few_bits, c.requires.bits);
-    }
+    let before : length was.3.front ≡ vec_len c.loop-end.handles = omega (arith, was.0, was.4, long, parts) in (
+      record {
+        mine = c.in-Some.end;
+        there = refl;
+        whose = mine.whose;
+        id = ap (λ (z : List TableId). get_elem? z c.len-lane.result) (ap ids_of knows)
+            ∙ end_at (ids_of trie) (into_iter_items all) was.3.front (into_iter_items c.next.new.self) c.in-Some.end c.len-lane.result (ap (map (λ (e : EndFacts). e.lock)) gives ∙ c.requires.locks) (was.3.ends_are ∙ ap (λ (z : List EndFacts). was.3.front ++ z) step.0) (before ∙ sym c.len-lane.ensures);
+        number_is = mine.number_is;
+        some_era = mine.some_era;
+        together = mine.together ∙ ap (λ (z : TableFacts × TableId). z.0) (sym share ∙ sym c.share.view_is);
+        bits_are = ap (λ (z : TableFacts). z.bits) mine.together ∙ sym c.requires.bits;
+        few_bits = omega (arith, mine.few_bits, c.requires.bits);
+      },
+      c.share.invariant,
+      ap (λ (z : TrieFacts). z.table) knows ∙ c.requires.table ∙ ap (λ (z : TableFacts × TableId). z.0.table) (sym share ∙ sym c.share.view_is),
+    )
 
 pub loop-end-preserved : goal.loop-end-preserved
 loop-end-preserved g c =

@@ -23,6 +23,7 @@ open-port-requires g c =
       first = mine.0;
       number = mine.1;
       together = ap table_of here ∙ c.requires.together;
+      first_era = ap (λ (z : RoundFacts). z.era) here ∙ c.requires.first_era;
       lane_left = let workers = ap (λ (z : RoundFacts). z.workers) here in omega (arith, was.0, was.5, some, c.requires.lanes, workers);
     }
 

@@ -19,6 +19,7 @@ begin-requires g c =
       led = subst (λ (z : RoundFacts × List Chapter). Leads z.0.bits z.1 z.0.members) (sym was.3) c.requires.led;
       some = c.requires.some;
       small = c.requires.small;
+      era = ap (λ (z : RoundFacts). z.era) here ∙ c.requires.era;
       together = ap table_of here ∙ c.requires.together;
       lane_left = let workers = ap (λ (z : RoundFacts). z.workers) here in omega (arith, was.0, was.6, shrunk, c.requires.lanes, workers);
     }

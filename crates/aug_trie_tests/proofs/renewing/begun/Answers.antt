@@ -11,5 +11,5 @@ own = refl
 laid_out : IsLayout (shape_of 4 2 2 16)
 laid_out = record { bits = (omega arith, omega arith); workers = (omega arith, omega arith); updates = (omega arith, omega arith); words = omega (arith, own) }
 
-pub begin_for_all-requires : goal.begin_for_all-requires
-begin_for_all-requires c = subst (λ (z : ℕ). IsLayout (shape_of z 2 2 (2 ^ z))) (sym c.requires) laid_out
+pub begin_for_all-requires-clause-laid_out : goal.begin_for_all-requires-clause-laid_out
+begin_for_all-requires-clause-laid_out c = subst (λ (z : ℕ). IsLayout (shape_of z 2 2 (2 ^ z))) (sym c.requires.bits) laid_out

@@ -32,7 +32,7 @@ take_in-requires-clause-lock g c = let w = c.self.inside in let low = port_low c
 
 pub invariant_of-self-in-Err : goal.invariant_of-self-in-Err
 invariant_of-self-in-Err g c = let w = c.self.inside in let low = port_low c.args.self.now w.ports.items w.held.items c.args.lane (ap (λ (z : TrieFacts). z.lanes) c.self.view_is) (omega (arith, ap (λ (z : TrieFacts). z.held) c.self.view_is)) c.requires.settled c.requires.lane in let inv = c.self.invariant in
-    (stays w.ports.items (reverse w.held.items) c.self.invariant.0 c.args.lane c.index_mut.result.now low c.index_mut.ensures.value c.take_in.new.self w.crew c.in-Err.ensures.kept.0 refl, inv.1, inv.2, inv.3, inv.4, inv.5, inv.6, inv.7)
+    (stays w.ports.items (reverse w.held.items) c.self.invariant.0 c.args.lane c.index_mut.result.now low c.index_mut.ensures.value c.take_in.new.self w.crew c.in-Err.ensures.kept.0 refl, inv.1, inv.2, inv.3, inv.4, inv.5, inv.6, inv.7, inv.8, inv.9)
 
 pub overflow_sub-self : goal.overflow_sub-self
 overflow_sub-self g c = let w = c.self.inside in let low = port_low c.args.self.now w.ports.items w.held.items c.args.lane (ap (λ (z : TrieFacts). z.lanes) c.self.view_is) (omega (arith, ap (λ (z : TrieFacts). z.held) c.self.view_is)) c.requires.settled c.requires.lane in let out : out_of c.index_mut.result.now.known.whose ≡ 1 = ap out_of c.in-Ok.ensures.was in let some_missing = missing_low w.ports.items (reverse w.held.items) c.self.invariant.0 c.args.lane c.index_mut.result.now low c.index_mut.ensures.value in omega arith
@@ -51,6 +51,8 @@ invariant_of-self g c =
       inv.5,
       inv.6,
       inv.7,
+      inv.8,
+      inv.9,
     )
 
 -- the lane goes on, and its handle is done

@@ -11,11 +11,12 @@ use mathlib.Core.Option.{some}
 use lib.ListN.{get_elem?}
 use Rattle.std.specs.Prelude.{reverse}
 use Rattle.aug_live.specs.LiveHandles.{HandleFacts}
-use Rattle.aug_live.specs.LiveTries.{LaneKnown, TrieFacts, ids_of}
+use Rattle.aug_live.specs.LiveTries.{KnowsMore, LaneKnown, TrieFacts, ids_of}
 use Rattle.aug_live.specs.inside.LaneKnowledge.{is_out_by, lane_by}
 use Rattle.aug_live.specs.inside.Rolls.{kept_of}
 use Rattle.aug_live.proofs.Accounting.{few_handles, few_missing}
 use Rattle.aug_live.proofs.Counted.{desk_on}
+use Rattle.aug_live.proofs.Desks.{slots_as}
 use Rattle.aug_live.proofs.Dealing.{gets_counts, gets_lane}
 use Rattle.aug_live.proofs.Lanes.{ids_same, lanes_same, more_self}
 use Rattle.aug_live.proofs.OneLane.{as_before, begun, handles_on, id_stood, lane_is, lanes_on, mine, number_low, stays}
@@ -40,6 +41,16 @@ returns-then-self-clause-refused g c = let w = c.self.inside in let all = w.port
     subst (λ (z : TrieFacts). 2 ^ 64 ≤ sum_by (λ (l : LaneKnown). length l.done) z.lanes + length z.lanes + 1) c.self.view_is
     (elim c.then-self.branch [ then-self-via-then-self b ↦ omega arith | then-self-via-else-self+then-self-2 b ↦ omega arith ])
 
+pub end_of-requires-clause-slots : goal.end_of-requires-clause-slots
+end_of-requires-clause-slots g c = let there : arc_value c.self.inside.round ≡ c.deref.result.now = search rules in slots_as _ _ c.self.inside.slots.items there c.self.invariant.8
+
+pub invariant_of-self : goal.invariant_of-self
+invariant_of-self g c = let inv = c.self.invariant in let there : arc_value c.self.inside.round ≡ c.deref.result.now = search rules in
+    (inv.0, inv.1, inv.2, inv.3, inv.4, inv.5, inv.6, inv.7, slots_as _ _ c.end_of.new.slots.items (sym there) c.end_of.ensures.slots, c.end_of.ensures.len ∙ inv.9)
+
+pub returns-in_default-end_of-clause-more : goal.returns-in_default-end_of-clause-more
+returns-in_default-end_of-clause-more g c = subst (KnowsMore c.args.self.now) (sym c.self.view_is) (more_self c.args.self.now)
+
 pub renew-requires-clause-of_round : goal.renew-requires-clause-of_round
 renew-requires-clause-of_round g c = let w = c.self.inside in mine w.ports.items (reverse w.held.items) c.self.invariant.0 c.args.lane c.index_mut.result.now (omega arith) c.index_mut.ensures.value
 
@@ -49,9 +60,9 @@ renew-requires-clause-some g c = let w = c.self.inside in begun w.ports.items (r
 pub renew-requires-clause-newer : goal.renew-requires-clause-newer
 renew-requires-clause-newer g c = let w = c.self.inside in let number = number_low w.ports.items (reverse w.held.items) c.self.invariant.0 c.args.lane c.index_mut.result.now (omega arith) c.index_mut.ensures.value in omega arith
 
-pub invariant_of-self : goal.invariant_of-self
-invariant_of-self g c =
-    let inv = c.self.invariant in let w = c.self.inside in let gets = c.in-Ok-renew.ensures.gets in let old = c.index_mut.result.now in let number = gets.number_is in
+pub invariant_of-self-in-Ok-renew : goal.invariant_of-self-in-Ok-renew
+invariant_of-self-in-Ok-renew g c =
+    let inv = c.self.invariant in let w = c.self.inside in let there : arc_value w.round ≡ c.deref.result.now = search rules in let gets = c.in-Ok-renew.ensures.gets in let old = c.index_mut.result.now in let number = gets.number_is in
     let counts = gets_counts _ old c.renew.new.self (mine w.ports.items (reverse w.held.items) c.self.invariant.0 c.args.lane c.index_mut.result.now (omega arith) c.index_mut.ensures.value).whose gets in (
       handles_on w.ports.items (reverse w.held.items) c.self.invariant.0 c.args.lane c.index_mut.result.now (omega arith) c.index_mut.ensures.value c.renew.new.self c.renew.new.crew (w.counts.handles + 1) (w.counts.missing + 1) c.renew.ensures.same c.in-Ok-renew.ensures.port gets.before (omega arith) (omega (arith, number)) (omega (arith, counts.0)) (omega (arith, counts.1)),
       inv.1,
@@ -61,11 +72,13 @@ invariant_of-self g c =
       inv.5,
       inv.6,
       inv.7,
+      slots_as _ _ c.end_of.new.slots.items (sym there) c.end_of.ensures.slots,
+      c.end_of.ensures.len ∙ inv.9,
     )
 
 pub invariant_of-self-in-Err-renew : goal.invariant_of-self-in-Err-renew
-invariant_of-self-in-Err-renew g c = let inv = c.self.invariant in let w = c.self.inside in
-    (stays w.ports.items (reverse w.held.items) c.self.invariant.0 c.args.lane c.index_mut.result.now (omega arith) c.index_mut.ensures.value c.renew.new.self c.renew.new.crew c.in-Err.ensures.missed c.renew.ensures.same, inv.1, inv.2, inv.3, inv.4, inv.5, inv.6, inv.7)
+invariant_of-self-in-Err-renew g c = let inv = c.self.invariant in let w = c.self.inside in let there : arc_value w.round ≡ c.deref.result.now = search rules in
+    (stays w.ports.items (reverse w.held.items) c.self.invariant.0 c.args.lane c.index_mut.result.now (omega arith) c.index_mut.ensures.value c.renew.new.self c.renew.new.crew c.in-Err.ensures.missed c.renew.ensures.same, inv.1, inv.2, inv.3, inv.4, inv.5, inv.6, inv.7, slots_as _ _ c.end_of.new.slots.items (sym there) c.end_of.ensures.slots, c.end_of.ensures.len ∙ inv.9)
 
 pub returns-in-Ok-renew-clause-more : goal.returns-in-Ok-renew-clause-more
 returns-in-Ok-renew-clause-more g c =
@@ -76,17 +89,21 @@ returns-in-Ok-renew-clause-more g c =
 pub invariant_of-result : goal.invariant_of-result
 invariant_of-result g c =
     let inv = c.self.invariant in let w = c.self.inside in let end = c.in-Ok-renew.ensures.handle in let theirs = end.0 in let shared : arc_value c.in-Ok-try_clone.round ≡ arc_value w.round = search rules in
-    let stood = id_stood w.ports.items (reverse w.held.items) c.self.invariant.0 c.args.lane c.index_mut.result.now (omega arith) c.index_mut.ensures.value in record {
-      mine = c.in-Ok-renew.end;
-      there = refl;
-      whose = theirs.whose;
-      id = ap (λ (z : List TableId). get_elem? z c.args.lane) (c.requires.desk ∙ ap ids_of (sym c.self.view_is)) ∙ stood ∙ ap some (sym end.1);
-      number_is = theirs.number_is;
-      some_era = theirs.some_era;
-      together = theirs.together ∙ inv.0.together ∙ sym shared;
-      bits_are = ap (λ (z : TableFacts). z.bits) (theirs.together ∙ inv.0.together) ∙ inv.7;
-      few_bits = let bits = ap (λ (z : TableFacts). z.bits) inv.0.together ∙ inv.7 in omega (arith, theirs.few_bits, bits);
-    }
+    let stood = id_stood w.ports.items (reverse w.held.items) c.self.invariant.0 c.args.lane c.index_mut.result.now (omega arith) c.index_mut.ensures.value in (
+      record {
+        mine = c.in-Ok-renew.end;
+        there = refl;
+        whose = theirs.whose;
+        id = ap (λ (z : List TableId). get_elem? z c.args.lane) (c.requires.desk ∙ ap ids_of (sym c.self.view_is)) ∙ stood ∙ ap some (sym end.1);
+        number_is = theirs.number_is;
+        some_era = theirs.some_era;
+        together = theirs.together ∙ inv.0.together ∙ sym shared;
+        bits_are = ap (λ (z : TableFacts). z.bits) (theirs.together ∙ inv.0.together) ∙ inv.7;
+        few_bits = let bits = ap (λ (z : TableFacts). z.bits) inv.0.together ∙ inv.7 in omega (arith, theirs.few_bits, bits);
+      },
+      search rules,
+      search rules,
+    )
 
 pub returns-in-Ok-renew-clause-bits : goal.returns-in-Ok-renew-clause-bits
 returns-in-Ok-renew-clause-bits g c = let theirs = c.in-Ok-renew.ensures.handle.0 in omega (arith, theirs.few_bits, ap (λ (z : TableFacts). z.bits) theirs.together)

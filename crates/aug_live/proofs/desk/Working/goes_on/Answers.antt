@@ -25,7 +25,7 @@ replace-requires-clause-some g c = let w = c.self.inside in begun w.ports.items 
 pub invariant_of-self : goal.invariant_of-self
 invariant_of-self g c =
     let inv = c.self.invariant in let w = c.self.inside in let same = c.in_err-replace.ensures.same in
-    (stays w.ports.items (reverse w.held.items) inv.0 c.args.lane c.index_mut.result.now (omega arith) c.index_mut.ensures.value c.replace.new.self c.replace.new.crew same.0 same.1, inv.1, inv.2, inv.3, inv.4, inv.5, inv.6, inv.7)
+    (stays w.ports.items (reverse w.held.items) inv.0 c.args.lane c.index_mut.result.now (omega arith) c.index_mut.ensures.value c.replace.new.self c.replace.new.crew same.0 same.1, inv.1, inv.2, inv.3, inv.4, inv.5, inv.6, inv.7, inv.8, inv.9)
 
 pub invariant_of-self-2 : goal.invariant_of-self-2
 invariant_of-self-2 g c =
@@ -39,6 +39,8 @@ invariant_of-self-2 g c =
       inv.5,
       inv.6,
       inv.7,
+      inv.8,
+      inv.9,
     )
 
 pub returns-in_err-replace : goal.returns-in_err-replace

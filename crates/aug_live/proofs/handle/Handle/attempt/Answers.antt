@@ -1,15 +1,19 @@
 use Rattle.std.proofs.Common.{◌∙◌, sym}
-use Rattle.aug_live.proofs.Carries.{ran_end, seen_by, unchanged, unmade_end}
+use Rattle.std.specs.Arc.{arc_value}
+use Rattle.aug_live.specs.LiveTries.{ids_of}
+use Rattle.aug_live.proofs.Carries.{err_map, follows_as, ok_map, runs_as}
+use Rattle.aug_live.proofs.Looked.{holds_same}
 use Rattle.aug_live.proofs.handle.Handle.attempt.Goals as goal
 
-pub returns-in-Err-clause-not_made : goal.returns-in-Err-clause-not_made
-returns-in-Err-clause-not_made g c = unchanged c.self.inside.desk c.self.inside.lane c.args.self.now c.self.inside.end c.in-Some.end c.in-Err.same c.self.view_is (sym c.take.ensures.value ∙ c.in-Some.is) c.in-Err.ensures.stays
-
 pub returns-clause-made : goal.returns-clause-made
-returns-clause-made g c = ran_end c.self.inside.desk c.self.inside.lane c.args.self.now c.self.inside.end c.in-Some.end c.put.result c.self.view_is (sym c.take.ensures.value ∙ c.in-Some.is) c.in-Ok.taken.0 c.in-Ok.taken.1 c.run-lane.result.0 c.in-Ok.ensures.known c.in-Ok.ensures.taken c.put.ensures c.in-Ok.ensures.follows c.run-lane.result.1 _ c.run-lane.ensures.made
+returns-clause-made g c = ok_map _ _ c.run-end.result.1 (λ answer ran. runs_as c.self.inside.desk c.self.inside.lane c.args.self.now c.self.inside.end c.in-Some.end c.run-end.result.0 c.self.view_is (sym c.take.ensures.value ∙ c.in-Some.is) _ ran) c.run-end.ensures.made
 
 pub returns-clause-not_made : goal.returns-clause-not_made
-returns-clause-not_made g c = unmade_end c.self.inside.desk c.self.inside.lane c.args.self.now c.self.inside.end c.in-Some.end c.put.result c.self.view_is (sym c.take.ensures.value ∙ c.in-Some.is) c.in-Ok.taken.0 c.in-Ok.taken.1 c.run-lane.result.0 c.in-Ok.ensures.known c.in-Ok.ensures.taken c.put.ensures c.in-Ok.ensures.follows c.run-lane.result.1 c.run-lane.ensures.same
+returns-clause-not_made g c = err_map _ _ c.run-end.result.1 (λ _ on. follows_as c.self.inside.desk c.self.inside.lane c.args.self.now c.self.inside.end c.in-Some.end c.run-end.result.0 c.self.view_is (sym c.take.ensures.value ∙ c.in-Some.is) on) c.run-end.ensures.not_made
 
-pub returns-clause-seen : goal.returns-clause-seen
-returns-clause-seen g c = seen_by c.run-lane.result.1 _ c.run-lane.ensures.seen
+pub invariant_of-self : goal.invariant_of-self
+invariant_of-self g c = let i = c.self.inside in (
+  holds_same c.in-Some.end c.run-end.result.0 i.end (arc_value i.round) i.bits i.lane i.number (ids_of i.desk) c.self.invariant.0 (sym c.take.ensures.value ∙ c.in-Some.is) c.run-end.ensures.same,
+  c.self.invariant.1,
+  c.self.invariant.2,
+)

@@ -1,4 +1,4 @@
-use Rattle.std.proofs.Common.{subst, sym}
+use Rattle.std.proofs.Common.{◌∙◌, subst, sym}
 use Rattle.aug_live.specs.LiveHandles.{HandleFacts, Runs}
 use Rattle.aug_live.proofs.Carries.{err_map, follows_on, ok_map, runs_on}
 use Rattle.aug_live.proofs.handle.Handle.try_make.Goals as goal
@@ -13,3 +13,6 @@ returns-in-Err-clause-not_made g c = err_map _ _ c.try_again.result (λ _ later.
 
 pub returns-in-Ok-clause-made : goal.returns-in-Ok-clause-made
 returns-in-Ok-clause-made g c = subst (λ (h : HandleFacts). Runs (g.O.Operation.Does c.args.op.now c.attempt.new.op c.in-Ok.answer) c.args.self.now h) (sym c.count.ensures) c.in-Ok.ensures.made
+
+pub returns-in-Err-clause-kept : goal.returns-in-Err-clause-kept
+returns-in-Err-clause-kept g c = err_map _ _ c.try_again.result (λ _ kept. kept ∙ c.in-Err.ensures.kept) c.try_again.ensures.kept

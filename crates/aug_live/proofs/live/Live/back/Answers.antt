@@ -14,7 +14,7 @@ use Rattle.aug_live.specs.LiveHandles.{HandleFacts}
 use Rattle.aug_live.specs.LiveErrors.{IfRefused, RefusesBack, RefusesCall, RefusesRoll}
 use Rattle.aug_live.specs.LiveTries.{CameBack, LaneKnown, TrieFacts, ids_of}
 use Rattle.aug_live.specs.declared.error.LiveError.{LiveError}
-use Rattle.aug_live.specs.declared.error.LiveError.TheVariants.{Closed, Exhausted, Replaced, NoLane, TooMany}
+use Rattle.aug_live.specs.declared.error.LiveError.TheVariants.{Closed, Exhausted, Replaced, NoLane, TooMany, Looking}
 use Rattle.aug_live.specs.inside.LaneKnowledge.{handle_by}
 use Rattle.aug_live.proofs.Carries.{ok_any}
 use Rattle.aug_live.proofs.Counted.{came_from}
@@ -37,7 +37,7 @@ back-done-requires-clause-lock g c = λ id at.
     let mine : handle_by i.desk i.lane (Some c.in-Some.end) ≡ c.note.new.self = ap (handle_by i.desk i.lane) (sym there) ∙ c.handle.view_is in
     let more = knows_on_from own _ learnt c.self.view_is (more_on _ was learnt c.in-Ok-take_settled.ensures.settled.0.more c.learn-working.ensures.goes_on.more) in
     let lanes : ids_of i.desk ≡ ids_of learnt = ap (λ (z : HandleFacts). ids_of z.who.trie) mine ∙ c.in-Ok.ensures.follows.same_handle.lanes ∙ c.requires.trie.1 ∙ sym (ids_more own learnt more) in
-    lock_of c.in-Some.end i.end (arc_value i.round) i.bits i.number i.lane (ids_of i.desk) id c.handle.invariant there (ap (λ (z : List TableId). get_elem? z i.lane) lanes ∙ at)
+    lock_of c.in-Some.end i.end (arc_value i.round) i.bits i.number i.lane (ids_of i.desk) id c.handle.invariant.0 there (ap (λ (z : List TableId). get_elem? z i.lane) lanes ∙ at)
 
 pub back-done-requires-clause-lane : goal.back-done-requires-clause-lane
 back-done-requires-clause-lane g c =
@@ -45,7 +45,7 @@ back-done-requires-clause-lane g c =
     let mine : handle_by i.desk i.lane (Some c.in-Some.end) ≡ c.note.new.self = ap (handle_by i.desk i.lane) (sym there) ∙ c.handle.view_is in
     let more = knows_on_from own _ learnt c.self.view_is (more_on _ was learnt c.in-Ok-take_settled.ensures.settled.0.more c.learn-working.ensures.goes_on.more) in
     let lanes : ids_of i.desk ≡ ids_of learnt = ap (λ (z : HandleFacts). ids_of z.who.trie) mine ∙ c.in-Ok.ensures.follows.same_handle.lanes ∙ c.requires.trie.1 ∙ sym (ids_more own learnt more) in
-    let low = is_below (ids_of i.desk) i.lane c.handle.invariant.mine.lock c.handle.invariant.id in let long = length-map learnt.lanes (λ (l : LaneKnown). l.id) in
+    let low = is_below (ids_of i.desk) i.lane c.handle.invariant.0.mine.lock c.handle.invariant.0.id in let long = length-map learnt.lanes (λ (l : LaneKnown). l.id) in
     omega (arith, low, ap length lanes, long)
 
 pub lay_on-requires-clause-goes_on : goal.lay_on-requires-clause-goes_on
@@ -61,6 +61,7 @@ not_rolled lane number trie Exhausted why = why
 not_rolled lane number trie Replaced why = absurd why
 not_rolled lane number trie NoLane why = why
 not_rolled lane number trie TooMany why = why
+not_rolled lane number trie (Looking found) why = why
 
 pub returns-in-Err-Refused-clause-refused : goal.returns-in-Err-Refused-clause-refused
 returns-in-Err-Refused-clause-refused g c = let new = client_of c.take_settled.new.key in
@@ -90,7 +91,7 @@ returns-clause-done g c = let i = c.handle.inside in let there : i.end ≡ Some 
 
 pub returns-clause-refused : goal.returns-clause-refused
 returns-clause-refused g c = let i = c.handle.inside in let now = c.back-done.new.self in let new = client_of c.lay_on.new.key in let h = c.args.handle in
-    let is = c.in-Ok.ensures.follows.same_handle in let held = c.handle.invariant in
+    let is = c.in-Ok.ensures.follows.same_handle in let held = c.handle.invariant.0 in
     let own : handle_by i.desk i.lane (Some held.mine) ≡ c.note.new.self = ap (handle_by i.desk i.lane) (sym held.there) ∙ c.handle.view_is in
     let lane : i.lane ≡ h.who.lane = ap (λ (z : HandleFacts). z.who.lane) own ∙ is.lane in
     let number : i.number ≡ h.who.number = sym held.number_is ∙ ap (λ (z : HandleFacts). z.who.number) own ∙ is.number in

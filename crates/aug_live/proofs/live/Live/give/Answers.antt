@@ -13,6 +13,9 @@ another-key-requires-clause-rule g c = let owner = c.self.invariant.2 in forks _
 pub give-given-requires-clause-desk : goal.give-given-requires-clause-desk
 give-given-requires-clause-desk g c = let made = c.another-key.ensures in ap ids_of (made.new.2 ∙ sym made.left) ∙ sym (ids_more _ _ c.in-Ok-take_settled.ensures.settled.0.more)
 
+pub give-given-requires-clause-table : goal.give-given-requires-clause-table
+give-given-requires-clause-table g c = let made = c.another-key.ensures in ap (λ (z : TrieFacts). z.table) (made.new.2 ∙ sym made.left) ∙ sym c.in-Ok-take_settled.ensures.settled.0.more.table
+
 pub lay_on-requires-clause-goes_on : goal.lay_on-requires-clause-goes_on
 lay_on-requires-clause-goes_on g c = owner_from _ _ _ c.in-Ok-take_settled.ensures.takes c.take_settled.ensures.owner.first c.give-given.ensures.more
 

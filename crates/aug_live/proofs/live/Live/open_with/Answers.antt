@@ -24,6 +24,9 @@ use Rattle.aug_live.proofs.live.Live.open_with.Goals as goal
 pub next_round-requires-clause-few : goal.next_round-requires-clause-few
 next_round-requires-clause-few g c = omega (arith, IsKeySet-few _ _ c.universe-universe.ensures.keys, length-keys_of c.args.set.pairs)
 
+pub open_lanes-ports-requires-clause-first_era : goal.open_lanes-ports-requires-clause-first_era
+open_lanes-ports-requires-clause-first_era g c = ap (λ (z : RoundFacts). z.era) c.in-Ok-next_round.ensures.begun.round_is
+
 pub invariant_of-working : goal.invariant_of-working
 invariant_of-working g c =
     let begun = c.in-Ok-next_round.ensures.begun in let opened = c.open_lanes-ports.ensures in let ports = c.open_lanes-ports.result.0 in let held = c.in-Ok.room.held in
@@ -39,7 +42,12 @@ invariant_of-working g c =
       search rules,
       search rules,
       search rules,
+      c.in-Ok-next_round.ensures.slots.0,
+      omega (arith, c.in-Ok-next_round.ensures.slots.1, opened.len.0, few, c.in-Ok.ensures.berths.1),
     )
+
+pub hand_out-handles-requires-clause-table : goal.hand_out-handles-requires-clause-table
+hand_out-handles-requires-clause-table g c = ap (λ (z : TrieFacts). z.table) c.place-lock.ensures.knows ∙ ap (λ (z : TableFacts). z.table) (sym (ap arc_value c.of-of.ensures))
 
 pub hand_out-handles-requires-clause-shares : goal.hand_out-handles-requires-clause-shares
 hand_out-handles-requires-clause-shares g c = let shares = c.in-Ok-next_round.ensures.shares in (
@@ -69,7 +77,7 @@ returns-clause-new g c =
     let is = c.place-lock.ensures.knows in let ends = c.open_lanes-ports.result.1.items in let trie = client_of c.place-lock.result.1 in
     let firsts = handles_all (Starts rounds) (IsFirst rounds trie) trie 0 ends (λ e lane s. record { of_trie = refl; first = s.number; era_is = s.era_is; fresh = s.fresh; none_made = s.none_made }) c.open_lanes-ports.ensures.starts in
     subst (λ (z : TrieFacts × List HandleFacts). All (IsNew z.0 c.args.set c.args.plan) z.1) (λ i. (sym out.knows i, sym out.at i))
-    (all_new c.args.set c.args.plan.lanes c.args.plan.updates (arc_value c.in-Ok-next_round.begun.round) first trie (handles_from trie 0 ends) (ap (λ (z : TrieFacts). z.table) is) begun firsts)
+    (all_new c.args.set c.args.plan (arc_value c.in-Ok-next_round.begun.round) first trie (handles_from trie 0 ends) (ap (λ (z : TrieFacts). z.table) is) begun firsts)
 
 pub returns-clause-lanes : goal.returns-clause-lanes
 returns-clause-lanes g c = λ lane h at. let place = lanes_are (client_of c.place-lock.result.1) 0 c.open_lanes-ports.result.1.items lane h (ap (λ (z : List HandleFacts). get_elem? z lane) (sym c.hand_out-handles.ensures.at) ∙ at) in omega (arith, place)

@@ -1,21 +1,19 @@
-use Rattle.std.proofs.Common.{◌≡◌, ◌∙◌, ap, subst, sym}
+use Rattle.std.proofs.Common.{◌≡◌, ◌∙◌, arith, subst, sym}
 use Rattle.std.specs.Arc.{arc_value}
-use Rattle.std.specs.Prelude.{Option, Some}
-use Rattle.aug_model.specs.Folds.{summary_of}
-use Rattle.aug_trie.specs.Node.{Keeps}
+use Rattle.std.specs.Prelude.{Option}
 use Rattle.aug_trie.specs.Pass.{PassFacts}
-use Rattle.aug_trie.specs.Snapshot.{HasSnapshot}
-use Rattle.aug_live.specs.inside.LaneKnowledge.{half_in, rounds_at}
-use Rattle.aug_live.specs.declared.lane.Parts.{Parts}
-use Rattle.aug_live.proofs.Looked.{holds_in}
+use Rattle.aug_live.specs.LiveHandles.{IsLookOf}
+use Rattle.aug_live.specs.inside.Looks.{HandleShows}
+use Rattle.aug_live.proofs.Shown.{holds_other, holds_same_round}
 use Rattle.aug_live.proofs.look.Look.again.Goals as goal
 
 pub invariant_of-self : goal.invariant_of-self
-invariant_of-self g c = let i = c.self.inside in let was = c.deref_mut.ensures.value in let l = c.look-self-inside.ensures.looks in let held = c.self.invariant in
-    let there : i.parts.value.work ≡ Some l.pass = ap (λ (p : Parts g.row.A.Denot g.row.B.Denot). p.work) (sym was) ∙ l.there in
-    let is : Some l.pass ≡ Some held.pass = sym there ∙ held.there in
-    let kept : Keeps (summary_of g.A.Monoid.parts g.B.Monoid.parts) l.pass l.next =
-    subst (λ (z : PassFacts × PassFacts). Keeps (summary_of g.A.Monoid.parts g.B.Monoid.parts) z.0 z.1) (λ k. (half_in (l.there k), half_in (l.same k).work)) c.look-self-inside.ensures.keeps in
-    holds_in i.out i.held c.look-self-inside.result i.before i.held (arc_value i.round) i.bits i.lane _ i.parts.value c.look-self-inside.new.self l.pass l.next held there
-    (l.same ∙ ap (λ (p : Parts g.row.A.Denot g.row.B.Denot). record p { work = Some l.next }) was) (ap rounds_at l.goes_on.same) l.takes.same_changes l.known
-    (kept.snapshots i.held (subst (λ (o : Option PassFacts). HasSnapshot (half_in o) i.held.number) (sym is) held.shows))
+invariant_of-self g c = let i = c.self.inside in let show = c.show-done.new.show in let a = c.args.handle.now in let b = c.show-done.new.self in
+    holds_other i.out (arc_value i.round) i.reader show.reader i.held i.before c.in-Ok.held i.era show.era i.lane a b c.self.invariant
+    (subst (λ (z : Option PassFacts). HandleShows z show.reader show.era c.in-Ok.held a b) (c.after-show.ensures.reader ∙ c.take.ensures.value) c.in-Ok.ensures.shows) (subst (IsLookOf a) (sym c.self.view_is) c.requires.own)
+
+pub invariant_of-self-in-Ok : goal.invariant_of-self-in-Ok
+invariant_of-self-in-Ok g c = let i = c.self.inside in let show = c.show-done.new.show in let a = c.args.handle.now in let b = c.show-done.new.self in
+    let same : show.era ≡ i.era = omega arith in
+    holds_same_round i.out (arc_value i.round) i.reader show.reader i.held i.before c.in-Ok.held i.era show.era i.lane a b c.self.invariant
+    (subst (λ (z : Option PassFacts). HandleShows z show.reader show.era c.in-Ok.held a b) (c.after-show.ensures.reader ∙ c.take.ensures.value) c.in-Ok.ensures.shows) (subst (IsLookOf a) (sym c.self.view_is) c.requires.own) same

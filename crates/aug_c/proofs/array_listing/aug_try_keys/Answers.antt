@@ -1,8 +1,0 @@
-use Rattle.std.proofs.Common.{rules, ◌≡◌, ◌∙◌, ap, refl, w64, to_z, of_z}
-use Rattle.aug_c.specs.Handles.{state_in}
-use Rattle.aug_c.proofs.Calls.{looking_call}
-use Rattle.aug_c.proofs.array_listing.aug_try_keys.Goals as goal
-
-pub returns-in-Looking : goal.returns-in-Looking
-returns-in-Looking c = let code : to_z w64 (of_z w64 c.list.result) ≡ c.list.result = search rules in
-    looking_call _ _ c.args.user.now _ c.in-Looking.held c.held.inside.look c.list.new.look _ c.list.result (c.is_open.ensures.0 c.if-not-is_open.false) (ap state_in c.as_slot.ensures.value ∙ c.in-Looking.is) c.held.view_is refl refl code c.list.ensures.keys

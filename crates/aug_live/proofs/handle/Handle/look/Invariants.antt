@@ -1,5 +1,0 @@
-use Rattle.aug_live.specs.LiveHandles.{Follows}
-use Rattle.aug_live.proofs.handle.Handle.look.Given as goal
-
-abbrev pub invariant-loop : goal.invariant-loop
-invariant-loop g l = Follows l.initial.handle l.handle

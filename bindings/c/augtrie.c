@@ -99,8 +99,8 @@ static void leave(struct shared *s) {
     free(s);
 }
 
-/* How often whoever waits yields before it sleeps: for longer than a piece of the next round takes to lay out. */
-enum { YIELDS = 128 };
+/* How often whoever waits yields before it sleeps: for longer than several pieces of the next round take to lay out. */
+enum { YIELDS = 1024 };
 
 /* For how many nanoseconds it sleeps. */
 enum { PAUSE = 50000 };

@@ -5,10 +5,13 @@
 pub(crate) const SHARE: u64 = 2;
 
 /// How many updates a handle makes between two pieces of that.
-pub(crate) const PIECE: u32 = 16;
+pub(crate) const PIECE: u32 = 32;
 
-/// And how many nodes are laid out in a piece, which takes some 10 microseconds. If each of four threads makes an update in 2, one of them is at it at a time.
-pub(crate) const NODES: u32 = 128;
+/// And how many before it tries again, if another handle has the desk: so if four threads do nothing but update, one of them is nearly always at it.
+pub(crate) const RETRY: u32 = 2;
+
+/// How many nodes are laid out in a piece, which takes some 20 to 40 microseconds.
+pub(crate) const NODES: u32 = 256;
 
 /// What was done about the next round: how many updates of a handle later more is to be done, and whether there is more to do now.
 #[derive(Clone, Copy, Debug, PartialEq, Eq)]

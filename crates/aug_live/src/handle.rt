@@ -17,7 +17,7 @@ ghost use Rattle.aug_live.specs.inside.LaneKnowledge.{Seen};
 ghost use Rattle.aug_live.specs.inside.Looks.{HandleShows, HasReaders};
 ghost use Rattle.aug_live.specs.LiveHandles.{AllOrSpent, Follows, IsRoom, IsSomeOf, OpensLook, Makes, Runs, note_at};
 
-use crate::ahead::{NODES, PIECE, Pace};
+use crate::ahead::{NODES, Pace, RETRY};
 use crate::desk_end::DeskEnd;
 use crate::end::End;
 use crate::error::{Busy, LiveError, TryError};
@@ -536,7 +536,7 @@ impl<A: Monoid, B: Monoid> Handle<A, B> {
     {
         let after = match self.desk.prepare(&Tries, NODES) {
             Ok(ahead) => ahead.after,
-            Err(_) => PIECE,
+            Err(_) => RETRY,
         };
         self.pace = Pace::after(after);
     }

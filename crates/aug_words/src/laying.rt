@@ -72,6 +72,16 @@ impl<A: Monoid, B: Monoid> Words<A, B> {
         u64::from(self.layout.bits()) + (node - leaves) as u64
     }
 
+    // Where that begins.
+    fn own_place(&self, node: usize) -> usize
+        requires room { 2 ^ self.now.shape.bits ≤ self.now.shape.members }
+        requires node { IsInner self.now.shape node }
+        ensures at { result ≡ record_start self.now.shape (own_number self.now.shape node) }
+        ensures inside { result + record_words ≤ word_count self.now.shape }
+    {
+        self.records + RECORD_WORDS * self.own_number(node) as usize
+    }
+
     // The word with which a leaf or a node opens there, by one that names an entry of it.
     fn next_word(&self, node: usize, word: u64) -> u64
         requires node { node < place_count self.now.shape }
@@ -105,21 +115,39 @@ impl<A: Monoid, B: Monoid> Words<A, B> {
         self.table.shared.load::<LoadAnyRecord>(seat, place)
     }
 
-    // Loads the five words of such a record.
+    // Loads a word of that part whose value is not needed yet, so that it comes while others do: each exchange waits for all loads before it.
+    fn fetch(&self, seat: &mut Seat<(), SeatView>, base: usize, records: usize, place: usize)
+        requires may { MayBring (face A.parts B.parts) seat.old.table_id self.now.table records base self.now.shape seat.old.me }
+        requires place { place < word_count self.now.shape }
+        ensures may { MayBring (face A.parts B.parts) seat.new.table_id self.now.table records base self.now.shape seat.new.me }
+        ensures view { StepsBeside base self.now.shape seat.old.me.0 seat.new.me.0 }
+        ensures same { seat.new.me.0.whole ≡ seat.old.me.0.whole }
+    {
+        self.table.shared.load::<LoadAnyWord>(seat, base + place);
+    }
+
+    // Loads the five words of such a record, as which this node is to be laid out. What else that takes comes meanwhile: both ends of the node's own
+    // record, and its word.
     fn load_record(
         &self,
         seat: &mut Seat<(), SeatView>,
         base: usize,
         records: usize,
         number: u64,
+        node: usize,
     ) -> [u64; RECORD_WORDS]
         requires may { MayBring (face A.parts B.parts) seat.old.table_id self.now.table records base self.now.shape seat.old.me }
         requires seen { HasSeen seat.old.me.0 number }
+        requires node { IsInner self.now.shape node }
         ensures may { MayBring (face A.parts B.parts) seat.new.table_id self.now.table records base self.now.shape seat.new.me }
         ensures view { StepsBeside base self.now.shape seat.old.me.0 seat.new.me.0 }
         ensures same { seat.new.me.0.whole ≡ seat.old.me.0.whole }
         ensures says { (field : ℕ) → field < record_words → Says seat.old.me.0 number field (slice_index result field) }
     {
+        let own = self.own_place(node);
+        self.fetch(seat, base, records, own);
+        self.fetch(seat, base, records, own + RECORD_WORDS - 1);
+        self.fetch(seat, base, records, node);
         let left = self.load_field(seat, base, records, number, 0);
         let right = self.load_field(seat, base, records, number, 1);
         let count = self.load_field(seat, base, records, number, 2);
@@ -151,10 +179,8 @@ impl<A: Monoid, B: Monoid> Words<A, B> {
             five[3],
             five[4],
         ];
-        let number = self.own_number(node);
-        let start = self.records + RECORD_WORDS * number as usize;
-        self.put_five(seat, base, start, next);
-        self.put_word(seat, base, node, number);
+        self.put_five(seat, base, self.own_place(node), next);
+        self.put_word(seat, base, node, self.own_number(node));
     }
 
     /// Lays out a leaf or a node with all that is below it as the entry that this word names, as far as it is not laid out so, and as far as this piece
@@ -194,7 +220,7 @@ impl<A: Monoid, B: Monoid> Words<A, B> {
             return false;
         }
         draft.shown[slot] = 0;
-        let five = self.load_record(seat, draft.base, records, word);
+        let five = self.load_record(seat, draft.base, records, word, node);
         let (child, half) = (2 * slot, width / 2);
         let left = self.bring(seat, draft, records, child, five[0], first, half);
         let middle = first.wrapping_add(half);

@@ -10,9 +10,13 @@ use atomic_table::{Join, Seat, Split, Table, TableRule};
 use std::alloc::{AllocError, Global};
 use std::marker::PhantomData;
 use std::sync::Wait;
+use std::thread;
 use std::time::Duration;
 
-// How many microseconds a thread that waits sleeps before it tries again.
+// How often a thread that waits yields before it sleeps.
+const YIELDS: u32 = 256;
+
+// How many microseconds it sleeps at a time.
 const PAUSE: u64 = 50;
 
 // Whoever takes the lock writes the word and the slot, which slows down each thread that uses anything else on their cache lines. So 128 unused
@@ -160,8 +164,8 @@ impl<T, V, P: LockRule<T, V>> RuledLock<T, V, P> {
             .compare_exchange::<Try<M>>(key, WORD, 0, 1)
     }
 
-    // Takes the slot, and sleeps for a while again and again as long as another key has it. Nobody wakes it: a static library, which
-    // may wake nobody, can put values back too.
+    // Takes the slot. As long as another key has it, it tries again: at first it yields in between, and then it sleeps. Nobody wakes it: a static library,
+    // which may wake nobody, can put values back too.
     #[inline(always)]
     pub(crate) fn wait_for<M: Lesson<T, V>, R: Wait>(&self, rt: &R, key: &mut Key<T, V>)
         requires lock { key.old.table_id ≡ self.now.table.shared.table_id }
@@ -171,12 +175,18 @@ impl<T, V, P: LockRule<T, V>> RuledLock<T, V, P> {
         ensures view { client_of key.new ≡ client_of key.old }
         ensures holds { (t : T) × Holds t (Some t) key.new × M.fact (client_of key.old) t }
     {
+        let mut yields = 0;
         for _ in rt.forever() {
             if self.try_for::<M>(key) == 0 {
                 return;
             }
-            let pause = Duration::from_micros(PAUSE);
-            self.table.shared.park_timeout(rt, WORD, 1, pause);
+            if yields < YIELDS {
+                yields += 1;
+                thread::yield_now();
+            } else {
+                let pause = Duration::from_micros(PAUSE);
+                self.table.shared.park_timeout(rt, WORD, 1, pause);
+            }
         }
         unreachable!()
     }

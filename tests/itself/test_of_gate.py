@@ -14,9 +14,10 @@ LLVM, RATTLE = "crates/augtrie/out/augtrie", "crates/augtrie/out/augtrie.by-ratt
 # Stands in for tests/run: it notes its words and the programs to be tested.
 RUN = '#!/bin/sh\necho "$*" >>ran\necho "${PROGRAMS-}" >>programs\necho 10 passed, 0 failed\n'
 
-# Stands in for an rt that proves the library, and then waits until tests of it run, or five seconds.
+# Stands in for an rt that proves what the library stands on, or the first of it, and then waits until tests of it run, or five seconds.
 SLOW = """#!/bin/sh
-echo 'rt: aug_c proved'
+echo 'rt: low is kept: an earlier run on this machine proved the same files over the same libraries'
+echo 'rt: middle proved'
 for _ in 1 2 3 4 5 6 7 8 9 10; do if grep -q languages ran; then break; fi; sleep 0.5; done
 echo "rt $*" >>ran
 echo 7 passed, 0 failed
@@ -28,6 +29,7 @@ class TestOfGate(InFolder):
         super().setup_method()
         self.write(".ci/run", read(".ci", "run"), 0o755)
         self.write("tests/run", RUN, 0o755)
+        self.write("crates.txt", "low:\nmiddle: low\naug_c staticlib: low middle\n")
 
     def run_gate(self, said="7 passed, 0 failed", status=0, rt=None):
         """Runs it with an rt that says so and ends so: its last line and its status."""
@@ -54,6 +56,10 @@ class TestOfGate(InFolder):
     def test_library_is_tested_beside_the_rest(self):
         assert self.run_gate(rt=SLOW) == ("27 passed, 0 failed", 0)
         assert ["languages" in row for row in self.read("ran").splitlines()] == [True, False, False]
+
+    def test_library_is_not_tested_before_all_that_it_stands_on_is_proved(self):
+        assert self.run_gate(rt=SLOW.replace("rt: middle proved", "rt: middle NOT PROVED")) == ("27 passed, 0 failed", 0)
+        assert self.read("ran").splitlines()[0] == "rt ci"
 
     def test_libraries_of_an_earlier_run_are_left_alone(self):
         self.write("crates/low/out/rlib/stamp", "")

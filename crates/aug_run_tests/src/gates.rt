@@ -2,8 +2,9 @@
 //! time.
 use crate::assertions::{equal, holds};
 use crate::rounds::report_of;
+use aug_command::print;
 use aug_run::Gate;
-use aug_script::{MemorySink, print};
+use aug_script::MemorySink;
 use std::alloc::{AllocError, Global};
 use std::sync::atomic::AtomicU64;
 use std::sync::atomic::Ordering::SeqCst;

@@ -21,7 +21,7 @@ pub struct Report {
 
 impl Report {
     /// The whole text: a line for each row, and then the totals.
-    pub(crate) fn text(&self, alloc: Global) -> Result<String, AllocError>
+    pub fn text(&self, alloc: Global) -> Result<String, AllocError>
         ensures { IfOk result (λ text. string_bytes text ≡ report_text self.now) }
     {
         let mut text = String::new(alloc);

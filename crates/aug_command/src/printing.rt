@@ -1,8 +1,9 @@
+//! Printing a report.
 ghost use Rattle.std.specs.Prelude.{◌≡◌, ◌-◌, ◌^◌, ◌<◌, IsErrOf, OnOk};
 ghost use Rattle.aug_script.specs.Devices.{Writes, WritesBeginning};
 ghost use Rattle.aug_script.specs.ReportText.{report_text};
 
-use crate::{Fault, Report, Sink, send};
+use aug_script::{Fault, Report, Sink, send};
 use std::alloc::{AllocError, Global};
 use thiserror::Error;
 
@@ -19,7 +20,7 @@ pub enum PrintError {
 
 impl From<AllocError> for PrintError {
     ghost use Rattle.std.specs.Prelude.{◌≡◌};
-    ghost use Rattle.aug_script.specs.declared.printing.PrintError.TheVariants.{OutOfMemory};
+    ghost use Rattle.aug_command.specs.declared.printing.PrintError.TheVariants.{OutOfMemory};
 
     ghost from_gives = { λ _ e. e ≡ OutOfMemory };
 

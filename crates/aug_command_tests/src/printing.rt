@@ -2,11 +2,10 @@
 ghost use Rattle.std.specs.Prelude.{◌≡◌, IfOk};
 
 use crate::assertions::{equal, holds};
+use aug_command::{PrintError, print};
 use aug_model::Summary;
 use aug_monoid::{Extent, Sum, fold_slice};
-use aug_script::{
-    Fault, Listed, MemorySink, PrintError, Reply, Report, Row, ScriptError, Verb, print,
-};
+use aug_script::{Fault, Listed, MemorySink, Reply, Report, Row, ScriptError, Verb};
 use std::alloc::{AllocError, Global};
 use std::fmt::Display;
 use std::process::Abort;

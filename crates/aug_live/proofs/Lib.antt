@@ -1,19 +1,21 @@
-pub mod Adding
+mod Adding
+mod Flags
 pub mod Lanes
 pub mod Carries
-pub mod Popped
-pub mod Tied
-pub mod Dealing
-pub mod Moving
-pub mod Counted
-pub mod Ledgers
-pub mod Accounting
-pub mod OneLane
-pub mod DeskSteps
-pub mod Looked
-pub mod Beginning
-pub mod Desks
-pub mod Handing
-pub mod Slotted
-pub mod Shown
-pub mod Planning
+mod Popped
+mod Tied
+mod Dealing
+mod Moving
+mod Counted
+mod Ledgers
+mod Accounting
+mod OneLane
+mod DeskSteps
+mod Looked
+mod Beginning
+mod Desks
+mod Handing
+mod Slotted
+mod Shown
+mod Planning
+mod Rolled

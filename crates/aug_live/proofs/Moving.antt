@@ -1,5 +1,5 @@
 -- A fact of each element, from the list that is taken apart to the list that grows; and what went back to a crew.
-use Rattle.std.proofs.Common.{◌≡◌, ℕ, zero, suc, ◌+◌, ◌<◌, List, [], ◌∷◌, ◌++◌, get_or, length, length-append, sym, ap, ◌∙◌, subst, arith}
+use Rattle.std.proofs.Common.{◌≡◌, ℕ, zero, suc, ◌+◌, ◌<◌, ◌≤◌, List, [], ◌∷◌, ◌++◌, get_or, length, length-append, sym, ap, ◌∙◌, subst, arith}
 use Rattle.std.proofs.Math.ListN.{get_or-append}
 use Rattle.std.proofs.Math.Seq.{get_or-append_seam}
 use Rattle.std.specs.Prelude.{All, take, drop}
@@ -45,6 +45,29 @@ module _ {A : Type 0} (P : A → Type 0) where
   put_in xs i x all this =
       let rest = All-append P (take i xs) (drop (suc i) xs) (All-take P i xs all) (All-drop P (suc i) xs all) in
       All-append P (take i (remove xs i)) (x ∷ drop i (remove xs i)) (All-take P i (remove xs i) rest) (All-append P (x ∷ []) (drop i (remove xs i)) (one x this) (All-drop P i (remove xs i) rest))
+
+  pub all_none : (xs : List A) → xs ≡ [] → All P xs
+  all_none xs is k d low = let long = ap length is in absurd (omega arith)
+
+-- how long two lists are, as elements go from one to the other; and how many went back
+pub grown_len : (a a' b b' n : ℕ) → a + b ≡ n → a' ≡ a + 1 → b' + 1 ≡ b → a' + b' ≡ n
+grown_len a a' b b' n was grown shrunk = omega arith
+
+pub shrunk_len : (a a' b b' n : ℕ) → a + b ≡ n → b' ≡ b + 1 → a' + 1 ≡ a → a' + b' ≡ n
+shrunk_len a a' b b' n was grown shrunk = omega arith
+
+pub counted_on : (a a' l l' n : ℕ) → a' ≡ a + 1 → a ≡ n + l → l' ≡ l + 1 → a' ≡ n + l'
+counted_on a a' l l' n on was grown = omega arith
+
+pub none_first : (a b n : ℕ) → a ≡ 0 → b ≡ n → a + b ≡ n
+none_first a b n none rest = omega arith
+
+pub none_more : (a b : ℕ) → b ≡ 0 → a ≡ a + b
+none_more a b none = omega arith
+
+-- a crew with a lane for each element has handed out one for each that went
+pub lane_left : (a b b' n handed workers first : ℕ) → a + b ≡ n → handed ≡ a → b' + 1 ≡ b → workers ≡ first → n ≤ first → handed < workers
+lane_left a b b' n handed workers first was out shrunk same few = omega arith
 
 -- what is in a history is in each later one
 back_on : (rounds : RoundFacts × List Chapter) (era : ℕ) (h h' : List Cut) (e : EndFacts) → IsPrefix h h' → IsBackIn rounds era h e → IsBackIn rounds era h' e

@@ -1,13 +1,34 @@
 -- A plan that the memory has room for is not refused, and the greatest one.
-use Rattle.std.proofs.Common.{◌≡◌, ◌∙◌, ◌⊎◌, inl, inr, ⊎_elim, ℕ, ◌+◌, ◌-◌, ◌*◌, ◌/◌, ◌^◌, ◌<◌, ◌≤◌, min, max, ap, refl, sym, subst, arith}
+use Rattle.std.proofs.Common.{◌≡◌, ◌∙◌, ◌⊎◌, inl, inr, ⊎_elim, Result, Ok, Err, Bool, true, false, ℕ, ◌+◌, ◌-◌, ◌*◌, ◌/◌, ◌^◌, ◌<◌, ◌≤◌, min, max, ap, refl, sym, subst, arith}
 use Rattle.std.proofs.Math.Nat.{le-div_iff_mul-le, mul-add, mul_assoc, mul_comm}
-use Rattle.std.proofs.lemmas.Bool.{cases_lt}
+use Rattle.std.proofs.lemmas.Bool.{cases_lt, false≢true}
 use Rattle.std.proofs.lemmas.Nat.{mul-le}
+use Rattle.std.specs.Prelude.{◌↔◌}
+use Rattle.std.specs.Result.{is_err}
 use Rattle.aug_core.specs.Layout.{IsRefused, IsWithin}
 use Rattle.aug_core.specs.Places.{own_records, shape_of, word_count}
 use Rattle.aug_core.specs.declared.layout.LayoutError.TheVariants as layout
 use Rattle.aug_live.specs.Plans.{Fits, IsGreatest, Suits, least_plan}
+use Rattle.aug_live.specs.declared.error.OpenError.{OpenError}
+use Rattle.aug_live.specs.declared.error.OpenError.TheVariants.{BadHandles, BadLanes, BadUpdates, TooLarge, BadTables, OutOfMemory}
 use Rattle.aug_live.specs.declared.plan.Plan.{Plan}
+
+-- whether a result is an error for want of memory
+abbrev pub wants : OpenError → Bool
+wants OutOfMemory = true
+wants BadHandles = false
+wants BadLanes = false
+wants BadUpdates = false
+wants TooLarge = false
+wants BadTables = false
+
+abbrev pub wants_memory : {T A : Type 0} → Result T (A × OpenError) → Bool
+wants_memory (Ok t) = false
+wants_memory (Err e) = wants e.1
+
+-- what is not this error is right where the check that would have refused so passed
+pub passed : {T U F : Type 0} (P : ℕ → Type 0) (bits bits' : ℕ) (cause : OpenError) (ok : T) (found : Result U F) (told : F) → bits ≡ bits' → ((Ok ok ≡ Err cause) ↔ P bits) → (found ≡ Err told → ⊥) → (found ≡ Err told) ↔ P bits'
+passed P bits bits' cause ok found told same known other = (λ so. absurd (other so), λ p. absurd (false≢true (ap is_err (known.1 (subst P (sym same) p)))))
 
 pub same_bits : (bits bits' memory : ℕ) (plan : Plan) → bits' ≡ bits → Fits bits' memory plan → Fits bits memory plan
 same_bits bits bits' memory plan same fits = subst (λ (z : ℕ). Fits z memory plan) same fits
@@ -126,3 +147,29 @@ is_greatest bits handles memory words room lanes updates least not_more words_is
 
     m : IsMost (5 * bits) room handles lanes updates
     m = let some = within.0 in let w = least.laid_out.workers in most (5 * bits) room handles lanes updates (omega (arith, some)) w.0 w.1 (let a = room_is in omega arith) lanes_are updates_are
+
+-- and there is room for a word of each lane
+pub some_room : (bits bits' handles handles' memory spare lanes : ℕ) → Fits bits memory (least_plan handles) → bits' ≡ bits → handles' ≡ handles → lanes ≡ max (min ((spare + handles' * (1 + 64 * (5 * bits'))) / (1 + 256 * (5 * bits'))) 64) handles
+    → 1 ≤ (spare + handles' * (1 + 64 * (5 * bits'))) / lanes
+some_room bits bits' handles handles' memory spare lanes least is same lanes_are = (le-div_iff_mul-le {k = lanes} {x = 1} {y = room} (omega (arith, enough, w.0))).1 (omega (arith, fits, less))
+  where
+    room : ℕ
+    room = spare + handles' * (1 + 64 * (5 * bits'))
+
+    updates : ℕ
+    updates = min ((room / lanes - 1) / (5 * bits')) 65536
+
+    w : IsWithin 1 64 handles
+    w = least.laid_out.workers
+
+    m : IsMost (5 * bits') room handles' lanes updates
+    m = let some = least.laid_out.bits.0 in let one = w.0 in let few = w.1 in most (5 * bits') room handles' lanes updates (omega (arith, some, is)) (omega (arith, one, same)) (omega (arith, few, same)) (omega arith) (lanes_are ∙ ap (λ (z : ℕ). max (min (room / (1 + 256 * (5 * bits'))) 64) z) (sym same)) refl
+
+    enough : handles ≤ lanes
+    enough = omega (arith, lanes_are)
+
+    fits : lanes * (1 + 5 * bits' * updates) ≤ room
+    fits = m.fits
+
+    less : lanes * 1 ≤ lanes * (1 + 5 * bits' * updates)
+    less = mul-le lanes 1 lanes (1 + 5 * bits' * updates) (omega arith) (omega arith)

@@ -138,6 +138,16 @@ shows_to old new era held before a b lane s of_lane = record {
 pub looks_to : (old new : Option PassFacts) (era : ℕ) (held : Snapshot) (a b : HandleFacts) (lane : ℕ) → HandleShows old new era held a b → lane ≡ b.who.lane → OpensLook a b (record { lane = lane; reader = half_in new; snapshot = held; before = held })
 looks_to old new era held a b lane s of_lane = record { shows = shows_to old new era held held a b lane s of_lane; first = refl }
 
+-- by what the handle holds then, which was as it was before
+pub lane_by_end : (trie : TrieFacts) (place : ℕ) (inside : Option EndFacts) → place ≡ (handle_by trie place inside).who.lane
+lane_by_end trie place None = refl
+lane_by_end trie place (Some e) = refl
+
+pub looks_by : (old new : Option PassFacts) (era : ℕ) (held : Snapshot) (first a b : HandleFacts) (trie : TrieFacts) (place : ℕ) (inside : Option EndFacts) → HandleShows old new era held a b → a ≡ first → handle_by trie place inside ≡ b
+    → OpensLook first b (record { lane = place; reader = half_in new; snapshot = held; before = held })
+looks_by old new era held first a b trie place inside s same view =
+    subst (λ (z : HandleFacts). OpensLook z b (record { lane = place; reader = half_in new; snapshot = held; before = held })) same (looks_to old new era held a b place s (lane_by_end trie place inside ∙ ap (λ (z : HandleFacts). z.who.lane) view))
+
 -- a handle that took one is at the same table, and has the same lane
 pub shows_table : (old new : Option PassFacts) (era : ℕ) (held : Snapshot) (a b : HandleFacts) → HandleShows old new era held a b → table_of b.half.round ≡ table_of a.half.round
 shows_table old new era held a b s = ap (λ (z : PassFacts). table_of z.round) s.makes.done.2.same ∙ s.makes.follows.together
@@ -222,3 +232,7 @@ module _ (slot : Option TableFacts) (table : TableFacts) (reader new : Option Pa
 pub slot_reader : (reader : Option PassFacts) (table own : TableFacts) → IfSome reader (λ r. table_of r.round ≡ own) → own ≡ table → IsReaderOf table.table reader
 slot_reader None table own of same = tt
 slot_reader (Some r) table own of same = ap (λ (z : TableFacts). z.table) (of ∙ same)
+
+-- a reader shows it in the table of what lay in the slot of the handle, which was as it was before
+pub shown_at : (table taken : TableFacts) (old new : Option PassFacts) (era : ℕ) (held : Snapshot) (first a b : HandleFacts) → HandleShows old new era held a b → a ≡ first → table ≡ taken → taken ≡ table_of first.half.round → IsShownIn table new era held
+shown_at table taken old new era held first a b s same is lay = shown_in table old new era held a b s (shows_table old new era held a b s ∙ ap (λ (z : HandleFacts). table_of z.half.round) same ∙ sym (is ∙ lay))

@@ -1,20 +1,25 @@
-use Rattle.std.proofs.Common.{rules, ◌≡◌, ◌+◌, ◌<◌, ◌∙◌, ℕ, List, [], ◌∷◌, ◌++◌, map, vec_len, ap, arith, subst, sym}
-use Rattle.std.specs.Prelude.{Option, option_to_list, reverse}
+use Rattle.std.proofs.Common.{◌≡◌, ◌+◌, ◌<◌, ◌∙◌, ℕ, List, [], ◌∷◌, ◌++◌, length, map, vec_len, ap, refl, subst, sym}
+use Rattle.std.specs.Prelude.{All, Option, flat_map, option_to_list, reverse}
+use Rattle.std.proofs.lemmas.List.{append-nil, nil_from_length}
 use Rattle.aug_trie.specs.Chains.{Chapter}
-use Rattle.aug_trie.specs.Round.{RoundFacts, table_of}
-use Rattle.aug_core.proofs.PrefixLemmas.{prefix_trans}
+use Rattle.aug_trie.specs.Round.{RoundFacts}
+use Rattle.aug_core.proofs.PrefixLemmas.{prefix_refl, prefix_trans}
 use Rattle.aug_live.specs.inside.LaneKnowledge.{EndFacts}
-use Rattle.aug_live.specs.inside.Rolls.{IsOf, IsBackIn, kept_of, rounds_in}
+use Rattle.aug_live.specs.inside.Rolls.{IsOf, IsBackIn, accepted_by, kept_of, rounds_in}
+use Rattle.aug_live.proofs.Accounting.{all_reversed}
 use Rattle.aug_live.proofs.Dealing.{gave_one, kept_in_order, took_one}
-use Rattle.aug_live.proofs.Moving.{one_more, all_but_last, last_one, all_back_on, same_era}
+use Rattle.aug_live.proofs.Moving.{all_back_on, all_but_last, all_none, counted_on, grown_len, last_one, none_first, none_more, one_more, same_era}
 use Rattle.aug_live.proofs.rolling.give_all.Goals as goal
 
-pub give_back-requires : goal.give_back-requires
-give_back-requires g c =
-    let was = c.loop-one.invariant in let round = rounds_in c.args.crew.now in let era = c.args.era in
-    let cut : c.loop-one.held.items ≡ c.pop.new.self.items ++ c.in-Some.one ∷ [] = c.pop.ensures.items ∙ ap (λ (z : Option EndFacts). c.pop.new.self.items ++ option_to_list z) c.in-Some.is in
-    let mine = last_one (IsOf round era) c.pop.new.self.items c.loop-one.held.items c.in-Some.one cut was.1 in
-    record { together = ap (λ (z : RoundFacts × List Chapter). table_of z.0) was.3 ∙ c.requires.together; of_round = subst (λ (z : (RoundFacts × List Chapter) × ℕ). IsOf z.0 z.1 c.in-Some.one) (λ i. (sym was.3 i, sym mine.era_is i)) mine; some = subst (λ z. 0 < z) (sym mine.era_is) c.requires.some }
+pub give_back-requires-clause-of_round : goal.give_back-requires-clause-of_round
+give_back-requires-clause-of_round g c = let was = c.loop-one.invariant in let round = rounds_in c.args.crew.now in
+    let mine = last_one (IsOf round c.args.era) c.pop.new.self.items c.loop-one.held.items c.in-Some.one c.in-Some.ensures.items was.1 in
+    subst (λ (z : (RoundFacts × List Chapter) × ℕ). IsOf z.0 z.1 c.in-Some.one) (λ i. (sym was.3 i, sym mine.era_is i)) mine
+
+pub give_back-requires-clause-some : goal.give_back-requires-clause-some
+give_back-requires-clause-some g c =
+    let mine = last_one (IsOf (rounds_in c.args.crew.now) c.args.era) c.pop.new.self.items c.loop-one.held.items c.in-Some.one c.in-Some.ensures.items c.loop-one.invariant.1 in
+    subst (λ z. 0 < z) (sym mine.era_is) c.requires.some
 
 pub loop-one-preserved : goal.loop-one-preserved
 loop-one-preserved g c =
@@ -22,7 +27,7 @@ loop-one-preserved g c =
     let cut : c.loop-one.held.items ≡ c.pop.new.self.items ++ c.in-Some.one ∷ [] = c.pop.ensures.items ∙ ap (λ (z : Option EndFacts). c.pop.new.self.items ++ option_to_list z) c.in-Some.is in
     let mine = last_one (IsOf round era) c.pop.new.self.items c.loop-one.held.items c.in-Some.one cut was.1 in
     let grown : vec_len c.push_reserved.new.self ≡ vec_len c.loop-one.idle + 1 = c.push_reserved.ensures.len in let shrunk : vec_len c.pop.new.self + 1 ≡ vec_len c.loop-one.held = c.in-Some.ensures.cases in (
-      omega (arith, was.0, grown, shrunk),
+      grown_len (vec_len c.loop-one.idle) _ (vec_len c.loop-one.held) _ _ was.0 grown shrunk,
       all_but_last (IsOf round era) c.pop.new.self.items c.loop-one.held.items c.in-Some.one cut was.1,
       one_more (IsBackIn round era c.give_back.new.crew.knows.history) c.loop-one.idle.items c.push_reserved.new.self.items c.give_back.result c.push_reserved.ensures.items
           (all_back_on _ _ _ _ _ gave.goes_on was.2) (same_era _ _ _ _ _ mine.era_is (subst (λ (z : RoundFacts × List Chapter). IsBackIn z c.in-Some.one.known.at.era c.give_back.new.crew.knows.history c.give_back.result) was.3 gave.back)),
@@ -30,7 +35,7 @@ loop-one-preserved g c =
       c.push_reserved.ensures.capacity ∙ was.4,
       c.pop.ensures.capacity ∙ was.5,
       gave.handed ∙ was.6,
-      omega (arith, gave.counted, was.7, grown),
+      counted_on c.loop-one.crew.back _ (vec_len c.loop-one.idle) _ _ gave.counted was.7 grown,
       prefix_trans c.args.crew.now.knows.history c.loop-one.crew.knows.history c.give_back.new.crew.knows.history was.8 gave.goes_on,
       took_one c.pop.new.self.items c.loop-one.held.items c.loop-one.idle.items c.push_reserved.new.self.items c.in-Some.one c.give_back.result _ cut c.push_reserved.ensures.items gave.kept was.9,
       gave_one c.args.crew.now.knows.accepted c.loop-one.crew.knows.accepted c.give_back.new.crew.knows.accepted c.loop-one.idle.items c.push_reserved.new.self.items c.give_back.result c.push_reserved.ensures.items gave.changes was.10,
@@ -38,5 +43,24 @@ loop-one-preserved g c =
     )
 
 pub returns-clause-kept : goal.returns-clause-kept
-returns-clause-kept g c = let was = c.loop-one.invariant in let none : c.loop-one.held.items ≡ [] = search rules in
+returns-clause-kept g c = let was = c.loop-one.invariant in let none : c.loop-one.held.items ≡ [] = nil_from_length c.loop-one.held.items (sym c.loop-one.held.ok.0 ∙ c.in_default.ensures.cases.0) in
     kept_in_order c.loop-one.idle.items c.args.held.now.items (ap (λ (z : List EndFacts). map kept_of z ++ map kept_of (reverse c.loop-one.idle.items)) (sym none) ∙ was.9)
+
+pub returns-clause-none_left : goal.returns-clause-none_left
+returns-clause-none_left g c = nil_from_length c.pop.new.self.items (sym c.pop.new.self.ok.0 ∙ c.in_default.ensures.cases.1)
+
+pub loop-one-init : goal.loop-one-init
+loop-one-init g c = let crew = c.args.crew.now in let empty = c.requires.empty in let len : vec_len c.args.idle.now ≡ 0 = c.args.idle.now.ok.0 ∙ ap length empty in (
+  none_first _ _ _ len c.reverse.ensures.len,
+  subst (All (IsOf (rounds_in crew) c.args.era)) (sym c.reverse.ensures.items) (all_reversed (IsOf (rounds_in crew) c.args.era) c.args.held.now.items c.requires.of_round),
+  all_none (IsBackIn (rounds_in crew) c.args.era crew.knows.history) c.args.idle.now.items empty,
+  refl,
+  refl,
+  c.reverse.ensures.capacity,
+  refl,
+  none_more _ _ len,
+  prefix_refl crew.knows.history,
+  ap (λ (z : List EndFacts). map kept_of c.reverse.new.self.items ++ map kept_of (reverse z)) empty ∙ append-nil (map kept_of c.reverse.new.self.items) ∙ ap (map kept_of) c.reverse.ensures.items,
+  sym (ap (λ (z : List EndFacts). crew.knows.accepted ++ flat_map accepted_by z) empty ∙ append-nil crew.knows.accepted),
+  refl,
+)

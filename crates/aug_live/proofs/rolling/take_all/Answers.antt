@@ -1,8 +1,10 @@
-use Rattle.std.proofs.Common.{◌≡◌, ◌+◌, ◌<◌, ◌∙◌, [], ◌∷◌, ◌++◌, true, vec_len, ap, arith}
-use Rattle.std.specs.Prelude.{Option, option_to_list}
-use Rattle.aug_live.specs.inside.LaneKnowledge.{EndFacts, rolls}
+use Rattle.std.proofs.Common.{◌≡◌, ◌+◌, ◌<◌, ◌∙◌, List, [], ◌∷◌, ◌++◌, true, vec_len, ap, subst, sym}
+use Rattle.std.specs.Prelude.{Option, option_to_list, reverse}
+use Rattle.std.proofs.lemmas.List.{append-nil, nil_from_length}
+use Rattle.aug_live.specs.inside.LaneKnowledge.{EndFacts, KnownFacts, Rolls, rolls}
 use Rattle.aug_live.proofs.Dealing.{moved_one}
-use Rattle.aug_live.proofs.Moving.{all_but_last}
+use Rattle.aug_live.proofs.Moving.{all_but_last, last_one, shrunk_len}
+use Rattle.aug_live.proofs.Tied.{rolls_on}
 use Rattle.aug_live.proofs.rolling.take_all.Goals as goal
 
 pub loop-port-preserved : goal.loop-port-preserved
@@ -12,8 +14,27 @@ loop-port-preserved g c =
     let grown : vec_len c.push_reserved.new.self ≡ vec_len c.loop-port.held + 1 = c.push_reserved.ensures.len in let shrunk : vec_len c.pop.new.self + 1 ≡ vec_len c.loop-port.ports = c.in-Some.ensures.cases in (
       moved_one c.pop.new.self.items c.loop-port.ports.items c.loop-port.held.items c.push_reserved.new.self.items c.in-Some.port (record { lock = c.in-Ok.out.lock; known = c.in-Ok.out.known }) _ cut c.push_reserved.ensures.items
           (λ i. record { lock = c.in-Ok.ensures.lock i; known = c.in-Ok.ensures.known i }) was.0,
-      omega (arith, was.1, grown, shrunk),
+      shrunk_len (vec_len c.loop-port.ports) _ (vec_len c.loop-port.held) _ _ was.1 grown shrunk,
       all_but_last (λ (e : EndFacts). (rolls e.known.whose ≡ true) × (0 < e.known.at.era)) c.pop.new.self.items c.loop-port.ports.items c.in-Some.port cut was.2,
       c.pop.ensures.capacity ∙ was.3,
       c.push_reserved.ensures.capacity ∙ was.4,
     )
+
+pub invariant_of-push_reserved : goal.invariant_of-push_reserved
+invariant_of-push_reserved g c =
+    let port : EndFacts = c.in-Some.port in let learnt = c.in-Ok.ensures in
+    let mine = last_one (λ (e : EndFacts). (rolls e.known.whose ≡ true) × (0 < e.known.at.era)) c.pop.new.self.items c.loop-port.ports.items port c.in-Some.ensures.items c.loop-port.invariant.2 in (
+      learnt.taken,
+      ap (λ (z : KnownFacts). rolls z.whose) learnt.known ∙ mine.0,
+      subst (λ (z : KnownFacts). Rolls z z.before c.in-Ok.lane) (sym learnt.known) (rolls_on port.known c.in-Ok.lane learnt.knows mine.0 mine.1),
+    )
+
+pub returns-in-Err-clause-same : goal.returns-in-Err-clause-same
+returns-in-Err-clause-same g c = let pop = c.pop.new.self.items in let held = reverse c.loop-port.held.items in
+    ap (λ (z : List EndFacts). z ++ held) (c.push_reserved-in-Err.ensures.items ∙ ap (λ (z : EndFacts). pop ++ z ∷ []) c.in-Err.ensures.same ∙ sym c.in-Some.ensures.items) ∙ c.loop-port.invariant.0
+
+pub returns-clause-same : goal.returns-clause-same
+returns-clause-same g c = let held = reverse c.loop-port.held.items in ap (λ (z : List EndFacts). z ++ held) (sym (c.in_default.ensures.items ∙ append-nil c.pop.new.self.items)) ∙ c.loop-port.invariant.0
+
+pub returns-clause-all : goal.returns-clause-all
+returns-clause-all g c = nil_from_length c.pop.new.self.items (sym c.pop.new.self.ok.0 ∙ c.in_default.ensures.cases.1)

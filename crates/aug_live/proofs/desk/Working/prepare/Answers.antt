@@ -1,4 +1,4 @@
-use Rattle.std.proofs.Common.{◌≡◌, ◌∙◌, ap, refl, sym, arith, rules, map, ◌++◌}
+use Rattle.std.proofs.Common.{◌≡◌, ◌∙◌, ap, refl, sym, map, ◌++◌}
 use Rattle.std.specs.Prelude.{reverse}
 use Rattle.std.specs.Arc.{arc_value}
 use Rattle.aug_trie.specs.Crew.{CrewFacts, crew_chain}
@@ -10,6 +10,7 @@ use Rattle.aug_live.proofs.Accounting.{accounts_kept}
 use Rattle.aug_live.proofs.Counted.{crew_part, desk_keeps}
 use Rattle.aug_live.proofs.Desks.{asked_on, asked_part, kept_on, slots_as}
 use Rattle.aug_live.proofs.Lanes.{keeps_self, lanes_refl}
+use Rattle.aug_live.proofs.Rolled.{end_room, none_more, roomy}
 use Rattle.aug_live.proofs.desk.Working.prepare.Goals as goal
 
 pub returns-then-not-is_empty-clause-goes_on : goal.returns-then-not-is_empty-clause-goes_on
@@ -19,15 +20,15 @@ pub returns-then-left-late-clause-goes_on : goal.returns-then-left-late-clause-g
 returns-then-left-late-clause-goes_on g c = keeps_self c.args.self.now
 
 pub may_renew-requires-clause-slots : goal.may_renew-requires-clause-slots
-may_renew-requires-clause-slots g c = let there : arc_value c.self.inside.round ≡ c.deref.result.now = search rules in slots_as _ _ c.self.inside.slots.items there c.self.invariant.8
+may_renew-requires-clause-slots g c = let there : arc_value c.self.inside.round ≡ c.deref.result.now = sym c.deref.ensures in slots_as _ _ c.self.inside.slots.items there c.self.invariant.8
 
 pub invariant_of-self : goal.invariant_of-self
 invariant_of-self g c = let was = c.self.invariant in let w = c.self.inside in let m : CrewFacts = c.may_renew.new.crew in let done = c.prepare-done.ensures in let is = done.crew_is in
-    let there : arc_value w.round ≡ c.deref.result.now = search rules in
+    let there : arc_value w.round ≡ c.deref.result.now = sym c.deref.ensures in
     let asked = asked_on w.crew m c.may_renew.result c.may_renew.ensures.crew was.0 in
     let handed = ap (λ (z : CrewFacts). z.handed) is in let back = ap (λ (z : CrewFacts). z.back) is in
     let accounts = accounts_kept (arc_value w.round).bits w.counts m c.prepare-done.new.self (map kept_of (w.ports.items ++ reverse w.held.items)) (map kept_of (w.ports.items ++ reverse w.held.items)) (ap (λ (z : CrewFacts). z.past) is) done.same_changes refl asked.accounts in (
-      kept_on _ _ w.counts w.counts _ m c.prepare-done.new.self (w.ports.items ++ reverse w.held.items) (w.ports.items ++ reverse w.held.items) _ _ 0 asked asked.of_round refl accounts refl refl refl refl (ap rounds_in is) (omega (arith, handed)) (omega (arith, back)) (omega (arith, handed, asked.within)),
+      kept_on _ _ w.counts w.counts _ m c.prepare-done.new.self (w.ports.items ++ reverse w.held.items) (w.ports.items ++ reverse w.held.items) _ _ 0 asked asked.of_round refl accounts refl refl refl refl (ap rounds_in is) (none_more handed) (none_more back) (roomy handed refl asked.within),
       was.1,
       was.2,
       was.3,
@@ -46,3 +47,12 @@ returns-clause-goes_on g c = let w = c.self.inside in let m : CrewFacts = c.may_
 
 pub returns-clause-past : goal.returns-clause-past
 returns-clause-past g c = ap (λ (z : CrewFacts). z.past) c.prepare-done.ensures.crew_is ∙ ap (λ (z : CrewFacts). z.past) c.may_renew.ensures.crew ∙ ap (λ (z : TrieFacts). z.rounds.past) c.self.view_is
+
+pub may_renew-requires-clause-room : goal.may_renew-requires-clause-room
+may_renew-requires-clause-room g c = end_room c.self.invariant.0 c.self.inside.crew refl
+
+pub prepare-done-requires-clause-room : goal.prepare-done-requires-clause-room
+prepare-done-requires-clause-room g c = end_room c.self.invariant.0 c.may_renew.new.crew (ap rounds_in c.may_renew.ensures.crew)
+
+pub returns-clause-held : goal.returns-clause-held
+returns-clause-held g c = ap (λ (z : TrieFacts). z.held) c.self.view_is

@@ -1,0 +1,17 @@
+use Rattle.std.proofs.Common.{refl}
+use Rattle.std.specs.Bool.{OnFalse, OnTrue}
+use Rattle.std.specs.Prelude.{false, true}
+use Rattle.aug_model.specs.declared.outcome.Outcome.TheVariants.{Accepted}
+use Rattle.aug_trie.specs.Knowledge.{insertion}
+use Rattle.aug_trie.specs.Updates.{AcceptedUpdate, RefusedUpdate}
+use Rattle.aug_trie.specs.declared.updates.request.Request.TheVariants as asked
+use Rattle.aug_live.proofs.Flags.{came_to, no_insertion}
+use Rattle.aug_live.proofs.handle.Handle.insert.Goals as goal
+
+pub returns-in_default-clause-made : goal.returns-in_default-clause-made
+returns-in_default-clause-made g c = let k = c.args.k in let told = c.in_ok-update.field-0 in came_to asked.Insert k told told.outcome (λ x y. OnTrue false (AcceptedUpdate insertion k k x y) × OnFalse false (RefusedUpdate insertion k x y)) c.args.self.now c.update.new.self refl
+    (λ x y came. (tt, no_insertion k told.outcome c.in_default.not-Accepted x y came)) c.in_ok-update.ensures.made
+
+pub returns-in-Accepted-clause-made : goal.returns-in-Accepted-clause-made
+returns-in-Accepted-clause-made g c = let k = c.args.k in let told = c.in_ok-update.field-0 in came_to asked.Insert k told Accepted (λ x y. OnTrue true (AcceptedUpdate insertion k k x y) × OnFalse true (RefusedUpdate insertion k x y)) c.args.self.now c.update.new.self c.in-Accepted.is
+    (λ x y came. (came, tt)) c.in_ok-update.ensures.made

@@ -1,9 +1,11 @@
-use Rattle.std.proofs.Common.{arith, subst, sym, ◌≡◌, ◌∷◌, [], ℕ, List, get_or, ⊎_elim}
+use Rattle.std.proofs.Common.{arith, subst, sym, ◌≡◌, ◌∙◌, ◌∷◌, [], ℕ, List, get_or, ⊎_elim}
 use Rattle.std.proofs.lemmas.Bool.{cases_eq}
 use Rattle.aug_core.specs.Effects.{Says}
 use Rattle.aug_core.specs.Places.{Shape}
 use Rattle.aug_core.specs.declared.view.SeatView.{SeatView}
+use Rattle.aug_words.proofs.Brought.{seen_on}
 use Rattle.aug_words.proofs.Lays.{beside_on, says_on}
+use Rattle.aug_words.proofs.Spots.{small_place}
 use Rattle.aug_words.proofs.words.Words.load_record.Goals as goal
 
 pub returns-clause-says : goal.returns-clause-says
@@ -17,3 +19,43 @@ returns-clause-says g c field low =
     (λ n1. ⊎_elim (λ (z : field ≡ 2). at 2 z (says_on b s v _ n 2 _ two c.load_field-count.ensures.says))
     (λ n2. ⊎_elim (λ (z : field ≡ 3). at 3 z (says_on b s v _ n 3 _ three c.load_field-a.ensures.says))
     (λ n3. at 4 (omega (arith, n0, n1, n2, n3)) (says_on b s v _ n 4 _ four c.load_field-b.ensures.says)) (cases_eq field 3)) (cases_eq field 2)) (cases_eq field 1)) (cases_eq field 0)
+
+pub returns-clause-view : goal.returns-clause-view
+returns-clause-view g c =
+    let b : ℕ = c.args.base in let s : Shape = c.args.self.now.shape in
+    let zero = beside_on b s _ _ _ (beside_on b s _ _ _ c.fetch.ensures.view c.fetch-2.ensures.view) c.fetch-3.ensures.view in
+    let two = beside_on b s _ _ _ (beside_on b s _ _ _ zero c.load_field-left.ensures.view) c.load_field-right.ensures.view in
+    beside_on b s _ _ _ (beside_on b s _ _ _ (beside_on b s _ _ _ two c.load_field-count.ensures.view) c.load_field-a.ensures.view) c.load_field-b.ensures.view
+
+pub load_field-left-requires-clause-seen : goal.load_field-left-requires-clause-seen
+load_field-left-requires-clause-seen g c = let b : ℕ = c.args.base in let s : Shape = c.args.self.now.shape in let n : ℕ = c.args.number in
+    seen_on b s _ _ n c.fetch-3.ensures.view (seen_on b s _ _ n c.fetch-2.ensures.view (seen_on b s _ _ n c.fetch.ensures.view c.requires.seen))
+
+pub load_field-right-requires-clause-seen : goal.load_field-right-requires-clause-seen
+load_field-right-requires-clause-seen g c = let b : ℕ = c.args.base in let s : Shape = c.args.self.now.shape in let n : ℕ = c.args.number in
+    seen_on b s _ _ n c.load_field-left.ensures.view (seen_on b s _ _ n c.fetch-3.ensures.view (seen_on b s _ _ n c.fetch-2.ensures.view (seen_on b s _ _ n
+    c.fetch.ensures.view c.requires.seen)))
+
+pub load_field-count-requires-clause-seen : goal.load_field-count-requires-clause-seen
+load_field-count-requires-clause-seen g c = let b : ℕ = c.args.base in let s : Shape = c.args.self.now.shape in let n : ℕ = c.args.number in
+    seen_on b s _ _ n c.load_field-right.ensures.view (seen_on b s _ _ n c.load_field-left.ensures.view (seen_on b s _ _ n c.fetch-3.ensures.view (seen_on b
+    s _ _ n c.fetch-2.ensures.view (seen_on b s _ _ n c.fetch.ensures.view c.requires.seen))))
+
+pub load_field-a-requires-clause-seen : goal.load_field-a-requires-clause-seen
+load_field-a-requires-clause-seen g c = let b : ℕ = c.args.base in let s : Shape = c.args.self.now.shape in let n : ℕ = c.args.number in
+    seen_on b s _ _ n c.load_field-count.ensures.view (seen_on b s _ _ n c.load_field-right.ensures.view (seen_on b s _ _ n c.load_field-left.ensures.view
+    (seen_on b s _ _ n c.fetch-3.ensures.view (seen_on b s _ _ n c.fetch-2.ensures.view (seen_on b s _ _ n c.fetch.ensures.view c.requires.seen)))))
+
+pub load_field-b-requires-clause-seen : goal.load_field-b-requires-clause-seen
+load_field-b-requires-clause-seen g c = let b : ℕ = c.args.base in let s : Shape = c.args.self.now.shape in let n : ℕ = c.args.number in
+    seen_on b s _ _ n c.load_field-a.ensures.view (seen_on b s _ _ n c.load_field-count.ensures.view (seen_on b s _ _ n c.load_field-right.ensures.view
+    (seen_on b s _ _ n c.load_field-left.ensures.view (seen_on b s _ _ n c.fetch-3.ensures.view (seen_on b s _ _ n c.fetch-2.ensures.view (seen_on b s _
+    _ n c.fetch.ensures.view c.requires.seen))))))
+
+pub fetch-requires-3-clause-place : goal.fetch-requires-3-clause-place
+fetch-requires-3-clause-place g c = small_place c.args.self.now.shape c.args.node c.requires.node.inside
+
+pub returns-clause-same : goal.returns-clause-same
+returns-clause-same g c = c.load_field-b.ensures.same ∙ c.load_field-a.ensures.same ∙ c.load_field-count.ensures.same ∙ c.load_field-right.ensures.same
+    ∙ c.load_field-left.ensures.same
+    ∙ c.fetch-3.ensures.same ∙ c.fetch-2.ensures.same ∙ c.fetch.ensures.same

@@ -17,5 +17,7 @@ mod Desks
 mod Handing
 mod Slotted
 mod Shown
+mod Looking
+mod Batching
 mod Planning
 mod Rolled

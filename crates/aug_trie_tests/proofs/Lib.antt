@@ -1,2 +1,4 @@
 -- The proofs of the tests of `aug_trie`.
 mod Lents
+mod Steps
+mod Crewing

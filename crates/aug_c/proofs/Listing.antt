@@ -230,6 +230,20 @@ module _ (members : SetFacts → ℕ → List (ℕ × ℕ)) (first : LookFacts) 
       let many = w.few in
       subst (λ (n : ℕ). ListsMembers (weights_of all) weights ws (min (length weights) n)) long (wrote_all (weights_of all) weights ws listed (omega (arith, many, long)) w.wrote_weights (elim end [ inl full ↦ inl (omega (arith, full, few)) | inr whole ↦ inr (whole ∙ sym long) ]))
 
+  -- the call has done all that there is room for
+  pub full_keys : (listed : ℕ) (now : LookFacts) (ks ws : List ℕ) (code : ℤ) → Written listed now ks ws → length ks ≡ length keys → length ks ≤ listed → code ≡ pos (length ks) → ListsKeys (λ set. members set key) keys ks first now code
+  full_keys listed now ks ws code w long full is =
+      let count : length ks ≡ min listed (length keys) = omega (arith, long, full) in
+      listed_keys listed now ks ws code w (inl (omega (arith, long, full))) (is ∙ ap pos count)
+
+  pub full_weights : (listed : ℕ) (now : LookFacts) (ks ws : List ℕ) → Written listed now ks ws → length ks ≡ length keys → length ks ≤ listed → length weights ≤ length keys
+      → ListsMembers (weights_of (members (set_of_look first) key)) weights ws (min (length weights) (length (members (set_of_look first) key)))
+  full_weights listed now ks ws w long full few = listed_weights listed now ks ws w few (inl (omega (arith, long, full)))
+
+-- after a page that is full there is less room
+pub less_room : (n n' listed len : ℕ) → n' ≡ n → listed < n → len ≡ 32 → n' - (listed + len) < n - listed
+less_room n n' listed len same within full = omega (arith, same, within, full)
+
 -- the last member of a page that is full
 last_is : (items : List (ℕ × ℕ)) (last : ℕ) → Some last ≡ (if length items == 32 then Some (slice_index_or items 31 (0, 0)).0 else None) → (length items ≡ 32) × ((get_or items 31 (0, 0)).0 ≡ last)
 last_is items last is =

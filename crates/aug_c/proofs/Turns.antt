@@ -1,7 +1,7 @@
 -- One update after another.
 use Rattle.std.proofs.Common.{◌≡◌, ◌⊎◌, inl, inr, ◌+◌, ◌-◌, ◌<◌, ◌≤◌, min, ◌++◌, ◌∙◌, ℕ, List, [], ◌∷◌, All, length, take, drop, get_or, flat_map, pos, refl, sym, ap, subst, arith}
 use Rattle.std.specs.Prelude.{ℤ, ◌^◌}
-use Rattle.std.proofs.lemmas.List.{append-nil, drop-drop, get_or-take, length-append, length-drop, length-take, take-take}
+use Rattle.std.proofs.lemmas.List.{append-nil, drop-drop, get_or-drop, get_or-take, length-append, length-drop, length-take, take-take}
 use Rattle.std.proofs.lemmas.Grind.{flat_map-append}
 use Rattle.aug_trie.specs.Pass.{PassFacts}
 use Rattle.aug_trie.specs.UpdateBatches.{DoesBatch, DoesPart, no_part}
@@ -55,6 +55,9 @@ pub again_or_closed : (access : HandleFacts) (cause : TryError Busy) → IfRefus
 again_or_closed access (tried.Again missed) why = inl refl
 again_or_closed access (tried.Refused cause) why = inr (refl, (cause, why))
 
+pub told_refusal : (access : HandleFacts) (cause : TryError Busy) (code : ℤ) → code ≡ refusal_code (refusal_of cause) → IfRefused (RefusesCall access) cause → (code ≡ codes.again) ⊎ ((code ≡ codes.closed) × ShowsClosed access)
+told_refusal access cause code says why = subst (λ (z : ℤ). (z ≡ codes.again) ⊎ ((z ≡ codes.closed) × ShowsClosed access)) (sym says) (again_or_closed access cause why)
+
 -- what a batch came to stands in the first places
 first_outcomes : {requests : List Request} {keys : List ℕ} {outcomes : List Outcome} {now new : HandleFacts} (count : ℕ) → length keys ≡ count → Makes count (DoesBatch requests keys outcomes) now new → Makes count (DoesBatch requests keys (take count outcomes)) now new
 first_outcomes {requests} {keys} {outcomes} {now} {new} count long m = record {
@@ -79,6 +82,27 @@ first_outcomes {requests} {keys} {outcomes} {now} {new} count long m = record {
   who = m.who;
   made = m.made;
 }
+
+-- some keys in turn are below what all are below
+pub part_below : (keys : List ℕ) (place n old now : ℕ) → All (λ k. k < 2 ^ old) keys → now ≡ old → All (λ k. k < 2 ^ now) (take n (drop place keys))
+part_below keys place n old now all same k d below =
+    let some = length-take n (drop place keys) in let rest = length-drop place keys in
+    let here = get_or-take n (drop place keys) k d (omega (arith, below, some)) ∙ get_or-drop place keys k d in
+    subst (λ (b : ℕ). get_or (take n (drop place keys)) k d < 2 ^ b) (sym same) (subst (λ (z : ℕ). z < 2 ^ old) (sym here) (all (place + k) d (omega (arith, below, some, rest))))
+
+-- what a batch changes can be counted
+pub changes_fit : (keys : List ℕ) (outcomes : List Outcome) (place made changed n count change : ℕ) → place ≤ made → made ≤ place → place < length keys → changed ≤ made → length keys ≤ 4294967295
+    → count ≤ length (take n (drop place keys)) → change ≤ length (take count outcomes) → changed + change < 4294967296
+changes_fit keys outcomes place made changed n count change le ge inside low few some less =
+    let t = length-take n (drop place keys) in let d = length-drop place keys in let o = length-take count outcomes in omega (arith, le, ge, inside, low, few, some, less, t, d, o)
+
+-- a batch has a place for each outcome, and no more than 32
+pub outcomes_fit : (keys : List ℕ) (outcomes : List Outcome) (place end count : ℕ) → end ≡ min (length keys) (place + 32) → count ≤ length (take (end - place) (drop place keys)) → length outcomes ≡ 32 → count ≡ length (take count outcomes)
+outcomes_fit keys outcomes place end count ends some long =
+    let t = length-take (end - place) (drop place keys) in let o = length-take count outcomes in omega (arith, ends, some, long, t, o)
+
+pub few_outcomes : (outcomes : List Outcome) (count : ℕ) → length outcomes ≡ 32 → length (take count outcomes) ≤ 32
+few_outcomes outcomes count long = omega (arith, long, length-take count outcomes)
 
 module _ (asked : ℕ → Request) (keys : List ℕ) (before : ArrayProgress) (old : HandleFacts) where
   -- updates were made in turn, as many as the progress says

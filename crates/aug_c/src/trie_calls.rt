@@ -1,9 +1,11 @@
 //! The calls on a trie.
 ghost use Rattle.std.specs.Prelude.{◌≡◌, ◌≢◌, IsNone, None, pos};
+ghost use Rattle.aug_core.specs.Layout.{IsWithin};
+ghost use Rattle.aug_live.specs.Plans.{Suits};
 ghost use Rattle.aug_c.specs.Codes.{closed, is_open};
 ghost use Rattle.aug_c.specs.Handles.{state_of};
 ghost use Rattle.aug_c.specs.Marks.{trie_mark, user_mark};
-ghost use Rattle.aug_c.specs.TrieCalls.{ClosesTrie, OnTrie, OpensTrie, OpensUser, TendsTrie};
+ghost use Rattle.aug_c.specs.TrieCalls.{ClosesOpened, ClosesTrie, OnTrie, OpensTrie, OpensUser, TendsTrie, empty_of};
 
 use crate::codes::{AGAIN, BAD_BITS, BAD_USERS, CLOSED, NO_MEMORY, NO_USER, OPEN, TOO_LARGE};
 use crate::raw_handle::{HandleSlot, RawHandle, TRIE, USER};
@@ -53,15 +55,34 @@ pub extern "C" fn aug_try_open(
     let Some(_plan) = Plan::new(bits, users, bytes) else {
         return TOO_LARGE;
     };
-    let Ok(mut slot) = Box::new(alloc, HandleSlot::closed()) else {
+    open_set(alloc, trie, set, users, bytes)
+}
+
+// Opens a trie over an empty set in a handle, by numbers that suit it.
+fn open_set(alloc: Global, trie: &mut RawHandle, set: Members, users: u32, bytes: u64) -> i64
+    requires empty { set ≡ empty_of set.bits }
+    requires bits { IsWithin 1 16 set.bits }
+    requires users { IsWithin 1 64 users }
+    requires suits { Suits set.bits users bytes }
+    ensures { OpensTrie set.bits users bytes trie.old trie.new result }
+{
+    let Ok(slot) = Box::new(alloc, HandleSlot::closed()) else {
         return NO_MEMORY;
     };
     let Ok((live, spare)) = SummedTrie::open(alloc, set, users, bytes) else {
         return NO_MEMORY;
     };
-    slot.state = HandleState::Trie(Opened { live, spare });
+    let slot = filled(slot, HandleState::Trie(Opened { live, spare }));
     trie.put(TRIE, slot);
     0
+}
+
+// The slot, which stands for this from now on.
+fn filled(mut slot: Box<HandleSlot, Global>, state: HandleState) -> Box<HandleSlot, Global>
+    ensures { result.value.state ≡ state }
+{
+    slot.state = state;
+    slot
 }
 
 // Gives the next access of a trie to a handle.
@@ -71,13 +92,13 @@ fn open_user(alloc: Global, trie: &mut Opened, user: &mut RawHandle) -> i64
     if trie.spare.is_empty() {
         return NO_USER;
     }
-    let Ok(mut slot) = Box::new(alloc, HandleSlot::closed()) else {
+    let Ok(slot) = Box::new(alloc, HandleSlot::closed()) else {
         return NO_MEMORY;
     };
     let Some(access) = trie.spare.pop() else {
         unreachable!()
     };
-    slot.state = HandleState::User(User::of(access));
+    let slot = filled(slot, HandleState::User(User::of(access)));
     user.put(USER, slot);
     0
 }
@@ -154,6 +175,19 @@ pub extern "C" fn aug_try_close(alloc: Global, trie: &mut RawHandle, out: &mut C
     let HandleState::Trie(opened) = std::mem::replace(&mut slot.state, HandleState::Closed) else {
         return CLOSED;
     };
+    close_opened(slot, opened, trie, out)
+}
+
+// Closes a trie that was taken out of a handle, or puts it back.
+fn close_opened(
+    slot: Box<HandleSlot, Global>,
+    opened: Opened,
+    trie: &mut RawHandle,
+    out: &mut ClosingReport,
+) -> i64
+    requires { trie.old.held.value ≡ None }
+    ensures { ClosesOpened opened trie.new out.old out.new result }
+{
     let Opened { live, spare } = opened;
     match live.try_close() {
         Ok((set, counts)) => {
@@ -165,7 +199,7 @@ pub extern "C" fn aug_try_close(alloc: Global, trie: &mut RawHandle, out: &mut C
             0
         }
         Err((live, _)) => {
-            slot.state = HandleState::Trie(Opened { live, spare });
+            let slot = filled(slot, HandleState::Trie(Opened { live, spare }));
             trie.put(TRIE, slot);
             AGAIN
         }

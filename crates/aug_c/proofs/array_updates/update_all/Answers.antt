@@ -1,6 +1,6 @@
-use Rattle.std.proofs.Common.{rules, ◌≡◌, ◌∙◌, ap, refl, w64, to_z, of_z}
+use Rattle.std.proofs.Common.{◌∙◌, ap, refl}
 use Rattle.aug_c.specs.Handles.{state_in}
-use Rattle.aug_c.proofs.Calls.{update_call}
+use Rattle.aug_c.proofs.Calls.{same_code, update_call}
 use Rattle.aug_c.proofs.Owning.{owned}
 use Rattle.aug_c.proofs.array_updates.update_all.Goals as goal
 
@@ -8,6 +8,6 @@ pub invariant_of-held : goal.invariant_of-held
 invariant_of-held c = owned c.held.inside.access c.update_all_by_access.new.access c.held.inside.look c.update_all_by_access.ensures.lane c.held.invariant
 
 pub returns-in-User : goal.returns-in-User
-returns-in-User c = let code : to_z w64 (of_z w64 c.update_all_by_access.result) ≡ c.update_all_by_access.result = search rules in
+returns-in-User c = let code = same_code c.update_all_by_access.result c.update_all_by_access.type_inv in
     update_call _ _ c.args.user.now _ c.in-User.held c.held.inside.access c.update_all_by_access.new.access c.held.inside.look _ c.update_all_by_access.result (c.is_open.ensures.0 c.if-not-is_open.false) (ap state_in c.as_slot.ensures.value ∙ c.in-User.is) c.held.view_is refl refl code
     c.update_all_by_access.ensures.updates

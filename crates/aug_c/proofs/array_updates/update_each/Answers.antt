@@ -1,7 +1,7 @@
 use Rattle.std.proofs.Common.{rules, ◌≡◌, ◌-◌, ◌∙◌, ℕ, min, w64, to_z, of_z, length, ap, arith}
 use Rattle.aug_c.specs.UserCalls.{refusal_code}
 use Rattle.aug_c.specs.inside.KeyRequests.{requests_of}
-use Rattle.aug_c.proofs.Turns.{came_none, came_next, came_all, came_so_far}
+use Rattle.aug_c.proofs.Turns.{came_none, came_next, came_all, came_so_far, part_below, changes_fit, outcomes_fit, few_outcomes}
 use Rattle.aug_c.proofs.array_updates.update_each.Goals as goal
 
 pub loop-place-init : goal.loop-place-init
@@ -20,3 +20,19 @@ returns-in-Err c = let inv = c.loop-place.invariant in let code : to_z w64 (of_z
 pub returns : goal.returns
 returns c = let inv = c.loop-place.invariant in let past = inv.past in let test = c.loop-place-test.false in
     came_all (requests_of c.args.each c.args.weights.now) c.args.keys.now c.args.before c.args.access.now c.loop-place.so_far c.loop-place.access (omega (arith, past, test)) inv.came
+
+pub try_update_all-requires-clause-keys : goal.try_update_all-requires-clause-keys
+try_update_all-requires-clause-keys c =
+    part_below c.args.keys.now c.loop-place.place (c.min.result - c.loop-place.place) c.args.access.now.half.round.bits c.loop-place.access.half.round.bits c.requires.below c.loop-place.invariant.came.bits
+
+pub overflow_add-so_far-in-Ok : goal.overflow_add-so_far-in-Ok
+overflow_add-so_far-in-Ok c = let at = c.loop-place in record {
+  fits = changes_fit c.args.keys.now c.try_update_all.new.outcomes at.place at.so_far.made at.so_far.changed (c.min.result - at.place) c.in-Ok.count c.changed_in.result
+      at.invariant.past c.if-place-so_far.false c.loop-place-test.true at.invariant.came.few c.requires.few c.in-Ok.ensures.some.0 c.changed_in.ensures.few;
+}
+
+pub slice_bounds-changed_in-end : goal.slice_bounds-changed_in-end
+slice_bounds-changed_in-end c = outcomes_fit c.args.keys.now c.try_update_all.new.outcomes c.loop-place.place c.min.result c.in-Ok.count c.min.ensures c.in-Ok.ensures.some.0 c.try_update_all.auto.outcomes
+
+pub changed_in-requires : goal.changed_in-requires
+changed_in-requires c = few_outcomes c.try_update_all.new.outcomes c.in-Ok.count c.try_update_all.auto.outcomes

@@ -1,4 +1,4 @@
-use Rattle.std.proofs.Common.{rules, ◌≡◌, ◌∙◌, ◌++◌, List, length, map, take, drop, min, ap, sym, arith}
+use Rattle.std.proofs.Common.{rules, ◌≡◌, ◌∙◌, ◌++◌, List, length, map, take, drop, min, ap, refl, sym, true≢false, arith}
 use Rattle.std.proofs.lemmas.List.{length-map}
 use Rattle.aug_live.specs.LiveHandles.{set_of_look}
 use Rattle.aug_c.specs.ChangeCalls.{change_of, page_from, set_of_arrays}
@@ -22,3 +22,13 @@ returns c =
         asked = c.changes_since-page.ensures.asked;
       };
     }
+
+pub returns-then-not-is_rising : goal.returns-then-not-is_rising
+returns-then-not-is_rising c = record {
+  bad_length = λ other. absurd (other c.if-weights-keys.false);
+  bad_key = λ _ _. (refl, refl, refl);
+  lists = λ _ rising. absurd (true≢false (sym (c.is_rising.ensures.1 rising) ∙ c.if-not-is_rising.true));
+}
+
+pub returns-then-weights-keys : goal.returns-then-weights-keys
+returns-then-weights-keys c = record { bad_length = λ _. (refl, refl, refl); bad_key = λ same _. absurd (c.if-weights-keys.true same); lists = λ same _. absurd (c.if-weights-keys.true same) }

@@ -1,4 +1,4 @@
-"""Each public call is made by somebody: a program, a test, an example, a binding, or another crate."""
+"""Each public call is made by somebody: a program, a test, an example, a binding, or another crate; and each lemma has a use."""
 
 import os
 import re
@@ -9,6 +9,10 @@ from surface import calls_of
 
 # Whom nobody calls, each with its reason.
 UNCALLED = {"aug_report": "its theorems are statements, which are proved as functions and have nothing to do"}
+
+# A word of a proof, and a line that states a definition.
+WORD = re.compile(r"[\w'-]+")
+STATED = re.compile(r"^( *)(?:pub |abbrev )*([\w'-]+) : ", re.M)
 
 
 def uncalled(top):
@@ -28,12 +32,44 @@ def uncalled(top):
     return left
 
 
+def unused(top):
+    """The definitions of pages of lemmas that no line names but those where they are stated and defined, as `page: name`."""
+    cited, stated = set(), []
+    for path in (it for kind in ("antt", "rt") for it in files(top, f"crates/*/**/*.{kind}")):
+        text = re.sub("--.*", "", read(path))
+        here = {name: indent for indent, name in STATED.findall(text)} if re.search(r"/proofs/\w+\.antt$", path) else {}
+        stated += [(os.path.basename(path), name) for name in here]
+        for line in text.splitlines():
+            first, *others = WORD.findall(re.sub(r"^(\s*)(?:pub |abbrev )+", r"\1", line)) or [""]
+            is_own = here.get(first) == re.match(r"\s*", line)[0] and re.search(r" [:=]( |$)", line)
+            cited.update(others if is_own else [first, *others])
+    return [f"{page}: {name}" for page, name in stated if name not in cited]
+
+
 def test_each_public_call_is_made():
     assert uncalled(TOP) == []
 
 
+def test_each_lemma_has_a_use():
+    assert unused(TOP) == []
+
+
+SHELVES = """
+-- Of twice: a shelf has room, and room again.
+room : Room
+room = once
+
+once : Room
+once = refl
+
+pub twice : (n : ℕ) → Room
+twice zero = room
+twice (suc n) = once
+"""
+
+
 class TestSample(InFolder):
-    """Calls that somebody makes, and one that nobody does."""
+    """Calls that somebody makes, and one that nobody does; a lemma that is cited, and one that is not."""
 
     TEXTS = {
         "crates.txt": "one:\ntwo: one\n",
@@ -65,3 +101,8 @@ impl Shelf {
         for name, text in self.TEXTS.items():
             self.write(name, text)
         assert uncalled(self.folder) == ["one: turn of Shelf"]
+
+    def test_a_lemma_without_a_use(self):
+        self.write("crates/one/proofs/Shelves.antt", SHELVES)
+        self.write("crates/one/proofs/put/Answers.antt", "use Rattle.one.proofs.Shelves.{room}\n\nputs = room\n")
+        assert unused(self.folder) == ["Shelves.antt: twice"]

@@ -294,10 +294,6 @@ both_listed members keys keys_after weights weights_after old new code said same
 min_comm : (a b : ℕ) → min a b ≡ min b a
 min_comm a b = omega arith
 
--- a page is written to the places from one on
-pub put_none : {X : Type 0} (before : List X) (at : ℕ) (f : ℕ × ℕ → X) (page : List (ℕ × ℕ)) → (take at before ++ map f (take 0 page)) ++ drop (at + 0) before ≡ before
-put_none before at f page = let place : at + 0 ≡ at = omega arith in ap (λ xs. xs ++ drop (at + 0) before) (append-nil (take at before)) ∙ ap (λ (n : ℕ). take at before ++ drop n before) place ∙ take-append-drop at before
-
 pub put_more : (f : ℕ × ℕ → ℕ) (page : List (ℕ × ℕ)) (before now : List ℕ) (at i answer : ℕ) → i < length page → at + i < length before → now ≡ (take at before ++ map f (take i page)) ++ drop (at + i) before → answer ≡ f (get_or page i (0, 0))
     → set now (at + i) answer ≡ (take at before ++ map f (take (i + 1) page)) ++ drop (at + (i + 1)) before
 put_more f page before now at i answer inside room is value =

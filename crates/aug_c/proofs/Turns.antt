@@ -15,14 +15,10 @@ use Rattle.aug_live.specs.declared.error.Busy.{Busy}
 use Rattle.aug_live.specs.declared.error.TryError.{TryError}
 use Rattle.aug_live.specs.declared.error.TryError.TheVariants as tried
 use Rattle.aug_c.specs.Codes as codes
-use Rattle.aug_c.specs.ArrayCalls.{AsksFrom, HasLengths, InTurn, MakesEach, MakesSome, UpdatesAllFree, change_by, changes}
+use Rattle.aug_c.specs.ArrayCalls.{AsksFrom, HasLengths, InTurn, MakesEach, MakesSome, UpdatesAllFree, changes}
 use Rattle.aug_c.specs.UserCalls.{ShowsClosed, refusal_code}
 use Rattle.aug_c.specs.declared.array_updates.ArrayProgress.{ArrayProgress}
 use Rattle.aug_c.specs.inside.Refusals.{refusal_of}
-
-pub changes-more : (all : List Outcome) (done : Outcome) → changes (all ++ done ∷ []) ≡ changes all + change_by done
-changes-more [] done = omega arith
-changes-more (first ∷ more) done = let e = changes-more more done in omega (arith, e)
 
 pub changes-append : (all more : List Outcome) → changes (all ++ more) ≡ changes all + changes more
 changes-append [] more = omega arith

@@ -14,7 +14,7 @@ use Rattle.clap.specs.Facts.{args_of, least_values, unwrap_or_range}
 use Rattle.clap.specs.Simple.{IsSimple, IsSimpleArg, is_ready, is_ready_leaf}
 use Rattle.clap.specs.Faults.{has_free_rules}
 use Rattle.std.specs.List.{list_all}
-use Rattle.clap.specs.Words.{App, IsAmong, ReadsOne, Row, Rule, Text, app_of, fault_of, found_of, is_simple, is_simple_and_free, items_of, matches_of, new_rule, one_text, rows_of, rule_of, without_minus}
+use Rattle.clap.specs.Words.{App, IsAmong, ReadsOne, Row, Rule, Text, app_of, fault_of, found_of, is_simple, items_of, matches_of, new_rule, one_text, rows_of, rule_of, without_minus}
 use Rattle.clap.specs.declared.error.kind.ErrorKind.{ErrorKind}
 use Rattle.clap.specs.declared.error.kind.ErrorKind.TheVariants as kind
 use Rattle.std.specs.declared.num.ParseIntError.{ParseIntError}
@@ -30,14 +30,6 @@ use Rattle.aug_command.proofs.OptionReads.{IsOwn, TakesOne, option_reads}
 use Rattle.aug_command.specs.CommandLine.{AsksTooMuch, IsStopFor, number_given, number_rule, program}
 use Rattle.aug_command.specs.inside.FoundNumbers.{FindsNumber, FindsNumbers}
 use Rattle.aug_command.specs.inside.Stops.{StopsReading, TellsOf}
-
-pub program_is_simple : is_simple program ≡ true
-unfolding clap_on_literals
-program_is_simple = refl
-
-pub program_is_free : is_simple_and_free program ≡ true
-unfolding clap_on_literals
-program_is_free = refl
 
 program_is_ready : is_ready program.top ≡ true
 unfolding clap_on_literals

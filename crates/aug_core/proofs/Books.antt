@@ -28,15 +28,6 @@ module _ {A : Type 0} where
   there_is (x ∷ xs) zero h = (x, refl)
   there_is (x ∷ xs) (suc i) h = there_is xs i (omega arith)
 
-  last_at : (l : List A) → 0 < length l → (i : ℕ) × (a : A) × (get_elem? l i ≡ some a) × (length l ≡ i + 1)
-  last_at [] h = absurd (omega arith)
-  last_at (x ∷ []) h = (0, x, refl, refl)
-  last_at (x ∷ y ∷ ys) h = let t = last_at (y ∷ ys) (omega arith) in (suc t.0, t.1, t.2, let e = t.3 in omega arith)
-
-  pub shorter : (l m : List A) → ((i : ℕ) (a : A) → get_elem? l i ≡ some a → get_elem? m i ≡ some a) → length l ≤ length m
-  shorter [] m h = omega arith
-  shorter (x ∷ xs) m h = let t = last_at (x ∷ xs) (omega arith) in let b = at_below m t.0 t.1 (h t.0 t.1 t.2) in let e = t.3 in omega arith
-
 -- a later book is no shorter
 pub no_shorter : (book seen : Book) → ArePrefixes seen book → (q : ℕ) → length (history_of seen q) ≤ length (history_of book q)
 no_shorter book seen h q = prefix_long (history_of seen q) (history_of book q) (h.each q)
@@ -74,10 +65,6 @@ second_covers face s book seen b h q i e f inner past p p' = let a = h.covers q 
 -- an entry of a book has one number, and a number one place
 pub one_entry : (book : Book) (q i : ℕ) (e f : Entry) → At book q i e → At book q i f → e ≡ f
 one_entry book q i e f p p' = some-injective e f (sym p ∙ p')
-
-pub one_newest : (book : Book) (q i j : ℕ) (e f : Entry) → IsNewest book q i e → IsNewest book q j f → (i ≡ j) × (e ≡ f)
-one_newest book q i j e f a b = let x = a.last in let y = b.last in let same : i ≡ j = omega arith in
-    (same, one_entry book q j e f (subst (λ (z : ℕ). At book q z e) same a.at) b.at)
 
 -- within one history a record's number stands once: an opening record's at the first entry, a lane's once in the whole book
 pub one_index : (face : ℕ → ℕ → List (ℕ × ℕ) → List ℕ) (s : Shape) (book : Book) → IsBook face s book → (q i j : ℕ) (e f : Entry) → IsInner s q → At book q i e → At book q j f → e.number ≡ f.number → i ≡ j

@@ -16,7 +16,7 @@ use Rattle.aug_core.specs.Opening.{opening_serial, Opening, opening_pairs, openi
 use Rattle.aug_core.specs.Layout.{IsLayout}
 use Rattle.aug_core.specs.Effects.{KnowsTable, spent}
 use Rattle.aug_core.specs.Renewals.{IsOpened}
-use Rattle.aug_core.specs.Rule.{Knows, Kept, no_beginning, newcomer}
+use Rattle.aug_core.specs.Rule.{Knows, Kept, no_beginning}
 use Rattle.aug_core.specs.declared.view.Entry.{Entry}
 use Rattle.aug_core.specs.declared.view.PastEra.{PastEra}
 use Rattle.aug_core.specs.declared.view.SeatView.{SeatView}
@@ -263,7 +263,3 @@ module _ (face : ℕ → ℕ → List (ℕ × ℕ) → List ℕ) (o : Opening) w
   -- what such a seat knows of its table
   pub opener_knows : (past : List PastEra) (era base : ℕ) (lent known whole : List ℕ) → IsLayout o.shape → IsKeySet o.shape.bits (keys_of o.members) → All FitsPair o.members → length (keys_of o.members) ≤ o.shape.members → KnowsTable face (opener past era base lent known whole)
   opener_knows past era base lent known whole laid_out key_set fit few = record { laid_out = laid_out; key_set = key_set; members_fit = fit; few_members = let long = length-keys_of o.members in omega arith; book = is_book (rises_from (keys_of o.members) key_set.rising) fit few; opened = book_refl book; fits = opening_fits }
-
-  -- the first seat knows its table
-  pub newcomer_knows : (n : ℕ) → IsLayout o.shape → IsKeySet o.shape.bits (keys_of o.members) → All FitsPair o.members → length (keys_of o.members) ≤ o.shape.members → KnowsTable face (newcomer face record { opening = o; words = n })
-  newcomer_knows n = opener_knows [] 0 0 [] [] (replicate n 0)

@@ -22,9 +22,6 @@ module _ (face : ℕ → ℕ → List (ℕ × ℕ) → List ℕ) (s : Shape) whe
   pub has_entry : (book seen : Book) (q word : ℕ) → ArePrefixes seen book → HasNewest seen q word → HasEntry book q word
   has_entry book seen q word later h = record { index = h.index; entry = h.entry; at = entry_stays later q h.index h.entry h.newest.at; named = h.named }
 
-  pub entry_on : (book seen : Book) (q word : ℕ) → ArePrefixes seen book → HasEntry seen q word → HasEntry book q word
-  entry_on book seen q word later h = record { index = h.index; entry = h.entry; at = entry_stays later q h.index h.entry h.at; named = h.named }
-
   -- the books that were seen at a node's load, at that of its left child, and at that of its right, before the last
   module _ (book0 book1 book2 book : Book) (q old left_word right_word : ℕ) (inner : IsInner s q) (c01 : ArePrefixes book0 book1) (c12 : ArePrefixes book1 book2) (c23 : ArePrefixes book2 book)
       (at_node : HasNewest book0 q old) (at_left : HasNewest book1 (left_of s q) left_word) (at_right : HasNewest book2 (right_of s q) right_word) where

@@ -1,5 +1,5 @@
 -- What the entries above a key show of it.
-use Rattle.std.proofs.Common.{◌≡◌, ◌≢◌, ℕ, zero, suc, ◌+◌, ◌-◌, ◌*◌, ◌/◌, ◌%◌, ◌^◌, ◌<◌, ◌≤◌, Bool, true, false, eqb, eq-eqb, ne_eqb, if◌then◌else◌, List, length, sym, refl, ap, subst, ⊎_elim, arith}
+use Rattle.std.proofs.Common.{◌≡◌, ◌≢◌, ℕ, zero, suc, ◌+◌, ◌-◌, ◌*◌, ◌/◌, ◌%◌, ◌^◌, ◌<◌, ◌≤◌, Bool, true, false, eqb, eq-eqb, ne_eqb, if◌then◌else◌, List, length, sym, ap, subst, ⊎_elim, arith}
 use Rattle.std.proofs.lemmas.Bool.{cases_eq}
 use Rattle.std.proofs.Math.Nat.{two-pow-succ}
 use Rattle.aug_core.specs.Places.{Shape}
@@ -60,9 +60,6 @@ module _ (face : ℕ → ℕ → List (ℕ × ℕ) → List ℕ) (s : Shape) (bo
   -- the child's entry on the way to the key
   abbrev Below : ℕ → Entry → Type 0
   Below level e = (f : Entry) × At book (above s key level) (toward e (above s key level)) f × (f.passed ≡ false)
-
-  side : (c : ℕ) (e : Entry) → toward e c ≡ (if eqb (c % 2) 0 then e.left else e.right)
-  side c e = refl
 
   pub entry_below : (level i : ℕ) (e : Entry) → suc level ≤ s.bits → At book (above s key (suc level)) i e → Below level e
   entry_below level i e up p = let c : ℕ = above s key level in let q : ℕ = above s key (suc level) in let o = b.over q i e (above_inner s key level low up) p in ⊎_elim

@@ -1,10 +1,9 @@
 -- The changes of a round among all that were made through handles, and when two lists have the same changes.
-use Rattle.std.proofs.Common.{◌≡◌, ℕ, zero, suc, ◌+◌, ◌<◌, ◌≤◌, ◌%◌, Bool, true, cond, ◌==◌, ◌&&◌, List, [], ◌∷◌, ◌++◌, map, reverse, length, get_or, drop, filter, flat_map, All, Contains, sum, sum_by, refl, sym, ap, ◌∙◌, subst, ⊎_elim, arith}
+use Rattle.std.proofs.Common.{◌≡◌, ℕ, zero, suc, ◌+◌, ◌<◌, ◌≤◌, ◌%◌, Bool, true, cond, ◌==◌, ◌&&◌, List, [], ◌∷◌, ◌++◌, map, reverse, length, get_or, drop, filter, flat_map, All, Contains, refl, sym, ap, ◌∙◌, subst, ⊎_elim, arith}
 use Rattle.std.proofs.lemmas.Bool.{cases_Bool, and_parts, eq-eqb, ne_eqb, eqb-true}
 use Rattle.std.proofs.lemmas.List.{append-nil, map-append, reverse-append, length-append, drop_at, get_or_append_left, get_or-append-add}
 use Rattle.std.proofs.lemmas.List.Concat.{flat_map-append}
 use Rattle.std.proofs.lemmas.List.Elements.{filter-append, All-nil, All-head, All-tail, All-append, All-map, All-weaker}
-use Rattle.std.proofs.lemmas.List.Sums.{sum-map, sum_by-append, sum_by-cons}
 use Rattle.aug_core.specs.Counts.{change}
 use Rattle.aug_core.specs.Cuts.{Cut, serial_of, weight_at, opening_cut}
 use Rattle.aug_core.specs.declared.view.Change.{Change}
@@ -148,12 +147,6 @@ module _ {A : Type 0} (f : A → List Made) (h : A → List Change) where
 pub turned : {A B : Type 0} (f : A → List B) (x : A) (xs : List A) → flat_map f (reverse (x ∷ xs)) ≡ flat_map f (reverse xs) ++ f x
 turned f x xs = ap (flat_map f) (reverse-append (x ∷ []) xs) ∙ flat_map-append f (reverse xs) (x ∷ []) ∙ ap (λ z. flat_map f (reverse xs) ++ z) (append-nil (f x))
 
--- a list that is turned round has the same changes of a round
-pub same_reverse : {A : Type 0} (f : A → List Made) (e : ℕ) (xs : List A) → SameChanges (made_in e (flat_map f (reverse xs))) (made_in e (flat_map f xs))
-same_reverse f e [] test = refl
-same_reverse f e (x ∷ xs) test = let last = ap (λ (z : List Made). hits test (made_in e z)) (turned f x xs) ∙ hits_made test e (flat_map f (reverse xs)) (f x) in
-    let first = hits_made test e (f x) (flat_map f xs) in let rest = same_reverse f e xs test in omega arith
-
 -- ---- the numbers of the rounds
 
 module _ {A : Type 0} (P : A → Type 0) (xs ys : List A) where
@@ -177,12 +170,6 @@ dates-spread f h era [] all = All-nil (UpTo era)
 dates-spread {A} f h era (x ∷ xs) all = let more = λ (z : A). f z ++ dated era (h z) in
     All-append (UpTo era) (more x) (flat_map more xs) (All-append (UpTo era) (f x) (dated era (h x)) (all_front (UpTo era) (f x) (flat_map f xs) all) (dates-dated era (h x)))
     (dates-spread f h era xs (all_back (UpTo era) (f x) (flat_map f xs) all))
-
--- a list that is turned round was made up to the same round
-pub dates-reverse : {A : Type 0} (f : A → List Made) (d : ℕ) (xs : List A) → All (λ (m : Made). m.0 ≤ d) (flat_map f xs) → All (λ (m : Made). m.0 ≤ d) (flat_map f (reverse xs))
-dates-reverse f d [] all = All-nil (UpTo d)
-dates-reverse f d (x ∷ xs) all = subst (All (UpTo d)) (sym (turned f x xs))
-    (All-append (UpTo d) (flat_map f (reverse xs)) (f x) (dates-reverse f d xs (all_back (UpTo d) (f x) (flat_map f xs) all)) (all_front (UpTo d) (f x) (flat_map f xs) all))
 
 -- ---- one place of a list
 
@@ -215,13 +202,6 @@ module _ {A : Type 0} (f : A → List Made) (a b : List A) (x y : A) where
       subst (All (UpTo era)) (sym (flat_map-append f a (y ∷ b)))
       (All-append (UpTo era) (flat_map f a) (f y ++ flat_map f b) (all_front (UpTo era) (flat_map f a) (f x ++ flat_map f b) both)
       (All-append (UpTo era) (f y) (flat_map f b) here (all_back (UpTo era) (f x) (flat_map f b) behind)))
-
--- an element takes the place of one: the sum of a number of each differs by theirs
-pub sums : {A : Type 0} (n : A → ℕ) (a b : List A) (x y : A) → sum (map n (a ++ y ∷ b)) + n x ≡ sum (map n (a ++ x ∷ b)) + n y
-sums {A} n a b x y = let new = total y in let old = total x in omega arith
-  where
-    total : (z : A) → sum (map n (a ++ z ∷ b)) ≡ sum_by n a + (n z + sum_by n b)
-    total z = sum-map n (a ++ z ∷ b) ∙ sum_by-append n a (z ∷ b) ∙ ap (λ (s : ℕ). sum_by n a + s) (sum_by-cons n z b)
 
 -- what stands behind a front
 pub drop-front : {A : Type 0} (xs ys : List A) → drop (length xs) (xs ++ ys) ≡ ys

@@ -2,9 +2,8 @@
 use Rattle.std.proofs.Common.{◌≡◌, ℕ, zero, suc, ◌+◌, ◌<◌, ◌≤◌, List, [], ◌∷◌, ◌++◌, get_or, length, length-append, sym, ap, ◌∙◌, subst, arith}
 use Rattle.std.proofs.Math.ListN.{get_or-append}
 use Rattle.std.proofs.Math.Seq.{get_or-append_seam}
-use Rattle.std.specs.Prelude.{All, take, drop}
-use Rattle.std.specs.List.{insert, remove}
-use Rattle.std.proofs.lemmas.List.Elements.{All-append, All-take, All-drop}
+use Rattle.std.specs.Prelude.{All}
+use Rattle.std.proofs.lemmas.List.Elements.{All-append}
 use Rattle.aug_core.specs.Cuts.{Cut}
 use Rattle.aug_core.specs.Prefixes.{IsPrefix}
 use Rattle.aug_trie.specs.Chains.{Chapter, BeginsWith}
@@ -39,12 +38,6 @@ module _ {A : Type 0} (P : A → Type 0) where
 
   pub last_one : (xs ys : List A) (x : A) → ys ≡ xs ++ x ∷ [] → All P ys → P x
   last_one xs ys x is all = subst P (ap (λ (z : List A). get_or z (length xs) x) is ∙ get_or-append_seam xs x [] x) (all (length xs) x (let long = ap length is ∙ length-append xs (x ∷ []) in omega arith))
-
-  -- a fact of each element, where one is taken out and another is put in its place
-  pub put_in : (xs : List A) (i : ℕ) (x : A) → All P xs → P x → All P (insert (remove xs i) i x)
-  put_in xs i x all this =
-      let rest = All-append P (take i xs) (drop (suc i) xs) (All-take P i xs all) (All-drop P (suc i) xs all) in
-      All-append P (take i (remove xs i)) (x ∷ drop i (remove xs i)) (All-take P i (remove xs i) rest) (All-append P (x ∷ []) (drop i (remove xs i)) (one x this) (All-drop P i (remove xs i) rest))
 
   pub all_none : (xs : List A) → xs ≡ [] → All P xs
   all_none xs is k d low = let long = ap length is in absurd (omega arith)

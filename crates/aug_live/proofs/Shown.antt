@@ -228,11 +228,6 @@ module _ (slot : Option TableFacts) (table : TableFacts) (reader new : Option Pa
       other_round = λ f. absurd (false≢true (sym f));
     }
 
--- the reader that lies in a slot
-pub slot_reader : (reader : Option PassFacts) (table own : TableFacts) → IfSome reader (λ r. table_of r.round ≡ own) → own ≡ table → IsReaderOf table.table reader
-slot_reader None table own of same = tt
-slot_reader (Some r) table own of same = ap (λ (z : TableFacts). z.table) (of ∙ same)
-
 -- a reader shows it in the table of what lay in the slot of the handle, which was as it was before
 pub shown_at : (table taken : TableFacts) (old new : Option PassFacts) (era : ℕ) (held : Snapshot) (first a b : HandleFacts) → HandleShows old new era held a b → a ≡ first → table ≡ taken → taken ≡ table_of first.half.round → IsShownIn table new era held
 shown_at table taken old new era held first a b s same is lay = shown_in table old new era held a b s (shows_table old new era held a b s ∙ ap (λ (z : HandleFacts). table_of z.half.round) same ∙ sym (is ∙ lay))

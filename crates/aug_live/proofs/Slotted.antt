@@ -1,9 +1,9 @@
 -- Each step on the lock of a slot keeps its rule.
-use Rattle.std.proofs.Common.{◌≡◌, ◌≢◌, ◌⊎◌, inl, inr, ℕ, zero, suc, List, [], ◌∷◌, length, set, sym, refl, ap, ◌∙◌, subst, ⊎_elim, arith}
+use Rattle.std.proofs.Common.{◌≡◌, ◌≢◌, ◌⊎◌, inl, inr, ℕ, List, [], length, set, sym, refl, ap, ◌∙◌, subst, ⊎_elim, arith}
 use Rattle.std.specs.Prelude.{Option, Some, None, IfSome, IsSome}
 use Rattle.std.specs.Option.{is_some}
 use Rattle.std.proofs.lemmas.Bool.{false≢true}
-use mathlib.Core.Option.{some, some-injective, some-ne-none}
+use mathlib.Core.Option.{some}
 use lib.ListN.{get_elem?}
 use Rattle.atomic_table.proofs.Lists.{at_set}
 use Rattle.ruled_lock.specs.Locks.{Forks, Learns}
@@ -11,11 +11,6 @@ use Rattle.aug_trie.specs.Round.{TableFacts}
 use Rattle.aug_live.specs.inside.Slots.{OnSlot}
 use Rattle.aug_live.proofs.Handing.{is_below}
 use Rattle.aug_live.proofs.Tied.{snoc_at}
-
--- the first key is alone
-pub starts : (slot : TableFacts) → OnSlot slot (None ∷ [])
-starts slot zero v at = inr (sym (some-injective None v at), refl)
-starts slot (suc j) v at = absurd (some-ne-none v (sym at))
 
 injective : (t u : TableFacts) → Some t ≡ Some u → t ≡ u
 injective t u is = cc

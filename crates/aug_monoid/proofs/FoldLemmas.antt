@@ -1,5 +1,5 @@
 -- What the laws of a monoid give of the fold of a list of keys with weights.
-use Rattle.std.proofs.Common.{◌≡◌, ℕ, ◌^◌, ◌<◌, List, [], ◌∷◌, ◌++◌, length, take, drop, All, refl, sym, ap, ◌∙◌}
+use Rattle.std.proofs.Common.{◌≡◌, ℕ, List, [], ◌∷◌, ◌++◌, length, take, drop, All, refl, sym, ap, ◌∙◌}
 use Rattle.std.proofs.Math.Seq.{take-append_seam, drop-append_seam}
 use Rattle.std.proofs.lemmas.List.Elements.{All-nil, All-cons, All-head, All-tail, All-take, All-drop, All-same}
 use Rattle.aug_monoid.specs.Fold.{fold_of}
@@ -46,10 +46,6 @@ module _ {M : Type 0} {parts : Parts M} (laws : IsMonoid parts) where
       fold_of-append xs (p ∷ []) xs_fit (All-cons FitsPair p [] fits (All-nil FitsPair))
       ∙ ap (parts.join (fold_of parts xs)) (fold_of-one p fits)
 
-  -- the word of a fold fits
-  pub word_of-fold_of-fits : (ps : List (ℕ × ℕ)) → All FitsPair ps → parts.to_word (fold_of parts ps) < 2 ^ 64
-  word_of-fold_of-fits ps fit = laws.word_fits _ (fold_of-is_proper ps fit)
-
   -- the word of a fold stands for it
   pub of_word-fold_of : (ps : List (ℕ × ℕ)) → All FitsPair ps → parts.from_word (parts.to_word (fold_of parts ps)) ≡ fold_of parts ps
   of_word-fold_of ps fit = laws.round_trip _ (fold_of-is_proper ps fit)
@@ -59,11 +55,6 @@ module _ {M : Type 0} {parts : Parts M} (laws : IsMonoid parts) where
   fold_of-append_words xs ys left right xs_fit ys_fit left_is right_is =
       fold_of-append xs ys xs_fit ys_fit
       ∙ sym (rw (left_is, right_is, of_word-fold_of xs xs_fit, of_word-fold_of ys ys_fit))
-
-  -- and so its word is the word of that join
-  pub word_of-fold_of-append : (xs ys : List (ℕ × ℕ)) (left right : ℕ) → All FitsPair xs → All FitsPair ys → left ≡ parts.to_word (fold_of parts xs) → right ≡ parts.to_word (fold_of parts ys) → parts.to_word (fold_of parts (xs ++ ys)) ≡ parts.to_word (parts.join (parts.from_word left) (parts.from_word right))
-  word_of-fold_of-append xs ys left right xs_fit ys_fit left_is right_is =
-      ap parts.to_word (fold_of-append_words xs ys left right xs_fit ys_fit left_is right_is)
 
   -- the fold of a list of pairs is the join of the folds of its parts, wherever it is cut in two
   pub fold_of-cut : (ps xs ys : List (ℕ × ℕ)) → All FitsPair ps → ps ≡ xs ++ ys → fold_of parts ps ≡ parts.join (fold_of parts xs) (fold_of parts ys)

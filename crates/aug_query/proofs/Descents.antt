@@ -8,8 +8,8 @@ use Rattle.aug_model.specs.declared.summary.Summary.{Summary}
 use Rattle.aug_query.specs.Tree.{IsTreeSet, IsNodeOf}
 use Rattle.aug_model.specs.NodeKeys.{first_key, end_key, keys_below}
 use Rattle.aug_model.proofs.Ranges.{Rises, rises_from, all_below_from, one_member, range_within, range_clipped, range_none, is_member-counted}
-use Rattle.aug_query.proofs.Orders.{rank_cut, select_is, rank_is as rank_at}
-use Rattle.aug_query.proofs.Nodes.{members_rise, counts, leaf_is, leaf_low, leaf_first, leaf_end}
+use Rattle.aug_query.proofs.Orders.{select_is, rank_is as rank_at}
+use Rattle.aug_query.proofs.Nodes.{members_rise, counts, leaf_is, leaf_low, leaf_first}
 
 -- a node that covers a key, and counts no members or is its leaf, counts as many as the key has places
 covers : (keys : List ℕ) (level place k n : ℕ) → Rises keys → n ≡ length (keys_below keys level place) → place * 2 ^ level ≤ k → k < (place + 1) * 2 ^ level → (level ≡ 0) ⊎ (n ≡ 0) → n ≡ length (range_of keys k (k + 1))
@@ -65,15 +65,6 @@ weight_is_none {set = set} {told = told} k node s none l h =
 pub past_weighs_none : {bits : ℕ} {pairs : List (ℕ × ℕ)} (k n : ℕ) → IsTreeSet (record { bits = bits; pairs = pairs }) → n ≡ 2 ^ bits → n ≤ k → None ≡ weight_of pairs k
 past_weighs_none {pairs = pairs} k n set e l = sym (weight_missing pairs k (sym (past_is k n set e l)))
 
--- the members below a key are those before the node where a descent to it ends
-pub rank_is : {A B : Type 0} {sum : List (ℕ × ℕ) → Summary A B} {set : SetFacts} {level place : ℕ} {told : Summary A B} (k : ℕ) → IsNodeOf sum set level place told → ((pairs : List (ℕ × ℕ)) → (sum pairs).count ≡ length pairs)
-    → first_key level place ≤ k → k < end_key level place → (level ≡ 0) ⊎ (told.count ≡ 0) → rank_of (list_of set) (first_key level place) ≡ rank_of (list_of set) k
-rank_is {set = set} {level = level} {place = place} k node s l h (inl leaf) = ap (rank_of (list_of set)) (leaf_first level place leaf ∙ leaf_low level place k leaf l h)
-rank_is {set = set} {level = level} {place = place} k node s l h (inr none) =
-    let within = range_within (list_of set) (first_key level place) (first_key level place) k (end_key level place) (members_rise node) (omega arith) l (omega arith) in
-    let cut = rank_cut (list_of set) (first_key level place) k (members_rise node) l in
-    omega (arith, within, cut, counts node s)
-
 -- where a descent to the i-th member ends
 pub select_ends : {A B : Type 0} {sum : List (ℕ × ℕ) → Summary A B} {set : SetFacts} {level place : ℕ} {told : Summary A B} (i rest : ℕ) → IsNodeOf sum set level place told → ((pairs : List (ℕ × ℕ)) → (sum pairs).count ≡ length pairs)
     → level ≡ 0 → rest < told.count → rank_of (list_of set) (first_key level place) + rest ≡ i → select_of (list_of set) i ≡ Some place
@@ -82,12 +73,3 @@ select_ends {set = set} {level = level} {place = place} i rest node s leaf withi
     let few = one_member (list_of set) place (members_rise node) in
     let first = ap (rank_of (list_of set)) (leaf_first level place leaf) in
     select_is (list_of set) place i (members_rise node) (omega (arith, one, counts node s)) (omega (arith, one, few, first, same, counts node s, rank_at (list_of set) place))
-
--- the members up to a key are those before the end of the node where a descent to it ends
-pub rank_end_is : {A B : Type 0} {sum : List (ℕ × ℕ) → Summary A B} {set : SetFacts} {level place : ℕ} {told : Summary A B} (k : ℕ) → IsNodeOf sum set level place told → ((pairs : List (ℕ × ℕ)) → (sum pairs).count ≡ length pairs)
-    → first_key level place ≤ k → k < end_key level place → (level ≡ 0) ⊎ (told.count ≡ 0) → rank_of (list_of set) (end_key level place) ≡ rank_of (list_of set) (k + 1)
-rank_end_is {set = set} {level = level} {place = place} k node s l h (inl leaf) = ap (rank_of (list_of set)) (leaf_end level place leaf ∙ ap (λ n. n + 1) (leaf_low level place k leaf l h))
-rank_end_is {set = set} {level = level} {place = place} k node s l h (inr none) =
-    let within = range_within (list_of set) (first_key level place) (k + 1) (end_key level place) (end_key level place) (members_rise node) (omega arith) (omega arith) (omega arith) in
-    let cut = rank_cut (list_of set) (k + 1) (end_key level place) (members_rise node) (omega arith) in
-    omega (arith, within, cut, counts node s)

@@ -1,11 +1,9 @@
 pub mod Orders
 pub mod Nodes
-pub mod Steps
 pub mod Descending
 pub mod Ways
 pub mod Descents
 pub mod Choosing
-pub mod Ends
 pub mod Passing
 pub mod Beside
 pub mod Changing

@@ -1,17 +1,16 @@
 -- What the nodes of a tree tell of its set.
 use Rattle.std.proofs.Common.{add-one, zero-mul, one-mul, mul-one, ◌≡◌, ℕ, ◌+◌, ◌-◌, ◌*◌, ◌%◌, ◌^◌, ◌<◌, ◌≤◌, List, ◌++◌, length, sym, ap, ◌∙◌, subst, arith}
-use Rattle.std.proofs.Math.Nat.{pow-suc, mod-eq_of_lt, mul-le-mul_right, le_trans, le_of_lt}
+use Rattle.std.proofs.Math.Nat.{pow-suc, mod-eq_of_lt, le_trans, le_of_lt}
 use Rattle.std.proofs.Math.Pow.{pow_mono}
 use Rattle.std.proofs.lemmas.Nat.{pow_pos}
 use Rattle.aug_model.specs.Keys.{SetFacts, list_of, pairs_of}
-use Rattle.aug_model.specs.Queries.{range_of, rank_of, weight_in}
+use Rattle.aug_model.specs.Queries.{range_of, weight_in}
 use Rattle.aug_model.proofs.Pairs.{length-pairs_of}
 use Rattle.aug_model.specs.declared.summary.Summary.{Summary}
 use Rattle.aug_query.specs.Tree.{IsNodeOf}
 use Rattle.aug_model.specs.NodeKeys.{first_key, end_key, keys_below}
-use Rattle.aug_query.specs.inside.NodePlaces.{IsPlace, middle_key}
+use Rattle.aug_query.specs.inside.NodePlaces.{middle_key}
 use Rattle.aug_model.proofs.Ranges.{Rises, AllBelow, rises_from, all_below_from, range_whole, count_cut, range_cut}
-use Rattle.aug_query.proofs.Orders.{rank_cut, rank_few}
 
 double : (l : ℕ) → 2 ^ (l + 1) ≡ 2 ^ l + 2 ^ l
 double l = rw add-one (rw pow-suc (omega arith))
@@ -64,23 +63,6 @@ wrapped_width n level place e h =
     let small : 1 * 2 ^ level < 4294967296 = omega (arith, node_width level place, h) in
     ap (λ m. 1 * 2 ^ m % 4294967296) e ∙ mod-eq_of_lt small ∙ one-mul (2 ^ level)
 
--- a cut that fits is computed without a wrap
-pub wrapped : (l p level place : ℕ) → l ≡ level → p ≡ place → middle_key level place < 2 ^ 16 → (2 * p + 1) * 2 ^ (l - 1) % 4294967296 ≡ middle_key level place
-wrapped l p level place e f h =
-    let small : middle_key level place < 4294967296 = omega arith in
-    ap (λ n. (2 * p + 1) * 2 ^ (n - 1) % 4294967296) e ∙ ap (λ n. (2 * n + 1) * 2 ^ (level - 1) % 4294967296) f ∙ mod-eq_of_lt small
-
-pub wrapped_first : (l p level place : ℕ) → l ≡ level → p ≡ place → end_key level place ≤ 2 ^ 16 → p * 2 ^ l % 4294967296 ≡ first_key level place
-wrapped_first l p level place e f h =
-    let less : first_key level place ≤ end_key level place = mul-le-mul_right (2 ^ level) (omega arith) in
-    let small : first_key level place < 4294967296 = omega (arith, h, less) in
-    ap (λ n. p * 2 ^ n % 4294967296) e ∙ ap (λ n. n * 2 ^ level % 4294967296) f ∙ mod-eq_of_lt small
-
-pub wrapped_end : (l p level place : ℕ) → l ≡ level → p ≡ place → end_key level place ≤ 2 ^ 16 → (p + 1) * 2 ^ l % 4294967296 ≡ end_key level place
-wrapped_end l p level place e f h =
-    let small : end_key level place < 4294967296 = omega (arith, h) in
-    ap (λ n. (p + 1) * 2 ^ n % 4294967296) e ∙ ap (λ n. (n + 1) * 2 ^ level % 4294967296) f ∙ mod-eq_of_lt small
-
 -- the number of keys is computed without a wrap
 pub wrapped_universe : (n bits : ℕ) → n ≡ bits → bits ≤ 16 → 1 * 2 ^ n % 4294967296 ≡ 2 ^ bits
 wrapped_universe n bits e h =
@@ -125,14 +107,6 @@ module _ {A B : Type 0} {sum : List (ℕ × ℕ) → Summary A B} {set : SetFact
   pub few_keys : (place + 1) * 2 ^ level ≤ 2 ^ 16
   few_keys = le_trans node.place_fits (pow_mono node.is_tree_set.few_bits)
 
-  -- a node stands in a tree of at most 16 bits
-  pub stands : IsPlace level place
-  stands = record { few_levels = le_trans node.level_fits node.is_tree_set.few_bits; few_keys = few_keys }
-
-  -- a rank fits a u32
-  pub ranks_fit : (k : ℕ) → rank_of (list_of set) k < 2 ^ 32
-  ranks_fit k = omega (arith, rank_few (list_of set) k (2 ^ set.bits) members_rise members_below, pow_mono node.is_tree_set.few_bits)
-
   -- a node counts the members below it
   pub counts : ((pairs : List (ℕ × ℕ)) → (sum pairs).count ≡ length pairs) → told.count ≡ length (keys_below (list_of set) level place)
   counts h = ap (λ s. s.count) node.tells ∙ h (pairs_of (weight_in set.pairs) (keys_below (list_of set) level place)) ∙ length-pairs_of (weight_in set.pairs) (keys_below (list_of set) level place)
@@ -141,10 +115,6 @@ module _ {A B : Type 0} {sum : List (ℕ × ℕ) → Summary A B} {set : SetFact
   pub top_covers : level ≡ set.bits → place ≡ 0 → keys_below (list_of set) level place ≡ list_of set
   top_covers e f =
       ap (λ a. range_of (list_of set) a (end_key level place)) (top_first level place f) ∙ ap (λ b. range_of (list_of set) 0 b) (top_end level place set.bits e f) ∙ range_whole (list_of set) (2 ^ set.bits) members_below
-
--- the top counts every member
-pub top_counts : {A B : Type 0} {sum : List (ℕ × ℕ) → Summary A B} {set : SetFacts} {level place : ℕ} {told : Summary A B} → ((pairs : List (ℕ × ℕ)) → (sum pairs).count ≡ length pairs) → IsNodeOf sum set level place told → level ≡ set.bits → place ≡ 0 → told.count ≡ length (list_of set)
-top_counts totals node e f = counts node totals ∙ ap length (top_covers node e f)
 
 module _ {A B : Type 0} {sum : List (ℕ × ℕ) → Summary A B} {set : SetFacts} {level place l p : ℕ} {told child : Summary A B} (totals : (pairs : List (ℕ × ℕ)) → (sum pairs).count ≡ length pairs) (node : IsNodeOf sum set level place told) (below : IsNodeOf sum set l p child) where
   -- what a left child leaves of its parent's count is in the right half
@@ -162,36 +132,6 @@ module _ {A B : Type 0} {sum : List (ℕ × ℕ) → Summary A B} {set : SetFact
       let cut = count_cut (list_of set) (first_key level place) (middle_key level place) (end_key level place) (members_rise node) (le_of_lt (low_middle level place inner)) (le_of_lt (middle_high level place inner)) in
       let half = ap (λ a. length (range_of (list_of set) a (end_key l p))) (right_low level place l p e f) ∙ ap (λ b. length (range_of (list_of set) (middle_key level place) b)) (right_high level place l p e f) in
       omega (arith, counts node totals, counts below totals, cut, half)
-
-  -- how many members are before a right child
-  pub right_rank : l + 1 ≡ level → p ≡ 2 * place + 1 → rank_of (list_of set) (first_key l p) + child.count ≡ rank_of (list_of set) (first_key level place) + told.count
-  right_rank e f =
-      let inner : 1 ≤ level = omega arith in
-      let cut = rank_cut (list_of set) (first_key level place) (middle_key level place) (members_rise node) (le_of_lt (low_middle level place inner)) in
-      omega (arith, right_leaves e f, cut, ap (rank_of (list_of set)) (right_low level place l p e f))
-
-  -- as many as are before its parent are before a left child
-  pub left_rank : l + 1 ≡ level → p ≡ 2 * place → rank_of (list_of set) (first_key l p) ≡ rank_of (list_of set) (first_key level place)
-  left_rank e f = ap (rank_of (list_of set)) (left_low level place l p e f)
-
--- a node counts what its two children count
-pub children_count : {A B : Type 0} {sum : List (ℕ × ℕ) → Summary A B} {set : SetFacts} {level place l p m q : ℕ} {told left right : Summary A B} → ((pairs : List (ℕ × ℕ)) → (sum pairs).count ≡ length pairs)
-    → IsNodeOf sum set level place told → IsNodeOf sum set l p left → IsNodeOf sum set m q right → l + 1 ≡ level → p ≡ 2 * place → m + 1 ≡ level → q ≡ 2 * place + 1 → told.count ≡ left.count + right.count
-children_count {set = set} {level = level} {place = place} {m = m} {q = q} totals node left right e f g h =
-    let half = ap (λ a. length (range_of (list_of set) a (end_key m q))) (right_low level place m q g h) ∙ ap (λ b. length (range_of (list_of set) (middle_key level place) b)) (right_high level place m q g h) in
-    omega (arith, left_leaves totals node left e f, counts right totals, half)
-
-module _ {A B : Type 0} {sum : List (ℕ × ℕ) → Summary A B} {set : SetFacts} {level place l p : ℕ} {told child : Summary A B} (totals : (pairs : List (ℕ × ℕ)) → (sum pairs).count ≡ length pairs) (node : IsNodeOf sum set level place told) (below : IsNodeOf sum set l p child) where
-  -- how many members are before the end of a left child
-  pub left_end_rank : l + 1 ≡ level → p ≡ 2 * place → rank_of (list_of set) (end_key l p) + told.count ≡ rank_of (list_of set) (end_key level place) + child.count
-  left_end_rank e f =
-      let inner : 1 ≤ level = omega arith in
-      let cut = rank_cut (list_of set) (middle_key level place) (end_key level place) (members_rise node) (le_of_lt (middle_high level place inner)) in
-      omega (arith, left_leaves totals node below e f, cut, ap (rank_of (list_of set)) (left_high level place l p e f))
-
-  -- as many as are before the end of its parent are before the end of a right child
-  pub right_end_rank : l + 1 ≡ level → p ≡ 2 * place + 1 → rank_of (list_of set) (end_key l p) ≡ rank_of (list_of set) (end_key level place)
-  right_end_rank e f = ap (rank_of (list_of set)) (right_high level place l p e f)
 
 -- what the children of a node cover
 pub left_covers : (keys : List ℕ) (level place l p : ℕ) → l + 1 ≡ level → p ≡ 2 * place → keys_below keys l p ≡ range_of keys (first_key level place) (middle_key level place)

@@ -81,15 +81,6 @@ module _ {N : Type 0} {Names : ℕ → ℕ → N → Type 0} where
             subst (IsNameOf Names (bits - j) (place / 2 ^ (bits - j - level))) (sym same) (moved (bits - j) (key / 2 ^ (bits - j - 0)) (place / 2 ^ (bits - j - level)) (get_or path j d) (sym far ∙ near) (is.each j d (omega (arith, h, whole, count))));
       }
 
-  -- the node of a level on the way to a key
-  pub path_name : (bits key level i : ℕ) (path : List (Option N)) (found : Option N) → level < bits → IsPath Names bits 0 key path → i ≡ length path - 1 - level → found ≡ get_or path i found → IsNameOf Names (level + 1) (key / 2 ^ (level + 1)) found
-  path_name bits key level i path found low is place at =
-      let long = is.long in
-      let up : bits - i ≡ level + 1 = omega (arith, long, low, place) in
-      let further : bits - i - 0 ≡ level + 1 = omega (arith, up) in
-      let there = moved (bits - i) (key / 2 ^ (bits - i - 0)) (key / 2 ^ (level + 1)) (get_or path i found) (ap (λ (z : ℕ). key / 2 ^ z) further) (is.each i found (omega (arith, long, low, place))) in
-      subst (IsNameOf Names (level + 1) (key / 2 ^ (level + 1))) (sym at) (subst (λ (z : ℕ). IsNameOf Names z (key / 2 ^ (level + 1)) (get_or path i found)) up there)
-
   -- a path to a leaf is one to its key
   pub path_leaf : (bits level place key : ℕ) (path : List (Option N)) → level ≡ 0 → place ≡ key → IsPath Names bits level place path → IsPath Names bits 0 key path
   path_leaf bits level place key path leaf same is = subst (λ (l : ℕ). IsPath Names bits l key path) leaf (subst (λ (p : ℕ). IsPath Names bits level p path) same is)

@@ -1,15 +1,11 @@
 -- Rounds whose rows are of one lane each have one list of reports.
-use Rattle.std.proofs.Common.{◌≡◌, ℕ, zero, suc, ◌+◌, ◌%◌, ◌^◌, ◌<◌, ◌≤◌, ◌==◌, List, [], ◌∷◌, length, take, refl, sym, ap, ◌∙◌, arith, subst, All, Ok}
-use Rattle.std.specs.List.{range_with_len}
-use Rattle.std.specs.List.Sorted.{IsStrictlyIncreasing}
+use Rattle.std.proofs.Common.{◌≡◌, ℕ, suc, ◌+◌, ◌^◌, ◌<◌, ◌≤◌, List, [], ◌∷◌, take, refl, sym, ap, ◌∙◌, arith, subst, All, Ok}
 use Rattle.std.proofs.lemmas.List.{get_or-take, length-take}
-use Rattle.std.proofs.lemmas.List.Elements.{All-cons, All-filter, All-head, All-nil, All-tail}
-use Rattle.std.proofs.lemmas.List.FromFn.{get_or-range_with_len, length-range_with_len}
-use Rattle.std.proofs.lemmas.List.Kept.{IsStrictlyIncreasing-filter}
+use Rattle.std.proofs.lemmas.List.Elements.{All-head, All-nil, All-tail}
 use Rattle.aug_model.specs.Keys.{IsKeySet, keys_of}
 use Rattle.aug_model.proofs.Pairs.{keys_of-pairs_of}
 use Rattle.aug_model.proofs.Rising.{is_wider}
-use Rattle.aug_core.specs.Cuts.{Cut, serial_of, set_of_cut, weight_at}
+use Rattle.aug_core.specs.Cuts.{set_of_cut, weight_at}
 use Rattle.aug_trie.specs.History.{last_cut}
 use Rattle.aug_trie.proofs.CutLemmas.{length-opening}
 use Rattle.aug_words.proofs.CutSets.{cut_keys}

@@ -1,7 +1,7 @@
 -- How many rows each lane has among the first ones.
-use Rattle.std.proofs.Common.{◌≡◌, ℕ, ◌+◌, ◌<◌, ◌≤◌, ◌==◌, Bool, cond, List, [], length, take, get_or, set, replicate, refl, sym, ap, ◌∙◌, inl, inr, arith, All, take_all}
-use Rattle.std.proofs.lemmas.Bool.{cases_eq, cases_lt, eq-eqb, ne_eqb}
-use Rattle.std.proofs.lemmas.List.{length-set, length-replicate, length-take-le, get_or-set_same, get_or-set_other, get_or-replicate, get_or_past}
+use Rattle.std.proofs.Common.{◌≡◌, ℕ, ◌+◌, ◌<◌, ◌≤◌, ◌==◌, Bool, cond, List, [], length, take, get_or, set, refl, sym, ap, ◌∙◌, inl, inr, arith, All, take_all}
+use Rattle.std.proofs.lemmas.Bool.{cases_eq, eq-eqb, ne_eqb}
+use Rattle.std.proofs.lemmas.List.{length-set, length-take-le, get_or-set_same, get_or-set_other}
 use Rattle.std.proofs.lemmas.List.Elements.{All-get_or}
 use Rattle.std.proofs.lemmas.List.Filters.{length-filter_more}
 use Rattle.aug_core.proofs.Counting.{filter_shorter}
@@ -47,9 +47,3 @@ module _ (rows : List Row) (workers i : ℕ) (low : i < length rows) (counts : L
 
 pub counted_all : (rows : List Row) (workers i : ℕ) (counts : List ℕ) → length rows ≤ i → AreRowCounts workers (take i rows) counts → AreRowCounts workers rows counts
 counted_all rows workers i counts past counted = rw (take_all i rows past) at counted
-
-pub zeros : (n lane : ℕ) → get_or (replicate {A = ℕ} n 0) lane 0 ≡ 0
-zeros n lane = elim (cases_lt lane n) [
-  | inl low ↦ get_or-replicate n lane 0 0 low
-  | inr past ↦ get_or_past (replicate n 0) lane 0 (omega (arith, past, length-replicate {A = ℕ} n 0))
-]

@@ -19,9 +19,6 @@ module _ (bits workers : ℕ) (members : List (ℕ × ℕ)) (round : RoundFacts)
   pub none_missing : closed.missing ≡ 0
   none_missing = omega (arith, ends.missing, ran.all_back)
 
-  pub bits_stay : closed.bits ≡ bits
-  bits_stay = ends.bits ∙ ap (λ (r : RoundFacts). r.bits) ran.together ∙ bits_are
-
   pub allowed : AllowedReport bits workers members report closed.members
   allowed =
       let bits_known : crew.round.bits ≡ bits = ap (λ (r : RoundFacts). r.bits) ran.together ∙ bits_are in

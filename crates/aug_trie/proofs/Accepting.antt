@@ -10,12 +10,10 @@ use Rattle.aug_core.specs.Counts.{change, changes_of}
 use Rattle.aug_core.specs.Effects.{KnowsTable, LoadsNode, made_by, new_serial}
 use Rattle.aug_core.specs.Cuts.{serial_of, IsAtMost}
 use Rattle.aug_core.specs.inside.RootCuts.{root_cut}
-use Rattle.aug_core.specs.inside.EntryCuts.{IsPartOfCut}
 use Rattle.aug_core.specs.inside.Shows.{NewestShows}
 use Rattle.aug_core.specs.declared.view.Advance.{Advance}
 use Rattle.aug_core.specs.declared.view.Change.{Change}
 use Rattle.aug_core.specs.declared.view.SeatView.{SeatView}
-use Rattle.aug_core.proofs.EntryCuts.{root_part}
 use Rattle.aug_model.specs.declared.outcome.Outcome.{Outcome}
 use Rattle.aug_model.specs.declared.outcome.Outcome.TheVariants.{Accepted, Replaced, Refused, Unchanged, TooGreat, TooLittle}
 use Rattle.aug_trie.specs.inside.Goes.{Goes}
@@ -295,7 +293,3 @@ module _ (face : ℕ → ℕ → List (ℕ × ℕ) → List ℕ) where
     same_changes = ap (λ (z : SeatView). changes_of z.held) t.stepped;
     is_last = sym (last_is v.shape w.seen t.index t.newest.last) ∙ ap (λ (z : Shape). last_cut (root_history z w.seen)) (sym shaped);
   }
-
-  -- and the entry stands for the whole tree of that cut
-  pub snapshot_top : (v : SeatView) (r : ℕ) (w : SeatView) (t : LoadsNode face v (root_place v.shape) r w) → IsPartOfCut v.shape w.seen (root_cut v.shape w.seen t.index) v.shape.bits 0 (root_place v.shape) t.index
-  snapshot_top v r w t = root_part face v.shape w.seen t.sees.book t.index (let long = t.newest.last in omega arith)

@@ -22,7 +22,7 @@ use Rattle.aug_trie.specs.declared.turns.points.Point.{Point}
 use Rattle.aug_trie.specs.declared.turns.points.Point.TheVariants.{Node, Left, Right, Part, Record}
 use Rattle.aug_trie.proofs.Going.{took_none, took_one, took_on, may_store_room, goes_self, goes_on, goes_storing, room_on}
 use Rattle.aug_trie.proofs.Looking.{goes_looking}
-use Rattle.aug_trie.proofs.Ranking.{looks_on, looks_one, seen_looking, says_looking}
+use Rattle.aug_trie.proofs.Looked.{looks_on, looks_one, seen_looking, says_looking}
 use Rattle.aug_trie.proofs.Publishing.{may_publish, published, goes_tried, free_again}
 use Rattle.aug_trie.proofs.Telling.{has_seen, part_of_leaf, part_of_node}
 use Rattle.aug_trie.proofs.Whole.{says, tries, even, part_few}

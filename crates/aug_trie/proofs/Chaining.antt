@@ -1,6 +1,5 @@
 -- Parts of chains of rounds.
 use Rattle.std.proofs.Common.{◌≡◌, ◌⊎◌, inl, inr, List, [], ◌∷◌, ◌++◌, sym, refl, ◌∙◌, subst, ⊎_elim}
-use Rattle.aug_core.specs.Prefixes.{IsPrefix}
 use Rattle.aug_core.proofs.PrefixLemmas.{prefix_refl, prefix_trans, either_prefix}
 use Rattle.aug_trie.specs.Chains.{Chapter, Chain, Continues, BeginsWith, chapters, IsPart}
 
@@ -47,15 +46,6 @@ part_trans a b c p q = begins_on a.past b.past (chapters c) a.now b.now p q
 -- of two parts of one chain the one is a part of the other
 pub either_part : (a b c : Chain) → IsPart a c → IsPart b c → IsPart a b ⊎ IsPart b a
 either_part a b c p q = begins_either a.past b.past (chapters c) a.now b.now p q
-
--- what begins with these rounds, and has one more, continues it
-begins_here : (past : List Chapter) (x y : Chapter) → BeginsWith past x (past ++ y ∷ []) → Continues x y
-begins_here [] x y b = b
-begins_here (p ∷ ps) x y b = begins_here ps x y b.1
-
--- where a part of a chain is of its last round, it is a beginning of that
-pub part_here : (a b : Chain) → a.past ≡ b.past → IsPart a b → IsPrefix a.now.history b.now.history
-part_here a b same p = (begins_here a.past a.now b.now (subst (λ (z : List Chapter). BeginsWith a.past a.now (z ++ b.now ∷ [])) (sym same) p)).goes_on
 
 -- rounds that begin so still do where more come after them
 pub begins_longer : (past : List Chapter) (now : Chapter) (all more : List Chapter) → BeginsWith past now all → BeginsWith past now (all ++ more)

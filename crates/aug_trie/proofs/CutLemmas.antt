@@ -1,8 +1,8 @@
 -- Sets of cuts.
 use Rattle.std.proofs.Common.{◌≡◌, ℕ, suc, ◌+◌, ◌%◌, ◌^◌, ◌<◌, ◌≤◌, Bool, true, false, ◌==◌, ◌||◌, List, [], ◌∷◌, length, get_or, refl, ap, ◌∙◌, inl, inr, arith, Contains, subst, if◌then◌else◌}
-use Rattle.std.proofs.lemmas.Bool.{eqb-true, eq-eqb, cases_Bool, cases_lt, le-leb, lt-ltb, le-ltb}
+use Rattle.std.proofs.lemmas.Bool.{eqb-true, cases_Bool, cases_lt, le-leb, lt-ltb, le-ltb}
 use Rattle.std.proofs.lemmas.List.{get_or_past}
-use Rattle.std.proofs.lemmas.List.Folds.{Any-from_list_any, list_any_at}
+use Rattle.std.proofs.lemmas.List.Folds.{Any-from_list_any}
 use Rattle.std.proofs.lemmas.List.Elements.{All-contains}
 use Rattle.std.proofs.lemmas.List.FromFn.{length-map-range_with_len, get_or-map-range_with_len}
 use Rattle.std.specs.List.{range_with_len}
@@ -37,10 +37,6 @@ is_member-set_of_cut cut k =
       | inl below ↦ is_member-filter (λ key. odd (serial_of cut key)) (range_with_len 0 (length cut)) k ∙ rw (is_member-range 0 (length cut) k, le-leb 0 k (omega arith), lt-ltb k (0 + length cut) (omega arith))
       | inr past ↦ is_member-filter (λ key. odd (serial_of cut key)) (range_with_len 0 (length cut)) k ∙ rw (is_member-range 0 (length cut) k, le-leb 0 k (omega arith), le-ltb k (0 + length cut) (omega arith), serial_past cut k past)
     ]
-
--- a member of a rising list, by its place
-pub member_of_contains : (xs : List ℕ) (k : ℕ) → Contains xs k → is_member xs k ≡ true
-member_of_contains xs k (i, below, is) = list_any_at (λ x. x == k) xs i k below (eq-eqb (get_or xs i k) k is)
 
 pub contains_of_member : (xs : List ℕ) (k : ℕ) → is_member xs k ≡ true → Contains xs k
 contains_of_member xs k there =

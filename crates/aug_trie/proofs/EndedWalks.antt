@@ -1,28 +1,16 @@
 -- How a walk over a trie at rest comes of the words that it loaded.
-use Rattle.std.proofs.Common.{◌≡◌, ℕ, zero, suc, ◌+◌, ◌-◌, ◌*◌, ◌%◌, ◌<◌, ◌≤◌, List, length, refl, sym, ap, ◌∙◌, subst, arith}
+use Rattle.std.proofs.Common.{◌≡◌, ℕ, suc, ◌+◌, ◌-◌, ◌*◌, ◌<◌, ◌≤◌, List, refl, sym, ap, ◌∙◌, subst, arith}
 use Rattle.aug_monoid.specs.Parts.{Parts}
 use Rattle.aug_core.specs.Faces.{face}
 use Rattle.aug_core.specs.Places.{record_count}
 use Rattle.aug_model.specs.Folds.{summary_of}
-use Rattle.aug_model.specs.Keys.{keys_of, list_of}
-use Rattle.aug_model.specs.Queries.{weight_in}
-use Rattle.aug_model.proofs.Pairs.{range-again, length-pairs_of}
-use Rattle.aug_model.proofs.Ranges.{rises_from}
 use Rattle.aug_query.specs.Tree.{IsTreeSet}
-use Rattle.aug_model.specs.NodeKeys.{first_key, end_key, keys_below, pairs_below}
 use Rattle.aug_query.proofs.Nodes.{left_high, right_high, middle_high}
-use Rattle.aug_trie.specs.LeafWords.{serial_in_word}
-use Rattle.aug_trie.specs.Ended.{EndedFacts, set_of_ended}
+use Rattle.aug_trie.specs.Ended.{EndedFacts}
 use Rattle.aug_trie.specs.inside.EndedTree.{word_in, IsVersion, NamesEnded, HasEndedNode}
 use Rattle.aug_trie.specs.inside.EndedState.{pairs_at_rest, HoldsVersion}
 use Rattle.aug_trie.specs.declared.rounds.ended_tree.EndedNode.{EndedNode}
-use Rattle.aug_trie.proofs.Versions.{ended_set, inside_of, count_is, count_fits}
-use Rattle.aug_trie.proofs.Walking.{pairs_counted}
-
--- a node covers as many pairs as keys
-keys_counted : (f : ℕ → ℕ → List (ℕ × ℕ) → List ℕ) (e : EndedFacts) (level place word : ℕ) → NamesEnded f e level place word → length (pairs_below e.members level place) ≡ length (keys_below (list_of (set_of_ended e)) level place)
-keys_counted f e level place word has = ap (λ (z : List (ℕ × ℕ)). length z) (range-again e.members (first_key level place) (end_key level place) (rises_from (keys_of e.members) has.is_tree_set.is_key_set.rising))
-    ∙ length-pairs_of (weight_in e.members) (keys_below (keys_of e.members) level place)
+use Rattle.aug_trie.proofs.Versions.{ended_set, inside_of}
 
 module _ {A B : Type 0} (parts_a : Parts A) (parts_b : Parts B) where
   abbrev both : ℕ → ℕ → List (ℕ × ℕ) → List ℕ
@@ -66,21 +54,6 @@ module _ {A B : Type 0} (parts_a : Parts A) (parts_b : Parts B) where
     place_fits = omega arith;
     is_version = subst (λ (z : List (ℕ × ℕ)). IsVersion both e.rest z e.bits 0 e.root) (sym is) holds.is_version;
   }
-
-  -- a leaf's serial counts the members that it covers
-  pub leaf_counts : (e : EndedFacts) (level place word : ℕ) → level ≡ 0 → NamesEnded both e level place word → serial_in_word word % 2 ≡ length (keys_below (list_of (set_of_ended e)) level place)
-  leaf_counts e level place word leaf has = let v : IsVersion both e.rest e.members zero place word = subst (λ (z : ℕ). IsVersion both e.rest e.members z place word) leaf has.is_version in
-      sym (pairs_counted place word) ∙ ap (λ (z : List (ℕ × ℕ)). length z) (sym v.says) ∙ ap (λ (z : ℕ). length (pairs_below e.members z place)) (sym leaf) ∙ keys_counted both e level place word has
-
-  -- the third word of an inner node's record does
-  pub record_counts : (first e : EndedFacts) (level place word n : ℕ) → first ≡ e → 1 ≤ level → NamesEnded both e level place word → n ≡ word_in first.rest word 2 → n ≡ length (keys_below (list_of (set_of_ended e)) level place)
-  record_counts first e level place word n same inner has is = is ∙ ap (λ (z : EndedFacts). word_in z.rest word 2) same ∙ count_is parts_a parts_b e.rest e.members level place word inner has.is_version ∙ keys_counted both e level place word has
-
-  -- and they are few
-  pub record_few : (first e : EndedFacts) (level place word n : ℕ) → first ≡ e → 1 ≤ level → NamesEnded both e level place word → n ≡ word_in first.rest word 2 → n ≤ 65536
-  record_few first e level place word n same inner has is =
-      let few = count_fits parts_a parts_b e.rest e.members level place word inner has.is_version e.bits has.is_tree_set.some_bits has.is_tree_set.few_bits has.is_tree_set.is_key_set in
-      let n_is : n ≡ word_in e.rest word 2 = is ∙ ap (λ (z : EndedFacts). word_in z.rest word 2) same in omega (arith, few, n_is)
 
   -- what names a node of the tree names it after calls
   pub node_named : (first e : EndedFacts) (calls : ℕ) (node : EndedNode A B) → first ≡ e → 1 ≤ node.level → HasEndedNode both (summary_of parts_a parts_b) e node → NamesEnded both (record first { calls = calls }) (node.level - 1 + 1) node.place node.word

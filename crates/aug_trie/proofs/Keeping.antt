@@ -1,15 +1,12 @@
 -- Snapshots and nodes stay what they are as the book grows.
 use Rattle.std.proofs.Common.{ℕ, List, ◌++◌, sym, ap, ◌∙◌, arith}
 use Rattle.aug_core.specs.Places.{Shape}
-use Rattle.aug_core.specs.Addresses.{root_place}
-use Rattle.aug_core.specs.Book.{Book, history_of, ArePrefixes, IsBook}
+use Rattle.aug_core.specs.Book.{Book, ArePrefixes, IsBook}
 use Rattle.aug_core.specs.Cuts.{Cut}
 use Rattle.aug_core.specs.inside.EntryCuts.{IsPartOfCut}
 use Rattle.aug_core.specs.declared.view.Entry.{Entry}
-use Rattle.aug_core.proofs.Books.{at_below, no_shorter}
-use Rattle.aug_core.proofs.Levels.{root_word}
+use Rattle.aug_core.proofs.Books.{no_shorter}
 use Rattle.aug_core.proofs.EntryCuts.{entry_later, cut_later}
-use Rattle.aug_trie.specs.inside.NamedCuts.{IsSnapshotOf}
 use Rattle.aug_trie.specs.inside.NodeWords.{IsNodeAt}
 use Rattle.aug_trie.specs.inside.Weights.{WeighsAt}
 use Rattle.aug_core.proofs.PrefixLemmas.{entry_stays}
@@ -35,13 +32,4 @@ module _ (face : ℕ → ℕ → List (ℕ × ℕ) → List ℕ) (s : Shape) (bo
     index = t.index;
     part = part_later cut level place t.q t.index t.part;
     named = ap (λ (z : Entry). z.word) (entry_later later book t.q t.index grows t.part.there) ∙ t.named;
-  }
-
-  pub snapshot_later : (number : ℕ) (cut : Cut) → IsSnapshotOf s book number cut → IsSnapshotOf s later number cut
-  snapshot_later number cut t = record {
-    index = t.index;
-    entry = t.entry;
-    at = entry_stays grows (root_place s) t.index t.entry t.at;
-    numbered = t.numbered;
-    cut_is = t.cut_is ∙ sym (cut_later face s book b later s.bits 0 (root_place s) t.index grows (root_word s) (at_below (history_of book (root_place s)) t.index t.entry t.at));
   }

@@ -43,7 +43,7 @@ pub mod Versions
 pub mod Endings
 pub mod RollingOver
 pub mod EndedWalks
-pub mod Ranking
+pub mod Looked
 pub mod Advancing
 pub mod Ascending
 pub mod Parting

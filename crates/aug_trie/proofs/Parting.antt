@@ -77,10 +77,6 @@ pub first_rises : ℕ → List ℕ → ℕ → ℕ
 first_rises bits keys zero = 0
 first_rises bits keys (suc i) = first_rises bits keys i + most_rise_steps (apart bits (get_or keys i 0) (get_or keys (suc i) 0))
 
-pub no_rises : (bits : ℕ) (keys : List ℕ) → first_rises bits keys 0 ≡ 0
-unfolding first_rises
-no_rises bits keys = refl
-
 pub more_rises : (bits : ℕ) (keys : List ℕ) (i : ℕ) → first_rises bits keys (i + 1) ≡ first_rises bits keys i + most_rise_steps (apart bits (get_or keys i 0) (get_or keys (i + 1) 0))
 unfolding first_rises
 more_rises bits keys i = let e : suc i ≡ i + 1 = omega arith in subst (λ (z : ℕ). first_rises bits keys z ≡ first_rises bits keys i + most_rise_steps (apart bits (get_or keys i 0) (get_or keys z 0))) e refl

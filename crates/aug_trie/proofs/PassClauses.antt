@@ -185,9 +185,6 @@ module _ (f : ℕ → ℕ → List (ℕ × ℕ) → List ℕ) (lead : Option Kno
   pub crew_table : KnowsTable f k.view
   crew_table = lead_told.0.is_crew.knows_table
 
-  pub crew_facts_are : crew_facts k free ≡ now
-  crew_facts_are = lead_told.1
-
   -- how many lanes it handed out
   pub handed_is : (n : ℕ) → k.view.spare ≡ Some n → n ≡ now.handed
   handed_is n is = sym (ap (λ (z : Option ℕ). unwrap_or z 0) is) ∙ ap (λ (z : CrewFacts). z.handed) lead_told.1

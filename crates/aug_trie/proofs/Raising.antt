@@ -38,10 +38,6 @@ module _ (f : ℕ → ℕ → List (ℕ × ℕ) → List ℕ) where
   pub lifts_later : (s : Shape) (seen earlier book : Book) (key level : ℕ) → key < 2 ^ s.bits → level ≤ s.bits → IsBook f s book → ArePrefixes earlier book → Lifts s seen earlier key level → Lifts s seen book key level
   lifts_later s seen earlier book key level low up b later h = record { lifted = λ n x. newest_later s earlier book key level n low up b later (h.lifted n x) }
 
-  -- what was raised stays so
-  pub raised_later : (s : Shape) (seen earlier book : Book) (key next level : ℕ) → key < 2 ^ s.bits → IsBook f s book → ArePrefixes earlier book → IsRaised s seen earlier key next level → IsRaised s seen book key next level
-  raised_later s seen earlier book key next level low b later h = λ l up which. lifts_later s seen earlier book key l low up b later (h l up which)
-
   pub raises_none : (v : SeatView) (next : ℕ) → Raises next v 0 v
   raises_none v next = λ seen key low h. h
 

@@ -1,6 +1,5 @@
 -- What a walk over a snapshot leaves as it was, and how a descent over it comes of the words that it loaded.
-use Rattle.std.proofs.Common.{◌≡◌, ℕ, ◌+◌, ◌*◌, ◌^◌, ◌≤◌, List, ◌++◌, length, sym, refl, ap, ◌∙◌, subst, arith}
-use Rattle.std.proofs.Math.Pow.{pow_mono}
+use Rattle.std.proofs.Common.{◌≡◌, ℕ, ◌+◌, ◌*◌, ◌≤◌, List, ◌++◌, length, sym, refl, ap, ◌∙◌, subst, arith}
 use Rattle.aug_core.specs.Cuts.{Cut, weight_at, set_of_cut}
 use Rattle.aug_core.specs.Effects.{KnowsTable}
 use Rattle.aug_core.specs.declared.view.SeatView.{SeatView}
@@ -22,10 +21,6 @@ pub keys_of_cut : (bits : ℕ) (cut : Cut) → list_of (members_of bits cut) ≡
 keys_of_cut bits cut = keys_of-pairs_of (weight_at cut) (set_of_cut cut)
 
 module _ (f : ℕ → ℕ → List (ℕ × ℕ) → List ℕ) where
-  -- a table has few keys
-  pub few_keys : (v : SeatView) → KnowsTable f v → 2 ^ v.shape.bits ≤ 65536
-  few_keys v kn = omega (arith, pow_mono kn.laid_out.bits.1)
-
   -- a view that looked knows its table still
   pub knows_on : (n : ℕ) (v w : SeatView) → Looks n v w → KnowsTable f v → KnowsTable f w
   knows_on n v w l kn = subst (KnowsTable f) (sym l.is) (knows_same f v v.live v.also v.held v.spare v.began (v.steps ++ l.more) kn)

@@ -1,15 +1,13 @@
 -- What stands in the cuts of a history: what was shown stands with its weight and goes on to stand, and what was passed over no cut shows.
-use Rattle.std.proofs.Common.{◌≡◌, ◌≢◌, inl, inr, ℕ, zero, suc, ◌+◌, ◌-◌, ◌^◌, ◌<◌, ◌≤◌, List, [], ◌∷◌, length, get_or, All, sym, ap, ◌∙◌, subst, ⊎_elim, arith}
+use Rattle.std.proofs.Common.{◌≡◌, ◌≢◌, inl, inr, ℕ, suc, ◌+◌, ◌-◌, ◌^◌, ◌<◌, ◌≤◌, List, [], length, get_or, All, sym, ap, ◌∙◌, subst, ⊎_elim, arith}
 use Rattle.std.proofs.lemmas.Bool.{cases_eq}
 use Rattle.std.proofs.lemmas.List.Elements.{All-from_get_or}
-use Rattle.std.proofs.lemmas.List.Prefix.{front_reads}
 use Rattle.aug_core.specs.Places.{Shape}
 use Rattle.aug_core.specs.Addresses.{root_place}
 use Rattle.aug_core.specs.Book.{Book, history_of, At, IsPassed, IsBook}
 use Rattle.aug_core.specs.Counts.{change, Stands, AreCounted}
 use Rattle.aug_core.specs.Opening.{Opening, opening_serial}
 use Rattle.aug_core.specs.Cuts.{Cut, shown_of, serial_of, weight_at, IsAtMost}
-use Rattle.aug_core.specs.Prefixes.{IsPrefix}
 use Rattle.aug_core.specs.inside.EntryCuts.{entry_of}
 use Rattle.aug_core.specs.inside.RootCuts.{root_cut}
 use Rattle.aug_core.specs.inside.Shows.{above, NewestShows}
@@ -17,10 +15,9 @@ use Rattle.aug_core.specs.declared.view.Change.{Change}
 use Rattle.aug_core.specs.declared.view.SeatView.{SeatView}
 use Rattle.aug_core.proofs.CutsUnder.{reached, shows_reached}
 use Rattle.aug_core.proofs.EntryCuts.{Has, entry_is, reached_shown, not_passed}
-use Rattle.aug_core.proofs.PrefixLemmas.{prefix_long}
 use Rattle.aug_core.proofs.Showing.{above_root}
 use Rattle.aug_trie.specs.inside.Weights.{WeighsAt}
-use Rattle.aug_trie.specs.History.{IsHistory, last_cut}
+use Rattle.aug_trie.specs.History.{last_cut}
 use Rattle.aug_trie.specs.Knowledge.{StandsIn}
 use Rattle.aug_trie.specs.inside.Knows.{root_history}
 use Rattle.aug_trie.proofs.Histories.{history_long, cut_at, last_is, root_serial, root_shows}
@@ -96,21 +93,3 @@ pub shown_stands : (face : ℕ → ℕ → List (ℕ × ℕ) → List ℕ) (o : 
     → opening_serial o.members key < serial_of (root_cut o.shape book i) key → Stands views (change key (serial_of (root_cut o.shape book i) key) (weight_at (root_cut o.shape book i) key))
 shown_stands face o book views b counted some key i low here past = let h = shown_weighs face o.shape book b some key i low here in
     counted.all (change key (serial_of (root_cut o.shape book i) key) (weight_at (root_cut o.shape book i) key)) record { exists = low; past_opening = past; entry = h.entry; reached = h.at; weighs = h.weighs }
-
--- what stands in the last cut of a beginning of a history stands in its last cut
-module _ (bits : ℕ) (members : List (ℕ × ℕ)) (history : List Cut) (is_history : IsHistory bits members history) (c : Change) where
-  stands_by : (i d : ℕ) → i + d < length history → StandsIn (get_or history i []) c → StandsIn (get_or history (i + d) []) c
-  stands_by i zero below stands = let e : i ≡ i + zero = omega arith in subst (λ (z : ℕ). StandsIn (get_or history z []) c) e stands
-  stands_by i (suc d) below stands = let e : i + d + 1 ≡ i + suc d = omega arith in subst (λ (z : ℕ). StandsIn (get_or history z []) c) e
-      (stands_later (get_or history (i + d) []) (get_or history (i + d + 1) []) c (is_history.rises (i + d) (omega arith)) (stands_by i d (omega arith) stands))
-
-  pub stands_to : (front : List Cut) → IsPrefix front history → 1 ≤ c.serial → StandsIn (last_cut front) c → StandsIn (last_cut history) c
-  stands_to [] b some (inl less) = absurd (omega arith)
-  stands_to [] b some (inr is) = let e : 0 ≡ c.serial = ap (λ (z : ℕ × ℕ). z.0) is in absurd (omega arith)
-  stands_to (x ∷ xs) b some stands =
-      let front : List Cut = x ∷ xs in
-      let fits = prefix_long front history b in
-      let there : last_cut front ≡ get_or history (length front - 1) [] = sym (front_reads [] history front b.0 b.1 (length front - 1) (omega arith)) in
-      let d : ℕ = length history - length front in
-      let e : length front - 1 + d ≡ length history - 1 = omega arith in
-      subst (λ (z : ℕ). StandsIn (get_or history z []) c) e (stands_by (length front - 1) d (omega arith) (subst (λ (z : Cut). StandsIn z c) there stands))

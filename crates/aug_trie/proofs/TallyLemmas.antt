@@ -188,10 +188,6 @@ cut_key k n b =
       | inr ge ↦ rw (le-ltb k n ge, le-leb n k ge) (zero_left b)
     ]
 
--- the number is of a change that tallies
-abbrev in_reach : Cut → Cut → ℕ → ℕ → Bool
-in_reach first last k n = nat_lt (serial_of first k) n && nat_le n (serial_of last k)
-
 module _ (first last : Cut) (changes : List Change) (tallies : Tallies first last changes) where
   pub none_low : (k n : ℕ) → n ≤ serial_of first k → times k n changes ≡ 0
   none_low k n low = tallies k n ∙ rw (le-ltb (serial_of first k) n low)

@@ -1,34 +1,29 @@
 -- What contracts see of a turn.
-use Rattle.std.proofs.Common.{Some, ◌≡◌, ℕ, zero, suc, ◌+◌, ◌-◌, ◌*◌, ◌^◌, ◌<◌, ◌≤◌, Bool, true, false, if◌then◌else◌, le-ltb, ne_eqb, List, [], ◌∷◌, ◌++◌, length, sym, refl, ap, ◌∙◌, subst, arith, length-append}
+use Rattle.std.proofs.Common.{Some, ◌≡◌, ℕ, ◌+◌, ◌-◌, ◌^◌, ◌<◌, ◌≤◌, true, List, [], ◌∷◌, ◌++◌, length, sym, refl, ap, ◌∙◌, subst, arith, length-append}
 use Rattle.atomic_table.specs.Seated.{TableId}
 use Rattle.aug_words.specs.Seats.{Known}
 use Rattle.aug_monoid.specs.Parts.{Parts}
 use Rattle.aug_model.specs.Folds.{summary_of}
 use Rattle.aug_core.specs.Faces.{face}
-use Rattle.aug_core.specs.Places.{Shape}
-use Rattle.aug_core.specs.Addresses.{left_of}
 use Rattle.aug_core.specs.Counts.{changes_of}
 use Rattle.aug_core.specs.Kinds.{load_leaf, try_leaf}
 use Rattle.aug_core.specs.Effects.{own_lane, KnowsTable}
 use Rattle.aug_core.specs.declared.view.SeatView.{SeatView}
 use Rattle.aug_model.specs.declared.outcome.Outcome.{Outcome}
 use Rattle.aug_trie.specs.inside.Climbing.{Updated}
-use Rattle.aug_trie.specs.inside.Goes.{part_steps, try_steps, level_steps}
 use Rattle.aug_trie.specs.inside.Knows.{root_history, knows, root_numbers}
 use Rattle.aug_trie.specs.Updates.{ComesTo}
-use Rattle.aug_trie.specs.Pass.{PassFacts, GoesOn, StepsOf, most_rise_steps}
+use Rattle.aug_trie.specs.Pass.{PassFacts, GoesOn, StepsOf}
 use Rattle.aug_trie.specs.inside.PassState.{pass_facts}
 use Rattle.aug_trie.specs.inside.RoundState.{round_of, eras_of, past_rounds}
 use Rattle.aug_trie.specs.Node.{Keeps}
-use Rattle.aug_trie.specs.inside.Points.{OneStep, TryAt, point_turns}
+use Rattle.aug_trie.specs.inside.Points.{OneStep}
 use Rattle.aug_trie.specs.Requests.{word_after, goes_from}
 use Rattle.aug_trie.specs.declared.updates.request.Request.{Request}
-use Rattle.aug_trie.specs.inside.Stages.{IsOnWay, HasBegun, StageAt, part_above, ascent_turns, stage_turns, MayTry, IsRising, Climbs, StageFalls}
+use Rattle.aug_trie.specs.inside.Stages.{HasBegun, StageAt, stage_turns, MayTry, IsRising, Climbs, StageFalls}
 use Rattle.aug_trie.specs.inside.ClimbState.{climb_facts, began_facts, start_facts, HoldsClimb}
 use Rattle.aug_trie.specs.Climb.{ClimbFacts, StepsOnce, TurnsOn, Finishes}
 use Rattle.aug_trie.specs.declared.rounds.account.Account.{Account}
-use Rattle.aug_trie.specs.declared.turns.points.Point.{Point}
-use Rattle.aug_trie.specs.declared.turns.points.Point.TheVariants.{Node, Left, Right, Part, Record}
 use Rattle.aug_trie.specs.declared.turns.ascents.Ascent.{Ascent}
 use Rattle.aug_trie.specs.declared.turns.stages.Stage.{Stage}
 use Rattle.aug_trie.specs.declared.turns.stages.Stage.TheVariants.{Leaf, Change, Up}
@@ -36,7 +31,6 @@ use Rattle.aug_trie.specs.declared.turns.stages.Next.{Next}
 use Rattle.aug_trie.specs.declared.turns.stages.Next.TheVariants.{More, Done}
 use Rattle.aug_trie.proofs.Accepting.{knows_on, comes_to, settled}
 use Rattle.aug_trie.proofs.Advancing.{goes_at}
-use Rattle.aug_trie.proofs.Ascending.{part_is}
 use Rattle.aug_trie.proofs.Counters.{may_count, counted_by}
 use Rattle.aug_trie.proofs.PassCalls.{Holds, account_after}
 use Rattle.aug_trie.proofs.Passing.{gained_by, goes_on_by, steps_of, pass_after}
@@ -49,15 +43,6 @@ use Rattle.aug_core.specs.declared.step.StepTaken.{StepTaken}
 
 -- ---- the turns that are left
 
--- a try has no more steps left than it has
-point_few : (f : ℕ → ℕ → List (ℕ × ℕ) → List ℕ) (v : SeatView) (q number : ℕ) (point : Point) (w : SeatView) → TryAt f v q number point w → point_turns (part_steps v.shape (left_of v.shape q)) point ≤ try_steps (part_steps v.shape (left_of v.shape q))
-point_few f v q number Node w t = omega arith
-point_few f v q number (Left from) w t = omega arith
-point_few f v q number (Right from left) w t = omega arith
-point_few f v q number (Part r) w t = let nodes = t.is_at.nodes in
-    let three : part_steps v.shape (left_of v.shape q) ≡ 3 = ap (λ (z : Bool). if z then 0 else 3) (le-ltb (left_of v.shape q) (2 ^ v.shape.bits) nodes) in omega arith
-point_few f v q number (Record r) w t = omega arith
-
 -- a list that goes on from another is not the same
 made_some : (front all : List StepTaken) (x : StepTaken) (more : List StepTaken) → all ≡ front ++ x ∷ more → all ≡ front → ⊥
 made_some front all x more is same = let a = ap (λ (z : List StepTaken). length z) is in let b = ap (λ (z : List StepTaken). length z) same in let long = length-append front (x ∷ more) in omega arith
@@ -67,23 +52,7 @@ one_load : (key found other : ℕ) (front more rest : List StepTaken) → front 
 one_load key found other front more rest is = let e = append_cancel_left front (load_leaf key found ∷ more) (load_leaf key other ∷ rest) is in
     (ap (λ (z : List StepTaken). unwrap_or (slice_index_or z 0 (load_leaf key other)).found 0) e, ap (λ (z : List StepTaken). drop 1 z) e)
 
-again_few : (second : Bool) (n : ℕ) → (if second then 0 else n) ≤ n
-again_few true n = omega arith
-again_few false n = omega arith
-
-level_few : (bits level x y : ℕ) → level < bits → x ≤ try_steps (part_above level) → y ≤ try_steps (part_above level) → (bits - 1 - level) * level_steps + x + y ≤ most_rise_steps bits
-level_few bits zero x y low a b = omega arith
-level_few bits (suc j) x y low a b = let three : part_above (suc j) ≡ 3 = ap (λ (z : Bool). if z then 0 else 3) (ne_eqb (suc j) 0 (λ is. omega arith)) in omega arith
-
 module _ (f : ℕ → ℕ → List (ℕ × ℕ) → List ℕ) where
-  -- an update that is on its way has at most all turns but the two at its leaf
-  way_few : (bits number key : ℕ) (leaf : SeatView) (a : Ascent) (v : SeatView) → IsOnWay f bits number key leaf a v → ascent_turns bits a ≤ most_rise_steps bits
-  way_few bits number key leaf a v o = let is = part_is f bits number key leaf a v o in let shaped = (goes_at f o.begun a.node (number + a.level) a.point v o.try_at).shaped in
-      let few = point_few f o.begun a.node (number + a.level) a.point v o.try_at in
-      let same : part_steps o.begun.shape (left_of o.begun.shape a.node) ≡ part_above a.level = ap (λ (z : Shape). part_steps z (left_of z a.node)) (sym shaped) ∙ is in
-      level_few bits a.level (if a.second then 0 else try_steps (part_above a.level)) (point_turns (part_above a.level) a.point) o.at_node.below_root (again_few a.second (try_steps (part_above a.level)))
-      (subst (λ (z : ℕ). point_turns z a.point ≤ try_steps z) same few)
-
   module _ (leaves bits number left key : ℕ) (request : Request) (u : SeatView) (table : TableId) where
     -- ---- what a stage says of the start
 

@@ -8,7 +8,7 @@ use Rattle.std.specs.List.Sorted.{IsStrictlyIncreasing}
 use Rattle.aug_monoid.specs.Fold.{fold_of}
 use Rattle.aug_monoid.specs.inside.Laws.{IsMonoid}
 use Rattle.aug_monoid.specs.Parts.{Parts}
-use Rattle.aug_monoid.proofs.FoldLemmas.{fold_of-append, fold_of-is_proper, fold_of-one}
+use Rattle.aug_monoid.proofs.FoldLemmas.{fold_of-append, fold_of-is_proper}
 use Rattle.aug_monoid.specs.Weighted.{FitsPair}
 use Rattle.aug_model.specs.Keys.{is_member, keys_of, IsKeySet}
 use Rattle.aug_model.specs.Queries.{range_of, weight_in}
@@ -78,15 +78,7 @@ module _ {A B : Type 0} (parts_a : Parts A) (parts_b : Parts B) where
         (ex ∙ ap parts_a.to_word (sym (fold_of-append laws_a ls rs fit_l fit_r)) ∙ ap (λ (z : List (ℕ × ℕ)). parts_a.to_word (fold_of parts_a z)) (sym is))
         (ey ∙ ap parts_b.to_word (sym (fold_of-append laws_b ls rs fit_l fit_r)) ∙ ap (λ (z : List (ℕ × ℕ)). parts_b.to_word (fold_of parts_b z)) (sym is))
 
--- the fold of one pair is what the monoid makes of it
-pub one_pair_is : {M : Type 0} {parts : Parts M} (laws : IsMonoid parts) (p : ℕ × ℕ) (pairs : List (ℕ × ℕ)) (value : M) → FitsPair p → value ≡ parts.of_key p.0 p.1 → pairs ≡ p ∷ [] → value ≡ fold_of parts pairs
-one_pair_is {parts = parts} laws p pairs value fits is only = is ∙ sym (fold_of-one laws p fits) ∙ sym (ap (fold_of parts) only)
-
 -- ---- one node more
-
--- the own records of a level lie behind one another
-own_step : (o : Opening) (l p : ℕ) → own_before o l p ≤ own_before o l (p + 1)
-own_step o l p = let e : p + 1 ≡ suc p = omega arith in let f = ap (own_before o l) e in omega arith
 
 own_later : (o : Opening) (l p n : ℕ) → p ≤ n → own_before o l p ≤ own_before o l n
 own_later o l p zero le = let e : p ≡ 0 = omega arith in let f = ap (own_before o l) e in omega arith
@@ -409,13 +401,6 @@ first_nodes s = let g : suc s.bits - suc 0 ≡ s.bits = omega arith in let k : 2
 
 pub last_nodes : (s : Shape) → level_start s (suc s.bits) ≡ place_count s
 last_nodes s = let g : suc s.bits - suc s.bits ≡ 0 = omega arith in let k : 2 ^ (suc s.bits - suc s.bits) ≡ 1 = ap (λ (z : ℕ). 2 ^ z) g in let t = twice s.bits in omega arith
-
--- the next own record, behind a node without one and behind one that has one
-pub next_same : (o : Opening) (l p : ℕ) → owns o (suc l) p ≡ false → next_own o l p ≡ next_own o l (p + 1)
-next_same o l p none = let e : p + 1 ≡ suc p = omega arith in let f = ap (own_before o (suc l)) e in let g = own_same o (suc l) p none in omega arith
-
-pub next_more : (o : Opening) (l p : ℕ) → owns o (suc l) p ≡ true → next_own o l p + 1 ≡ next_own o l (p + 1)
-next_more o l p has = let e : p + 1 ≡ suc p = omega arith in let f = ap (own_before o (suc l)) e in let g = own_after o (suc l) p has in omega arith
 
 -- the words open a table when all nodes are built
 pub built_is_opened : (face : ℕ → ℕ → List (ℕ × ℕ) → List ℕ) (o : Opening) (words : List ℕ) → IsKeySet o.shape.bits (keys_of o.members) → All FitsPair o.members → length (keys_of o.members) ≤ o.shape.members

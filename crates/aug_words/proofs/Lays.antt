@@ -1,6 +1,5 @@
 -- A lead lays out the part of its table beside the one at work, and then all of that part is as an opening demands.
 use Rattle.std.proofs.Common.{◌≡◌, ℕ, ◌+◌, ◌-◌, ◌/◌, ◌^◌, ◌<◌, ◌≤◌, ◌≢◌, ◌⊎◌, inl, inr, List, [], ◌∷◌, ◌++◌, length, append-nil, get_or, set, All, refl, sym, ap, ◌∙◌, subst, ⊎_elim, arith, length-set, get_or-set_other, get_or-set_same}
-use Rattle.std.proofs.Math.Pow.{pow_mono}
 use Rattle.std.proofs.lemmas.List.{set-get_or}
 use Rattle.std.proofs.lemmas.Bool.{cases_eq}
 use Rattle.aug_model.specs.Keys.{IsKeySet, keys_of}
@@ -41,9 +40,6 @@ leaves_are table made layout s lanes records store same = let at : lanes ≡ lan
 -- and the root's place
 pub root_at : (table : TableId) (made : TableKey) (layout s : Shape) (lanes records : ℕ) → IsStore table made layout lanes records → layout ≡ s → (1 ≤ lanes) × (lanes - 1 ≡ root_place s) × (lanes - 1 < place_count s)
 root_at table made layout s lanes records store same = let at : lanes ≡ lane_place s 0 = store.lanes_are ∙ ap (λ (z : Shape). lane_place z 0) same in let t = twice s.bits in let some = some_leaf s.bits in (omega arith, omega arith, omega arith)
-
-pub few_keys_all : (table : TableId) (made : TableKey) (layout s : Shape) (lanes records : ℕ) → IsStore table made layout lanes records → layout ≡ s → 2 ^ s.bits ≤ 2 ^ 16
-few_keys_all table made layout s lanes records store same = let bits : layout.bits ≡ s.bits = ap (λ (z : Shape). z.bits) same in let few = store.laid_out.bits.1 in pow_mono {i = s.bits} {j = 16} (omega arith)
 
 -- ---- the whole table
 

@@ -52,10 +52,6 @@ some_words table made layout lanes records store = let wide = store.wide in let 
 pub pass_has_words : (face : ℕ → ℕ → List (ℕ × ℕ) → List ℕ) (seat_table table : TableId) (base lanes records lane lent : ℕ) (me : Sat) → SitsAt seat_table table base lanes records me.0 → IsPassSeat face lane lent me → 0 < table.words
 pass_has_words face seat_table table base lanes records lane lent me sits seat = let wide = sits.placed.wide in let low = seat.exists in omega arith
 
--- the first lane's word comes after the root's
-pub lanes_at : (table : TableId) (made : TableKey) (layout : Shape) (lanes records : ℕ) → IsStore table made layout lanes records → (lanes ≡ root_place layout + 1) × (2 ≤ lanes) × (lanes < word_count layout)
-lanes_at table made layout lanes records store = let begins = store.lanes_are in let workers = store.laid_out.workers.0 in let bits = keys-within layout.bits store.laid_out.bits.0 store.laid_out.bits.1 in let b = bits.0 in let t = twice layout.bits in (omega arith, omega arith, omega arith)
-
 -- the root is an inner node
 pub root_inner : (s : Shape) → 1 ≤ s.bits → s.bits ≤ 16 → IsInner s (root_place s)
 root_inner s some_bits few = let b = (keys-within s.bits some_bits few).0 in let t = twice s.bits in record { past_leaves = omega arith; inside = omega arith }

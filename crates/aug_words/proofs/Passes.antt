@@ -1,13 +1,11 @@
 -- The seat of a pass after a step.
-use Rattle.std.proofs.Common.{◌≡◌, ℕ, ◌+◌, ◌-◌, ◌*◌, ◌^◌, ◌<◌, ◌≤◌, length, length-set, arith, mul-le-mul_right, List, [], ◌∷◌, ◌++◌, refl, sym, ap, ◌∙◌, subst, ⊎_elim, Some}
+use Rattle.std.proofs.Common.{◌≡◌, ℕ, ◌+◌, ◌-◌, ◌*◌, ◌<◌, ◌≤◌, length, length-set, List, [], ◌∷◌, ◌++◌, refl, sym, ap, ◌∙◌, subst, ⊎_elim, Some}
 use mathlib.Core.Option.{some}
 use lib.ListN.{get_elem?}
 use Rattle.atomic_table.specs.Seated.{TableId}
 use Rattle.aug_core.specs.Places.{Shape, lane_place, record_start, record_count, record_words, word_count}
 use Rattle.aug_core.specs.Lanes.{IsOfLane, block_start, block_size}
-use Rattle.aug_core.specs.Book.{Book, history_of}
-use Rattle.aug_core.proofs.Books.{at_below}
-use Rattle.std.proofs.Math.Nat.{mul_comm}
+use Rattle.aug_core.specs.Book.{Book}
 use Rattle.std.proofs.lemmas.Bool.{cases_eq}
 use Rattle.aug_core.specs.Pasts.{learnt_of}
 use Rattle.aug_core.specs.Learning.{learning}
@@ -25,7 +23,7 @@ use Rattle.aug_core.proofs.Sizes.{record_inside}
 use Rattle.aug_core.proofs.Fits.{knows_shown, knows_same, knows_told}
 use Rattle.aug_core.proofs.Stores.{alone, one_held}
 use Rattle.aug_core.proofs.Eras.{holds_lane}
-use Rattle.aug_words.specs.inside.SeatState.{IsPlaced, SitsAt, IsPassSeat, HasReached, LendsHere}
+use Rattle.aug_words.specs.inside.SeatState.{IsPlaced, SitsAt, IsPassSeat, LendsHere}
 use Rattle.aug_words.specs.Seats.{AreTogether, Known, MayLoad, LoadsRecordWord, Store}
 
 -- a seat that stayed in its part
@@ -186,12 +184,6 @@ module _ (face : ℕ → ℕ → List (ℕ × ℕ) → List ℕ) (lane lent : �
   -- and so is one that it may store
   pub stores_inside : (number : ℕ) → MayStore me.0 number → number < record_count me.0.shape
   stores_inside number may = record_inside me.0.shape lane number seat.exists (subst (λ (z : ℕ). IsOfLane me.0.shape z number) (lane_named may.lane may.only).0 may.of_lane)
-
-  -- a serial that a leaf has reached, and the next one, are small
-  pub serial_small : (key serial : ℕ) → key < 2 ^ me.0.shape.bits → HasReached me.0 key serial → serial ≤ 2 ^ 27
-  serial_small key serial low reached = let below = at_below (history_of me.0.seen key) serial reached.entry reached.at in let few = seat.knows.fits.few key low in
-      let w : ℕ = me.0.shape.workers in let u : ℕ = me.0.shape.updates in let b : ℕ = me.0.shape.bits in
-      let words = seat.knows.laid_out.words in let some_bits = seat.knows.laid_out.bits.0 in let more : 1 * (w * u) ≤ b * (w * u) = mul-le-mul_right (w * u) some_bits in let turned : b * (w * u) ≡ w * u * b = mul_comm b (w * u) in omega arith
 
 -- what a load at a record's word tells of the record
 pub tells : (v w : SeatView) (place number field r : ℕ) → field < record_words → place ≡ record_start v.shape number + field → ReadsRecord v place r w → LoadsRecordWord v number field r w

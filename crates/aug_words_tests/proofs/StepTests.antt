@@ -1,5 +1,5 @@
 -- What the test of two passes on one node needs: a table of 1 bit has the leaves 0 and 1, and the node 2 over them.
-use Rattle.std.proofs.Common.{◌≡◌, ◌≢◌, ℕ, Bool, true, false, ◌+◌, ◌-◌, ◌*◌, ◌/◌, ◌%◌, ◌^◌, ◌<◌, ◌≤◌, eqb, eq-eqb, ne_eqb, if◌then◌else◌, List, [], ◌∷◌, ◌++◌, length, get_or, refl, sym, ap, ◌∙◌, subst, arith}
+use Rattle.std.proofs.Common.{◌≡◌, ◌≢◌, ℕ, Bool, true, false, ◌+◌, ◌-◌, ◌*◌, ◌/◌, ◌%◌, ◌^◌, ◌<◌, ◌≤◌, eqb, if◌then◌else◌, List, [], ◌∷◌, ◌++◌, length, get_or, refl, sym, ap, ◌∙◌, subst, arith}
 use Rattle.aug_core.specs.Places.{Shape, shape_of, own_records}
 use Rattle.aug_core.specs.Addresses.{IsInner, left_of, right_of}
 use Rattle.aug_core.specs.Lanes.{IsOfLane, block_size}
@@ -32,12 +32,6 @@ node_inner s one = let e : 2 ^ s.bits ≡ 2 = ap (λ (b : ℕ). 2 ^ b) one in le
 -- the pairs below a leaf of this word: its key with the weight in the lower half, where the serial in the upper half is odd
 abbrev pub there : ℕ → ℕ → List (ℕ × ℕ)
 there key word = if eqb (word / 2 ^ 32 % 2) 1 then (key, word % 2 ^ 32) ∷ [] else []
-
-pub is_there : (key word : ℕ) → word / 2 ^ 32 % 2 ≡ 1 → there key word ≡ (key, word % 2 ^ 32) ∷ []
-is_there key word odd = ap (λ (z : Bool). if z then (key, word % 2 ^ 32) ∷ [] else []) (eq-eqb (word / 2 ^ 32 % 2) 1 odd)
-
-pub not_there : (key word : ℕ) → word / 2 ^ 32 % 2 ≢ 1 → there key word ≡ []
-not_there key word even = ap (λ (z : Bool). if z then (key, word % 2 ^ 32) ∷ [] else []) (ne_eqb (word / 2 ^ 32 % 2) 1 even)
 
 -- they are those of the entry that the word names
 there_is : (key i word : ℕ) (e : Entry) → IsSerial key i e → e.word ≡ word → e.pairs ≡ there key word

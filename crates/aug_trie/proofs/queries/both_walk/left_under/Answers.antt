@@ -1,7 +1,7 @@
 use Rattle.aug_core.specs.declared.view.SeatView.{SeatView}
 use Rattle.aug_trie.specs.inside.BothWalk.{top_of}
 use Rattle.aug_trie.proofs.Comparing.{under_seen, left_is_under}
-use Rattle.aug_trie.proofs.Ranking.{looks_one}
+use Rattle.aug_trie.proofs.Looked.{looks_one}
 use Rattle.aug_trie.proofs.queries.both_walk.left_under.Goals as goal
 
 pub load_word-requires : goal.load_word-requires

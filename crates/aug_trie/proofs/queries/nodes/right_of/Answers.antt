@@ -4,7 +4,7 @@ use Rattle.aug_core.specs.declared.view.SeatView.{SeatView}
 use Rattle.aug_trie.specs.inside.NodeWords.{IsNodeAt}
 use Rattle.aug_trie.specs.inside.NamedCuts.{cut_named}
 use Rattle.aug_trie.proofs.Looking.{record_seen, right_is}
-use Rattle.aug_trie.proofs.Ranking.{looks_one, looks_on}
+use Rattle.aug_trie.proofs.Looked.{looks_one, looks_on}
 use Rattle.aug_trie.proofs.Unchanged.{knows_loaded, tells_loaded, children_small}
 use Rattle.aug_trie.proofs.queries.nodes.right_of.Goals as goal
 

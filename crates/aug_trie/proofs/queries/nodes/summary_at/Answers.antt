@@ -5,7 +5,7 @@ use Rattle.aug_core.specs.declared.view.SeatView.{SeatView}
 use Rattle.aug_trie.specs.inside.NamedCuts.{cut_named}
 use Rattle.aug_trie.proofs.Telling.{seen_on, says_before}
 use Rattle.aug_trie.proofs.Looking.{leaf_tells, record_seen, count_fits, record_tells}
-use Rattle.aug_trie.proofs.Ranking.{looks_one, looks_on, looks_none}
+use Rattle.aug_trie.proofs.Looked.{looks_one, looks_on, looks_none}
 use Rattle.aug_trie.proofs.queries.nodes.summary_at.Goals as goal
 
 pub returns-then-level-eq0-clause-tells : goal.returns-then-level-eq0-clause-tells

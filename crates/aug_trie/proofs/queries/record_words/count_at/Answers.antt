@@ -7,7 +7,7 @@ use Rattle.aug_trie.specs.LeafWords.{serial_in_word}
 use Rattle.aug_trie.specs.inside.NamedCuts.{cut_named}
 use Rattle.aug_trie.proofs.Looking.{record_seen, count_fits, count_is}
 use Rattle.aug_trie.proofs.Walking.{leaf_count}
-use Rattle.aug_trie.proofs.Ranking.{looks_none, looks_one}
+use Rattle.aug_trie.proofs.Looked.{looks_none, looks_one}
 use Rattle.aug_trie.proofs.queries.record_words.count_at.Goals as goal
 
 pub returns-then-level-eq0-clause-value : goal.returns-then-level-eq0-clause-value

@@ -4,7 +4,7 @@ use Rattle.aug_core.specs.declared.view.SeatView.{SeatView}
 use Rattle.aug_trie.specs.inside.NodeWords.{IsNodeAt}
 use Rattle.aug_trie.specs.inside.NamedCuts.{cut_named}
 use Rattle.aug_trie.proofs.Looking.{record_seen, left_is}
-use Rattle.aug_trie.proofs.Ranking.{looks_one}
+use Rattle.aug_trie.proofs.Looked.{looks_one}
 use Rattle.aug_trie.proofs.queries.record_words.left_word.Goals as goal
 
 pub load_word-requires : goal.load_word-requires

@@ -1,4 +1,4 @@
-use Rattle.std.proofs.Common.{refl, ap, sym, subst, ◌⊎◌, ◌∙◌, ◌≡◌, ◌≢◌, ◌*◌, ◌+◌, ◌-◌, ◌^◌, ◌<◌, ◌≤◌, ℕ, List, [], length, get_or}
+use Rattle.std.proofs.Common.{refl, ap, sym, subst, ◌⊎◌, ◌∙◌, ◌≡◌, ◌≢◌, ◌*◌, ◌+◌, ◌-◌, ◌^◌, ◌<◌, ◌≤◌, ℕ, List, length, get_or}
 use Rattle.aug_core.specs.Addresses.{IsInner, root_place}
 use Rattle.aug_core.specs.Cuts.{pairs_of_cut}
 use Rattle.aug_core.specs.Effects.{Sat}

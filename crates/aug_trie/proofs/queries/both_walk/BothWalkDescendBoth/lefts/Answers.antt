@@ -2,7 +2,7 @@ use Rattle.std.proofs.Common.{◌+◌, ◌*◌, ◌∙◌, sym, ap, subst, arith
 use Rattle.aug_core.specs.Faces.{face}
 use Rattle.aug_trie.specs.inside.BothWalk.{top_of, WalkingBoth}
 use Rattle.aug_trie.specs.inside.NodesUnder.{IsNodeUnder}
-use Rattle.aug_trie.proofs.Ranking.{looks_on}
+use Rattle.aug_trie.proofs.Looked.{looks_on}
 use Rattle.aug_trie.proofs.SnapshotWalks.{knows_on}
 use Rattle.aug_trie.proofs.Comparing.{both_walk_on, both_named_then, node_under_on, node_under_back, descends_children}
 use Rattle.aug_trie.proofs.queries.both_walk.BothWalkDescendBoth.lefts.Goals as goal

@@ -6,7 +6,7 @@ use Rattle.aug_trie.specs.inside.NodeWords.{IsNodeAt}
 use Rattle.aug_trie.specs.inside.Goes.{Looks}
 use Rattle.aug_trie.specs.inside.NamedCuts.{cut_named}
 use Rattle.aug_trie.specs.inside.SnapshotWalk.{set_seen, IsNamed, Walking}
-use Rattle.aug_trie.proofs.Ranking.{looks_on}
+use Rattle.aug_trie.proofs.Looked.{looks_on}
 use Rattle.aug_trie.proofs.SnapshotWalks.{knows_on, walk_on, named_then, node_on, node_back, descends_past, counted_before}
 use Rattle.aug_trie.proofs.Unchanged.{children_small}
 use Rattle.aug_query.specs.Descend.{one_more_past}

@@ -1,7 +1,7 @@
 use Rattle.std.proofs.Common.{sym, subst, ap, ◌∙◌}
 use Rattle.aug_core.specs.Faces.{face}
 use Rattle.aug_trie.specs.inside.SnapshotWalk.{Walking}
-use Rattle.aug_trie.proofs.Ranking.{looks_none}
+use Rattle.aug_trie.proofs.Looked.{looks_none}
 use Rattle.aug_trie.proofs.SnapshotWalks.{walk_on, descends_count, counted_before}
 use Rattle.aug_trie.specs.inside.NodeWords.{IsNodeAt}
 use Rattle.aug_trie.specs.inside.NamedCuts.{cut_named}

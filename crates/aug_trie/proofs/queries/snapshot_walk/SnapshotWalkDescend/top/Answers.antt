@@ -1,7 +1,7 @@
 use Rattle.std.proofs.Common.{ℕ, refl, subst, ap, ◌∙◌}
 use Rattle.aug_core.specs.Faces.{face}
 use Rattle.aug_trie.specs.inside.SnapshotWalk.{IsNamed, Walking}
-use Rattle.aug_trie.proofs.Ranking.{looks_none}
+use Rattle.aug_trie.proofs.Looked.{looks_none}
 use Rattle.aug_trie.proofs.SnapshotWalks.{descends_node}
 use Rattle.aug_query.specs.Descend.{one_more_node}
 use Rattle.aug_trie.proofs.queries.snapshot_walk.SnapshotWalkDescend.top.Goals as goal

@@ -11,13 +11,10 @@ returns-in-Trie-clause-opens c _ = on_trie (OpensUser c.args.user.now c.open_use
 pub returns-in-Trie-clause-open : goal.returns-in-Trie-clause-open
 returns-in-Trie-clause-open c is = absurd (c.if-user-eq-USER.false is)
 
-pub returns-in-Trie-clause-other_kind : goal.returns-in-Trie-clause-other_kind
-returns-in-Trie-clause-other_kind c is = absurd (c.if-user-eq-TRIE.false is)
-
 pub returns-in_default : goal.returns-in_default
 returns-in_default c = record {
   «open» = λ is. absurd (c.if-user-eq-USER.false is);
-  other_kind = λ is. absurd (c.if-user-eq-TRIE.false is);
+  other_kind = search rules;
   opens = λ _. other_trie (OpensUser c.args.user.now c.args.user.now) _ c.args.trie.now c.as_slot.result.now _ c.as_slot.ensures.value c.in_default.not-Trie refl refl;
   tag = refl;
   foreign = λ none. absurd (not_none c.args.trie.now.held.value (c.is_open.ensures.0 c.if-not-is_open.false) none);

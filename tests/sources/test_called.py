@@ -35,7 +35,7 @@ def uncalled(top):
 def unused(top):
     """The definitions of pages of lemmas that no line names but those where they are stated and defined, as `page: name`."""
     cited, stated = set(), []
-    for path in (it for kind in ("antt", "rt") for it in files(top, f"crates/*/**/*.{kind}")):
+    for path in (it for part in ("src/**/*.rt", "specs/**/*.antt", "proofs/**/*.antt") for it in files(top, f"crates/*/{part}")):
         text = re.sub("--.*", "", read(path))
         here = {name: indent for indent, name in STATED.findall(text)} if re.search(r"/proofs/\w+\.antt$", path) else {}
         stated += [(os.path.basename(path), name) for name in here]

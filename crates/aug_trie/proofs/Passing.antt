@@ -1,5 +1,6 @@
 -- A pass stays one.
-use Rattle.std.proofs.Common.{◌≡◌, Option, Some, ℕ, suc, ◌+◌, ◌-◌, ◌*◌, ◌^◌, ◌<◌, ◌≤◌, List, [], ◌∷◌, ◌++◌, length, length-append, sym, refl, ap, ◌∙◌, subst, arith}
+use Rattle.std.proofs.Common.{◌≡◌, ◌⊎◌, Option, Some, ℕ, suc, ◌+◌, ◌-◌, ◌*◌, ◌^◌, ◌<◌, ◌≤◌, ◌==◌, Bool, if◌then◌else◌, List, [], ◌∷◌, ◌++◌, length, length-append, sym, refl, ap, ◌∙◌, subst, inl, inr, arith}
+use Rattle.std.proofs.lemmas.Bool.{cases_Bool}
 use Rattle.std.proofs.Math.Nat.{add-mul}
 use Rattle.aug_core.specs.Places.{Shape}
 use Rattle.aug_core.specs.Lanes.{first_record, lane_records}
@@ -17,8 +18,8 @@ use Rattle.aug_model.specs.declared.outcome.Outcome.TheVariants.{Accepted, Repla
 use Rattle.aug_trie.specs.inside.Climbing.{CameTo, WentUp, Updated, UpdatedFrom, advance_from, told_by}
 use Rattle.aug_trie.specs.inside.Weights.{WeighsAt}
 use Rattle.aug_trie.specs.LeafWords.{serial_in_word, weight_in_word}
-use Rattle.aug_trie.specs.Requests.{word_after, word_left, weight_told, changes_by}
-use Rattle.aug_trie.specs.Updates.{Tells}
+use Rattle.aug_trie.specs.Requests.{goes_from, outcome_at_once, outcome_by, outcome_from, stores_nothing, word_after, word_left, weight_told, changes_by}
+use Rattle.aug_trie.specs.Updates.{IsLost, Tells}
 use Rattle.aug_trie.specs.History.{last_cut}
 use Rattle.aug_core.specs.Cuts.{serial_of}
 use Rattle.aug_trie.specs.declared.updates.told.LeafUpdate.{LeafUpdate}
@@ -30,7 +31,7 @@ use Rattle.aug_trie.specs.inside.PassState.{pass_facts, known_in, IsPass, HoldsP
 use Rattle.aug_trie.specs.inside.RoundState.{round_of, past_rounds}
 use Rattle.aug_trie.proofs.Accepting.{settled, updated_knowledge, shown_number, stayed_between, stayed_by, stored_fits, weighs_with, went_between}
 use Rattle.aug_trie.proofs.Going.{free_from}
-use Rattle.aug_trie.proofs.Requesting.{made_few, made_one, made_two, serial_is, weight_is, to_word}
+use Rattle.aug_trie.proofs.Requesting.{made_few, made_one, made_two, serial_is, weight_is, to_word, way_next}
 use Rattle.aug_trie.proofs.Histories.{numbers_long}
 
 module _ (face : ℕ → ℕ → List (ℕ × ℕ) → List ℕ) where
@@ -139,11 +140,28 @@ module _ (face : ℕ → ℕ → List (ℕ × ℕ) → List ℕ) where
       stored = stored_by (next + bits) v w key request p.knows_table low done u.loaded u.came_to;
     }
 
+    -- by the word that it found it came to this, or it lost the exchange
+    comes_from : (done : Outcome) (u : Updated face (next + bits) v key request w done) → (done ≡ outcome_from request u.loaded) ⊎ IsLost request key u.loaded done (knows w)
+    comes_from done u = elim (cases_Bool (goes_from request u.loaded)) [
+      | inl lets ↦ (let by : outcome_by request u.loaded ≡ outcome_from request u.loaded = ap (λ (z : Bool). if z then outcome_by request u.loaded else outcome_at_once request) (sym lets) in
+          let tried = u.tried lets in elim (cases_Bool (tried.found == u.loaded)) [
+            | inl same ↦ inl (tried.says ∙ ap (λ (z : Bool). if z then outcome_by request u.loaded else Refused) same ∙ by)
+            | inr other ↦ inr (let lost : done ≡ Refused = tried.says ∙ ap (λ (z : Bool). if z then outcome_by request u.loaded else Refused) other in record {
+              refused = lost;
+              was_to_go_on = lets;
+              rises = let stayed = stayed_by face (next + bits) v key request w p.knows_table low u.loaded done (ap stores_nothing lost) u.came_to in
+                  let shown = shown_number face (next + bits) v key request w p.knows_table low u.loaded stayed in let way = way_next request u.loaded lets in omega (arith, shown, way);
+            })
+          ])
+      | inr stops ↦ inl ((u.refusing stops).0 ∙ ap (λ (z : Bool). if z then outcome_by request u.loaded else outcome_at_once request) (sym stops))
+    ]
+
     -- what an update tells by the word that it found and the one that it left
     pub tells : (made : LeafUpdate) → UpdatedFrom face (next + bits) v key request w made.found made.outcome → made.left ≡ word_left request key made.found made.outcome → Tells request key (told_by made) (knows v) (knows w)
     tells made u left = subst (λ (z : ℕ). Tells request key (record { outcome = made.outcome; before = weight_told z; now = weight_told made.left }) (knows v) (knows w)) u.1
         (let between = found_between (next + bits) v w key request p.knows_table low made.outcome u.0.loaded u.0.came_to in record {
           found = u.0.loaded;
+          comes_to = comes_from made.outcome u.0;
           not_before = between.0;
           not_after = between.1;
           was = weighs_with face (next + bits) v key request w p.knows_table low (serial_in_word u.0.loaded) (weight_in_word u.0.loaded) (gained_by made.outcome u.0).2.shaped (weighed_by (next + bits) v w key request p.knows_table low made.outcome u.0.loaded u.0.came_to);

@@ -80,3 +80,7 @@ outcome_by (Put weight) word = if serial_in_word word % 2 == 1 then Replaced els
 outcome_by (Add amount) word = if serial_in_word word % 2 == 1 then Replaced else Accepted
 outcome_by (Sub amount) word = if nat_lt amount (weight_in_word word) then Replaced else Accepted
 outcome_by request word = Accepted
+
+-- the outcome that an update has by the word that it found, if no other change of the key comes first
+abbrev pub outcome_from : Request → ℕ → Outcome
+outcome_from request word = if goes_from request word then outcome_by request word else outcome_at_once request

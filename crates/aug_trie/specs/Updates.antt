@@ -1,14 +1,14 @@
 -- What one call of a pass does to what it knows. An insertion of 1 into the example is refused because of the serial 1 that was there. A put of 1
 -- with the weight 5 is a `ReplacedUpdate`: the changes of key 1 to serial 2 and, with the weight 5, to serial 3 are both accepted, and no cut shows
 -- the serial 2. An addition of 5 to 1 is a `Reckoned` one: no cut shows the serial 1 of key 1 with another weight than 1, so the weight is 6 then.
-use Rattle.std.specs.Prelude.{◌≡◌, ◌≢◌, ℕ, ◌+◌, ◌%◌, ◌^◌, ◌<◌, ◌≤◌, ◌⊎◌, List, [], ◌∷◌, ◌++◌, All}
+use Rattle.std.specs.Prelude.{◌≡◌, ◌≢◌, ℕ, ◌+◌, ◌%◌, ◌^◌, ◌<◌, ◌≤◌, ◌⊎◌, true, List, [], ◌∷◌, ◌++◌, All}
 use Rattle.aug_core.specs.Counts.{change}
 use Rattle.aug_core.specs.Cuts.{Cut, serial_of, weight_at}
 use Rattle.aug_core.specs.Prefixes.{IsPrefix}
 use Rattle.aug_trie.specs.History.{last_cut}
 use Rattle.aug_trie.specs.Knowledge.{Knowledge, StandsIn, insertion, removal}
 use Rattle.aug_trie.specs.LeafWords.{serial_in_word, weight_in_word}
-use Rattle.aug_trie.specs.Requests.{changes_by, weight_told, word_left}
+use Rattle.aug_trie.specs.Requests.{changes_by, goes_from, outcome_from, weight_told, word_left}
 use Rattle.aug_model.specs.declared.outcome.Outcome.{Outcome}
 use Rattle.aug_model.specs.declared.outcome.Outcome.TheVariants as outcome
 use Rattle.aug_trie.specs.declared.updates.request.Request.{Request}
@@ -103,10 +103,18 @@ ComesTo (request.Take weight) key outcome.Accepted old new = UsedUp key weight o
 ComesTo (request.Take weight) key outcome.Refused old new = RefusedPut key old new ⊎ Prevented key (λ serial had. (serial % 2 ≡ removal) ⊎ (had ≢ weight)) old new
 ComesTo asked key done old new = ⊥
 
+-- an update would have gone on from the word that it found, but another change of the key came first
+pub record IsLost (request : Request) (key found : ℕ) (done : Outcome) (new : Knowledge) : Type 0 where
+  pub refused : done ≡ outcome.Refused
+  pub was_to_go_on : goes_from request found ≡ true
+  pub rises : serial_in_word found < serial_of (last_cut new.history) key
+
 -- what an update tells of its key: the weights in the word that it found there, between then and now, and in the one that it left. No cut shows the serial in the
--- word found with another weight, and what was stored is what the request makes of that word
+-- word found with another weight; what the update came to and what it stored is what the request makes of that word, unless another change came first. So an
+-- update of a key of which it tells the weight 100 does not say that 5 was too much to take from it
 pub record Tells (request : Request) (key : ℕ) (told : Told) (old new : Knowledge) : Type 0 where
   pub found : ℕ
+  pub comes_to : (told.outcome ≡ outcome_from request found) ⊎ IsLost request key found told.outcome new
   pub not_before : serial_of (last_cut old.history) key ≤ serial_in_word found
   pub not_after : serial_in_word found ≤ serial_of (last_cut new.history) key
   pub was : WeighsWith key (serial_in_word found) (weight_in_word found) new.history

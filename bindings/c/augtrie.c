@@ -53,12 +53,12 @@ const char *aug_error_text(int64_t code) {
     switch (code) {
         case AUG_NONE: return "there is no such member";
         case AUG_CLOSED: return "the trie or the user is not open";
-        case AUG_BAD_KEY: return "the key is not below 2^bits";
+        case AUG_BAD_KEY: return "a key is not below 2^bits, or, of a list, not above the one before it";
         case AUG_AGAIN: return "the call would have waited for another thread";
         case AUG_NO_MEMORY: return "a request for memory was refused";
         case AUG_BAD_BITS: return "the bits are outside 1 to 16";
         case AUG_BAD_USERS: return "the users are outside 1 to 64";
-        case AUG_TOO_LARGE: return "the bytes are too few for these bits and users, or more than 3 * 2^29";
+        case AUG_TOO_LARGE: return "the bytes are fewer than aug_least_bytes tells, or more than 3 * 2^29";
         case AUG_NO_USER: return "all users of the trie are open";
         case AUG_OPEN: return "the handle is open already";
         case AUG_BAD_LENGTH: return "an array is missing or too short, or longer than there are keys or than memory";
@@ -105,9 +105,13 @@ enum { YIELDS = 1024 };
 /* For how many nanoseconds it sleeps. */
 enum { PAUSE = 50000 };
 
+/* Nothing else in this file is a point at which a thread may be cancelled. If one were here, it would leave a count of those that wait, or an owner. */
 static void sleep_a_little(void) {
     const struct timespec pause = {0, PAUSE};
+    int state;
+    pthread_setcancelstate(PTHREAD_CANCEL_DISABLE, &state);
     nanosleep(&pause, NULL);
+    pthread_setcancelstate(state, &state);
 }
 
 static int64_t nanoseconds_now(void) {
@@ -181,6 +185,17 @@ int64_t aug_open(aug_trie *trie, uint32_t bits, uint32_t users, uint64_t bytes) 
     }
     *trie = (aug_trie){TRIE, s};
     return AUG_OK;
+}
+
+int64_t aug_least_bytes(uint32_t bits, uint32_t users) {
+    if (bits < 1 || bits > 16) return AUG_BAD_BITS;
+    if (users < 1 || users > AUG_MOST_USERS) return AUG_BAD_USERS;
+    /* Words of a part of the table: of the trie with its first records, and of each user, with the records of so many updates. */
+    const int64_t record_words = 5, updates = 64;
+    const int64_t trie = (((int64_t)1 << bits) - 1) * (record_words + 2) + 1 + record_words * bits;
+    const int64_t each_user = 1 + updates * record_words * bits;
+    /* Three parts, in words of 8 bytes. */
+    return 3 * 8 * (trie + users * each_user);
 }
 
 int64_t aug_user_open(aug_trie *trie, aug_user *user) {

@@ -4,12 +4,13 @@
  * Keys are the numbers below 2^bits, with 1 to 16 bits. Each member has a weight of 32 bits. A trie is opened for up to 64 users,
  * and stays open for as many updates as they like.
  *
- *   aug_trie t = AUG_ZEROED;               the handle of a trie
- *   aug_open(&t, 12, 4, 1 << 21);          the empty trie for keys below 4096 and 4 users, with a table of at most 2^21 bytes
- *   aug_user u = AUG_ZEROED;
- *   aug_user_open(&t, &u);                 a user, for one thread at a time
- *   aug_insert(&u, 7);
- *   aug_look(&u); aug_rank(&u, 9); aug_look_done(&u);
+ *   aug_trie t = AUG_ZEROED;                                         // the handle of a trie
+ *   aug_user u = AUG_ZEROED;                                         // a user, for one thread at a time
+ *   if (aug_open(&t, 12, 4, 1 << 21)) return 1;                      // the empty trie for keys below 4096 and 4 users, in at most 2^21 bytes
+ *   if (aug_user_open(&t, &u)) return 1;
+ *   if (aug_insert(&u, 7) < 0 || aug_look(&u) < 0) return 1;         // a code of the list below, as all answers below 0
+ *   printf("%d of the members are below 9\n", (int)aug_rank(&u, 9));
+ *   aug_look_done(&u);
  *   aug_user_close(&u);
  *   aug_close(&t, NULL);
  *
@@ -30,7 +31,8 @@
  * from thread to thread, if that is ordered by a lock, by starting or joining a thread, or by a sequentially consistent atomic. aug_close
  * is the last call on its trie, after those of other threads, while its users may be in calls; close them too, now or later. Pass arrays
  * that are as long as you say, and results that overlap with nothing else that you pass. One allocator is behind malloc and free. No
- * call from a signal handler, or from a forked child of a process with threads.
+ * call from a signal handler, or from a forked child of a process with threads. A thread is not cancelled in a call, however long that waits, but
+ * at the next cancellation point after it; asynchronous cancellation has to be off.
  *
  * Answers. Each call answers a number that is 0 or more, or one of the codes below. A call that answers a code has changed nothing of the
  * set, except one for an array that answers AUG_CLOSED or AUG_AGAIN. A handle that is null, zeroed, closed, or of the other kind is
@@ -139,12 +141,12 @@ enum {
     AUG_OK = 0,            /* done; a call that counts may answer more */
     AUG_NONE = -1,         /* there is no such member */
     AUG_CLOSED = -2,       /* the trie was closed, or the handle is not open, or is no handle of this kind */
-    AUG_BAD_KEY = -3,      /* the key is not below 2^bits */
+    AUG_BAD_KEY = -3,      /* a key is not below 2^bits, or, of a list, not above the one before it */
     AUG_AGAIN = -4,        /* the call would have waited for another thread */
     AUG_NO_MEMORY = -5,    /* a request for memory was refused */
     AUG_BAD_BITS = -6,     /* the bits are outside 1 to 16 */
     AUG_BAD_USERS = -7,    /* the users are outside 1 to 64 */
-    AUG_TOO_LARGE = -8,    /* the bytes are too few for these bits and users, or more than 3 * 2^29 */
+    AUG_TOO_LARGE = -8,    /* the bytes are fewer than aug_least_bytes tells, or more than 3 * 2^29 */
     AUG_NO_USER = -9,      /* all users of the trie are open */
     AUG_OPEN = -10,        /* the handle is open already */
     AUG_BAD_LENGTH = -11,  /* an array is missing or too short, or longer than there are keys or than memory */
@@ -165,9 +167,13 @@ const char *aug_error_text(int64_t code);
 /* Opens the empty trie for keys of so many bits, 1 to 16, and so many users, 1 to 64, whose table takes at most so many bytes: twice as
    many while it is opened. With more bytes it is full less often: 168 bytes go to each key below 2^bits, and each update takes 120 * bits of the
    others until it is full. For as many updates as there are keys, 2^22 are enough with 11 bits, and 2^26 with 15; with 16 bits and 4 users, 2^26
-   give each user some 7,000 updates. Fewer bytes than 64 updates of each user take are AUG_TOO_LARGE, and so are more than AUG_MOST_BYTES. Answers
+   give each user some 7,000 updates. Fewer bytes than aug_least_bytes tells are AUG_TOO_LARGE, and so are more than AUG_MOST_BYTES. Answers
    0, or AUG_OPEN, AUG_CLOSED, AUG_BAD_BITS, AUG_BAD_USERS, AUG_TOO_LARGE, AUG_NO_MEMORY. */
 AUG_NODISCARD int64_t aug_open(aug_trie *trie, uint32_t bits, uint32_t users, uint64_t bytes);
+
+/* The fewest bytes that aug_open takes for so many bits and users: with these, each user has 64 updates until the table is full. Answers
+   that, or AUG_BAD_BITS, AUG_BAD_USERS. */
+AUG_NODISCARD int64_t aug_least_bytes(uint32_t bits, uint32_t users);
 
 /* Opens a user of the trie. Answers 0, or AUG_OPEN, AUG_CLOSED, AUG_NO_USER, AUG_NO_MEMORY. */
 AUG_NODISCARD int64_t aug_user_open(aug_trie *trie, aug_user *user);
@@ -234,9 +240,10 @@ AUG_NODISCARD int64_t aug_room(aug_user *user);
 AUG_NODISCARD int64_t aug_look(aug_user *user);
 
 /* Takes a newer snapshot in the same look. Answers 0 if it is of the same round as the one before: then aug_changes tells what is new in it. Answers 1
-   if a new round began in between: then aug_changes has nothing to compare it with, but aug_changes_since has. Or it answers AUG_CLOSED,
-   AUG_NOT_LOOKING, and the look shows what it showed. It waits as aug_look does. */
-int64_t aug_look_again(aug_user *user);
+   if a new round began in between: then aug_changes has nothing to compare it with, and answers 0 as where nothing changed, but aug_changes_since
+   tells what did. So whoever follows a trie looks at this answer. Or it answers AUG_CLOSED, AUG_NOT_LOOKING, and the look shows what it showed. It
+   waits as aug_look does. */
+AUG_NODISCARD int64_t aug_look_again(aug_user *user);
 
 /* Ends the look, and sleeps for some 50 microseconds if a user waits. Answers 0, or AUG_CLOSED, AUG_NOT_LOOKING. */
 int64_t aug_look_done(aug_user *user);

@@ -320,15 +320,23 @@ class Installed:
     def test_c_first(self):
         assert said_by(self.compiled("c", "examples", "first.c")) == "500 of 1000 are below 500\n"
 
+    def test_c_example_at_the_head_of_the_header(self):
+        example = re.findall(r"^ \*   (.*)$", read("bindings", "c", "augtrie.h"), re.M)
+        assert len(example) >= 9 and not any(line.startswith("*") for line in example)
+        source = os.path.join(self.folder, "head.c")
+        with open(source, "w", encoding="utf-8") as file:
+            file.write("\n".join(['#include "augtrie.h"', "#include <stdio.h>", "int main(void) {", *example, "}\n"]))
+        assert said_by(self.compiled(source)) == "1 of the members are below 9\n"
+
     def test_c_timers(self):
         assert said_by(self.compiled("c", "examples", "timers.c")).splitlines() == PRINTED["timers"]
 
     def test_c_answers_have_to_be_looked_at(self):
         include = f"-I{os.path.join(self.folder, 'include')}"
-        for answer, status in ("int64_t done = ", 0), ("", 1):
+        for call, (answer, status) in itertools.product(("aug_insert(l, 1)", "aug_look_again(l)"), (("int64_t done = ", 0), ("", 1))):
             source = os.path.join(self.folder, "ignored.c")
             with open(source, "w", encoding="utf-8") as file:
-                file.write(f'#include "augtrie.h"\nint64_t f(aug_user *l) {{ {answer}aug_insert(l, 1); return {"done" if answer else 0}; }}\n')
+                file.write(f'#include "augtrie.h"\nint64_t f(aug_user *l) {{ {answer}{call}; return {"done" if answer else 0}; }}\n')
             said = said_by(CC, "-std=c11", "-O2", *WARNINGS, include, "-c", source, "-o", f"{source}.o", status=status)
             assert ("warn_unused_result" in said) == (status == 1), said
 

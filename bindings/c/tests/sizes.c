@@ -73,7 +73,29 @@ static void at_the_same_time(void) {
     WANT(aug_close(&trie, NULL), AUG_OK);
 }
 
+/* With the bytes that are told a trie opens, so that each user has 64 updates, and with one less it does not. */
+static void least_bytes(void) {
+    static const uint32_t counts[] = {1, 2, 3, 4, 16, 63, 64};
+    for (uint32_t bits = 1; bits <= 16; bits++) {
+        for (size_t i = 0; i < sizeof counts / sizeof *counts; i++) {
+            const int64_t bytes = aug_least_bytes(bits, counts[i]);
+            WANT(bytes > 0, 1);
+            WANT(aug_open(&trie, bits, counts[i], (uint64_t)bytes - 1), AUG_TOO_LARGE);
+            WANT(aug_open(&trie, bits, counts[i], (uint64_t)bytes), AUG_OK);
+            WANT(aug_user_open(&trie, &users[0]), AUG_OK);
+            WANT(aug_room(&users[0]), 64);
+            WANT(aug_user_close(&users[0]), AUG_OK);
+            WANT(aug_close(&trie, NULL), AUG_OK);
+        }
+    }
+    WANT(aug_least_bytes(0, 1), AUG_BAD_BITS);
+    WANT(aug_least_bytes(17, 0), AUG_BAD_BITS);
+    WANT(aug_least_bytes(16, 0), AUG_BAD_USERS);
+    WANT(aug_least_bytes(16, AUG_MOST_USERS + 1), AUG_BAD_USERS);
+}
+
 int main(void) {
+    least_bytes();
     for (uint32_t bits = 1; bits <= 16; bits++) {
         for (uint32_t count = 1; count <= 2; count++) one_by_one(bits, count);
         one_by_one(bits, AUG_MOST_USERS);

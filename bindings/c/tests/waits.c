@@ -1,10 +1,11 @@
 /* What others do while a call waits for them: the calls by which the library waits are those of this program, in which the others have their turn. An
    update that old looks hold up tells what it finds when it is made, an array that they hold up in its middle goes on from there, the end of a look
-   leaves time to whoever waits, and a trie is closed at once, whatever looks are open. */
+   leaves time to whoever waits, a trie is closed at once, whatever looks are open, and a thread that is cancelled while its call waits ends after it. */
 #define _POSIX_C_SOURCE 200809L
 #include "augtrie.h"
 #include "want.h"
 
+#include <pthread.h>
 #include <sched.h>
 #include <time.h>
 
@@ -19,16 +20,23 @@ static void (*others)(void);
 static unsigned naps;
 static int64_t held_up_at;
 
-int sched_yield(void) {
+static void take_turn(void) {
     void (*turn)(void) = others;
     others = NULL;
     if (turn) turn();
+}
+
+int sched_yield(void) {
+    take_turn();
     return 0;
 }
 
+/* A point at which a thread may be cancelled, as that of the C library is. */
 int nanosleep(const struct timespec *time, struct timespec *left) {
     (void)time, (void)left;
     naps++;
+    pthread_testcancel();
+    take_turn();
     return 0;
 }
 
@@ -161,10 +169,45 @@ static void trie_is_closed(void) {
     WANT(others == nobody, 1);
 }
 
+/* So long does this take that a call which waits then sleeps, and meanwhile the look ends. */
+static void yield_long(void) {
+    struct timespec begin, now;
+    clock_gettime(CLOCK_MONOTONIC, &begin);
+    do clock_gettime(CLOCK_MONOTONIC, &now); while ((now.tv_sec - begin.tv_sec) * 1000000000LL + now.tv_nsec - begin.tv_nsec < 1000000);
+    others = end_look;
+}
+
+static void *insert_cancelled(void *answer) {
+    WANT(pthread_cancel(pthread_self()), 0);
+    *(int64_t *)answer = aug_insert(&works, 1);
+    for (;;) pthread_testcancel();
+}
+
+/* The call goes on to its end, and nobody is waited for afterwards. */
+static void is_cancelled_after_its_call(void) {
+    pthread_t thread;
+    int64_t answer = AUG_NONE;
+    void *ended = NULL;
+    open_all();
+    fill();
+    others = yield_long;
+    naps = 0;
+    WANT(pthread_create(&thread, NULL, insert_cancelled, &answer), 0);
+    WANT(pthread_join(thread, &ended), 0);
+    WANT(ended == PTHREAD_CANCELED && answer == 1 && others == NULL, 1);
+    /* That of the call, and that at the end of the look. */
+    WANT(naps, 2);
+    WANT(aug_look(&looks), AUG_OK);
+    WANT(aug_look_done(&looks), AUG_OK);
+    WANT(naps, 2);
+    close_all(NULL);
+}
+
 int main(void) {
     updates_tell();
     arrays_go_on();
     trie_is_closed();
+    is_cancelled_after_its_call();
     printf("ok: %u answers\n", wanted);
     return 0;
 }

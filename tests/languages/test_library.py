@@ -1,7 +1,7 @@
 """Installs the library for other languages below a folder of its own, as both compilers of the toolchain build it, and runs the tests and
 examples of bindings/ over it, and those in C under valgrind as well. Over the library as LLVM builds it, some in C run under sanitizers, the benchmark
 in bench/ runs briefly, and what tools/package makes is used in a place that has neither the toolchain nor this repository. Tests with `names` in their
-names build nothing, and compare the names of the calls and the codes.
+names build nothing, and compare the names of the calls and the codes. One has the Rust crate checked, documented and not built without the library.
 
 What is not proved yet is proved first. AFTER_CI=1 in the environment is for a tree in which `rt ci` has just run: the library is proved once for both
 compilers, over the libraries below it as that run left them, which `rt lib` would prove again. With CROWD_SECONDS=60, each test with a crowd of
@@ -195,7 +195,7 @@ def test_names_and_codes_agree():
     # What is no member is None in Rust and in Python.
     refusals = {name: code for name, code in header.items() if name != "AUG_NONE"}
     assert set(re.findall(r"^    {(AUG_\w+), \"augtrie\.", extension(), re.M)) == set(refusals)
-    rust = {int(code) for code in re.findall(r"^    \w+ = (-\d+),$", read("bindings", "rust", "src", "error.rs"), re.M)}
+    rust = {int(code) for code in re.findall(r"^ +\(?(-\d+)(?:,| =>) Error::", read("bindings", "rust", "src", "error.rs"), re.M)}
     assert rust == set(refusals.values())
 
 
@@ -214,6 +214,18 @@ def test_names_and_versions_agree():
 def test_names_that_a_packed_page_may_not_have():
     page = "`src/` has it, as `docs/using.md` and one.c say:\n#include <stdint.h>\ncc tests/one.c $HOME/augtrie/lib/libaugtrie.a *.whl bindings/c\n"
     assert foreign(page, ["src", "tests/one.c"]) == ["docs/using.md", "bindings/c"]
+
+
+@with_tool("cargo")
+def test_rust_crate_is_checked_and_documented_without_the_library():
+    with tempfile.TemporaryDirectory() as folder:
+        env = {**os.environ, "AUGTRIE_LIB": "", "PKG_CONFIG": "false", "CARGO_TARGET_DIR": folder}
+        words = ["--offline", "--manifest-path", os.path.join(BINDINGS, "rust", "Cargo.toml")]
+        # The second time it looks for the library again.
+        for call in ["check", "--all-targets"], ["check", "--all-targets"], ["doc"]:
+            said = said_by("cargo", *call, *words, env=env)
+            assert "libaugtrie.a was not found" in said and "Compiling augtrie" in said, said
+        assert "could not find native static library `augtrie`" in said_by("cargo", "build", "--example", "first", *words, env=env, status=101)
 
 
 HELD = tempfile.TemporaryDirectory(prefix="library-")

@@ -1,6 +1,6 @@
 //! An order book: the weight of a price is its volume, of bids below the middle and of offers above it. Four threads add volume and take it
 //! away, two at the same prices each, and another one follows the book meanwhile.
-use augtrie::{Change, Error, Look, Trie, User};
+use augtrie::{Again, Change, Error, Look, Trie, User};
 use std::collections::BTreeMap;
 use std::thread;
 
@@ -32,9 +32,12 @@ fn agrees(book: &Look) -> bool {
 fn follow(mut book: Look) -> Result<(), Error> {
     let mut copy = BTreeMap::new();
     for _ in 0..LOOKS {
-        let is_same_round = book.again()?;
+        let again = book.again()?;
         let (prices, volumes): (Vec<u32>, Vec<u32>) = copy.iter().unzip();
-        let changes = if is_same_round { book.changes() } else { book.changes_since(&prices, &volumes)? };
+        let changes = match again {
+            Again::Comparable => book.changes(),
+            Again::NothingToCompare => book.changes_since(&prices, &volumes)?,
+        };
         for Change { key: price, before, now } in changes {
             assert_eq!(copy.get(&price).copied(), before);
             match now {

@@ -94,6 +94,7 @@ unsafe extern "C" {
     pub safe fn aug_version() -> *const c_char;
     pub safe fn aug_error_text(code: i64) -> *const c_char;
     pub safe fn aug_open(trie: &mut Trie, bits: u32, users: u32, bytes: u64) -> i64;
+    pub safe fn aug_least_bytes(bits: u32, users: u32) -> i64;
     pub safe fn aug_user_open(trie: &Trie, user: &mut User) -> i64;
     pub safe fn aug_user_close(user: &mut User) -> i64;
     pub safe fn aug_tend(trie: &Trie) -> i64;

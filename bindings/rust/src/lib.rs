@@ -35,6 +35,16 @@
 //! look.len();
 //! ```
 //!
+//! And who follows a trie by the changes between snapshots looks at what [`Look::again`] answers:
+//!
+//! ```compile_fail
+//! # #![deny(unused_must_use)]
+//! # let mut user = augtrie::Trie::new(4, 1, 1 << 20)?.user()?;
+//! # let mut look = user.look()?;
+//! look.again()?;
+//! # Ok::<(), augtrie::Error>(())
+//! ```
+//!
 //! ```compile_fail,E0277
 //! # let user = augtrie::Trie::new(4, 1, 1 << 20).unwrap().user().unwrap();
 //! fn shared<T: Sync>(_: T) {}
@@ -56,18 +66,24 @@ mod shared;
 mod trie;
 mod user;
 
+use error::Given;
 use std::ffi::CStr;
 
 pub use changes::{Change, Changes};
 pub use error::Error;
 pub use ffi::{Report, Span};
-pub use look::{Iter, Look};
+pub use look::{Again, Iter, Look};
 pub use trie::Trie;
 pub use user::{Put, Told, User};
 
 /// The number that a call answered, or why it did nothing.
 fn number(answer: i64) -> Result<u32, Error> {
-    u32::try_from(answer).map_err(|_| Error::of_code(answer))
+    number_of(answer, Given::default())
+}
+
+/// The same, with what the call was given.
+fn number_of(answer: i64, given: Given) -> Result<u32, Error> {
+    u32::try_from(answer).map_err(|_| Error::of_code(answer, given))
 }
 
 /// The weight that a call told, or none if the key was no member.

@@ -1,7 +1,8 @@
 use crate::changes::Changes;
+use crate::error::Given;
 use crate::ffi::{self, Span};
 use crate::user::User;
-use crate::{Error, number};
+use crate::{Error, number, number_of};
 use std::cell::RefCell;
 use std::iter::FusedIterator;
 use std::ops::{Bound, RangeBounds};
@@ -14,7 +15,7 @@ use std::ptr;
 /// Nobody waits for it, with one exception, of which [`User`] tells. After the trie was closed it answers as before.
 ///
 /// ```
-/// use augtrie::{Error, Trie};
+/// use augtrie::{Again, Error, Trie};
 ///
 /// let trie = Trie::new(12, 1, 1 << 21)?;
 /// let mut user = trie.user()?;
@@ -25,7 +26,7 @@ use std::ptr;
 /// assert_eq!(look.iter().rev().next(), Some((30, 3)));
 /// // An update, which a newer snapshot shows.
 /// assert_eq!((look.insert(40), look.len()), (Ok(true), 3));
-/// assert_eq!((look.again(), look.len()), (Ok(true), 4));
+/// assert_eq!((look.again(), look.len()), (Ok(Again::Comparable), 4));
 /// # Ok::<(), Error>(())
 /// ```
 #[derive(Debug)]
@@ -33,6 +34,17 @@ use std::ptr;
 pub struct Look<'user> {
     // The library's calls want the user to themselves, and queries take `&self`.
     user: RefCell<&'user mut User>,
+}
+
+/// What [`Look::again`] answers: whether [`Look::changes`] tells what is new in the snapshot that it took.
+#[derive(Debug, Clone, Copy, PartialEq, Eq, Hash)]
+#[must_use = "where there is nothing to compare with, `changes` lists nothing, whatever changed"]
+pub enum Again {
+    /// The snapshot is of the same round of the table as the one before, so [`changes`](Look::changes) tells what is new in it.
+    Comparable,
+    /// A new round of the table began in between. [`changes`](Look::changes) lists nothing then, as where nothing changed: what did is told by
+    /// [`changes_since`](Look::changes_since) alone.
+    NothingToCompare,
 }
 
 impl<'user> Look<'user> {
@@ -49,11 +61,11 @@ impl<'user> Look<'user> {
         &mut self.user.get_mut().handle
     }
 
-    /// Takes a newer snapshot in the same look. True if it is of the same round of the table: then [`changes`](Look::changes) tells what is new in it. False
-    /// if a new round began in between: then there is nothing to compare it with but a list, by [`changes_since`](Look::changes_since). Refused
-    /// with `Closed`, and then the look shows what it showed. While a new round is begun, it waits for that.
-    pub fn again(&mut self) -> Result<bool, Error> {
-        number(ffi::aug_look_again(self.handle())).map(|anew| anew == 0)
+    /// Takes a newer snapshot in the same look, and tells whether [`changes`](Look::changes) has the one before to compare it with. Refused with `Closed`,
+    /// and then the look shows what it showed. While a new round is begun, it waits for that.
+    pub fn again(&mut self) -> Result<Again, Error> {
+        let is_anew = number(ffi::aug_look_again(self.handle()))? == 1;
+        Ok(if is_anew { Again::NothingToCompare } else { Again::Comparable })
     }
 
     /// Whether the key is a member.
@@ -167,9 +179,13 @@ impl<'user> Look<'user> {
         Ok(weights)
     }
 
+    pub(crate) fn bits(&self) -> u32 {
+        self.user.borrow().trie.bits
+    }
+
     // How many keys a call takes at most.
     fn most(&self) -> usize {
-        1 << self.user.borrow().trie.bits
+        1 << self.bits()
     }
 
     /// The members with their weights, rising.
@@ -185,11 +201,11 @@ impl<'user> Look<'user> {
     }
 
     /// The keys whose weights differ between the snapshot that the last [`again`](Look::again) took and the one that the look showed before,
-    /// rising. There are none before the first `again`, or after one that met a new round, and a key that went out and came back with the same weight is
-    /// none. What no update has touched in between is passed over.
+    /// rising. There are none before the first `again`, or after one that answered [`Again::NothingToCompare`], and a key that went out and came back
+    /// with the same weight is none. What no update has touched in between is passed over.
     ///
     /// ```
-    /// use augtrie::{Change, Error, Trie};
+    /// use augtrie::{Again, Change, Error, Trie};
     ///
     /// let trie = Trie::new(12, 2, 1 << 21)?;
     /// let (mut reader, mut writer) = (trie.user()?, trie.user()?);
@@ -197,7 +213,7 @@ impl<'user> Look<'user> {
     /// let mut look = reader.look()?;
     /// writer.add(8, 2)?;
     /// writer.insert(9)?;
-    /// assert!(look.again()?);
+    /// assert_eq!(look.again()?, Again::Comparable);
     /// let want = [Change { key: 8, before: Some(8), now: Some(10) }, Change { key: 9, before: None, now: Some(9) }];
     /// assert!(look.changes().eq(want));
     /// # Ok::<(), Error>(())
@@ -231,9 +247,7 @@ impl<'user> Look<'user> {
         let code = unsafe {
             ffi::aug_changes_since(&mut self.user.borrow_mut().handle, keys.as_ptr(), weights.as_ptr(), keys.len(), 0, ptr::null_mut(), 0)
         };
-        if code < 0 {
-            return Err(Error::of_code(code));
-        }
+        number_of(code, Given { keys, bits: self.bits(), ..Given::default() })?;
         Ok(Changes::of(self, Some((keys, weights))))
     }
 }

@@ -12,6 +12,7 @@ pub(crate) struct Open {
     // It is locked for reading while a user is opened, and for writing while the trie is closed, for that is its last call.
     pub(crate) handle: RwLock<ffi::Trie>,
     pub(crate) bits: u32,
+    pub(crate) users: u32,
 }
 
 /// One of the owners.
@@ -25,10 +26,10 @@ unsafe impl Sync for Shared {}
 
 impl Shared {
     /// The first owner of a trie that is not open yet, or none if memory is refused.
-    pub(crate) fn new(bits: u32) -> Option<Shared> {
+    pub(crate) fn new(bits: u32, users: u32) -> Option<Shared> {
         // SAFETY: the type has a size.
         let place = NonNull::new(unsafe { alloc(Layout::new::<Open>()) })?.cast();
-        let open = Open { owners: AtomicU64::new(1), handle: RwLock::new(ffi::Trie::CLOSED), bits };
+        let open = Open { owners: AtomicU64::new(1), handle: RwLock::new(ffi::Trie::CLOSED), bits, users };
         // SAFETY: the place was allocated for this type, and nobody else has it.
         unsafe { place.write(open) };
         Some(Shared(place))

@@ -1,7 +1,8 @@
+use crate::error::Given;
 use crate::ffi::{self, Report};
 use crate::shared::Shared;
 use crate::user::User;
-use crate::{Error, number};
+use crate::{Error, number, number_of};
 use std::sync::PoisonError;
 
 /// A trie: a set of keys below `2^bits` with a weight of 32 bits each. Its clones are the same trie, and any thread may have one.
@@ -30,12 +31,20 @@ impl Trie {
     /// Opens the empty trie for keys of 1 to 16 bits and 1 to 64 users at a time, whose table takes at most so many bytes: twice as many
     /// while it is opened. With more bytes it is full less often: 168 bytes go to each key below `2^bits`, and each update takes `120 * bits` of the
     /// others until it is full. For as many updates as there are keys, `1 << 22` are enough with 11 bits, and `1 << 26` with 15.
-    /// Refused with `BadBits`, `BadUsers`, `TooLarge` if the bytes are fewer than 64 updates of each user take, or more than `MOST_BYTES`, and
+    /// Refused with `BadBits`, `BadUsers`, `BadBytes` if the bytes are fewer than [`least_bytes`](Trie::least_bytes) or more than `MOST_BYTES`, and
     /// `NoMemory`.
     pub fn new(bits: u32, users: u32, bytes: u64) -> Result<Trie, Error> {
-        let shared = Shared::new(bits).ok_or(Error::NoMemory)?;
-        number(ffi::aug_open(&mut shared.handle.write().unwrap_or_else(PoisonError::into_inner), bits, users, bytes))?;
+        let shared = Shared::new(bits, users).ok_or(Error::NoMemory)?;
+        let answer = ffi::aug_open(&mut shared.handle.write().unwrap_or_else(PoisonError::into_inner), bits, users, bytes);
+        number_of(answer, Given { bits, users, bytes, ..Given::default() })?;
         Ok(Trie(shared))
+    }
+
+    /// The fewest bytes that [`new`](Trie::new) takes for so many bits and users: with these, each user has 64 updates until the table is full. Refused
+    /// with `BadBits` and `BadUsers`.
+    pub fn least_bytes(bits: u32, users: u32) -> Result<u64, Error> {
+        let given = Given { bits, users, ..Given::default() };
+        number_of(ffi::aug_least_bytes(bits, users), given).map(u64::from)
     }
 
     /// Opens a user. Refused with `NoUser` if all are open, `NoMemory`, and `Closed`: by a `close` of another thread from its beginning on.
@@ -43,7 +52,7 @@ impl Trie {
         // Whoever keeps readers off is closing the trie.
         let handle = self.0.handle.try_read().map_err(|_| Error::Closed)?;
         let mut user = ffi::User::CLOSED;
-        number(ffi::aug_user_open(&handle, &mut user))?;
+        number_of(ffi::aug_user_open(&handle, &mut user), Given { users: self.0.users, ..Given::default() })?;
         Ok(User { handle: user, trie: self.0.clone() })
     }
 

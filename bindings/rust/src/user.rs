@@ -1,3 +1,4 @@
+use crate::error::Given;
 use crate::ffi::{self, Member};
 use crate::look::Look;
 use crate::shared::Shared;
@@ -61,19 +62,26 @@ pub struct User {
     pub(crate) trie: Shared,
 }
 
-// The updates of a user, and of a look for its user: whoever has `handle()`.
+// The updates of a user, and of a look for its user: whoever has `handle()` and `bits()`.
 macro_rules! updates {
     ($type:ty) => {
         impl $type {
             /// Puts a key in, with the key itself as its weight. True if it was not there.
             pub fn insert(&mut self, key: u32) -> Result<bool, Error> {
-                number(ffi::aug_insert(self.handle(), key)).map(|done| done == 1)
+                let answer = ffi::aug_insert(self.handle(), key);
+                self.number(answer, &[key]).map(|done| done == 1)
             }
 
-            // Makes an update that tells what the key weighed: its answer, and that.
-            fn tell(&mut self, update: impl FnOnce(&mut ffi::User, Option<&mut ffi::Told>) -> i64) -> Result<(u32, Told), Error> {
+            // The number that an update of keys answered.
+            fn number(&self, answer: i64, keys: &[u32]) -> Result<u32, Error> {
+                u32::try_from(answer).map_err(|_| Error::of_code(answer, Given { keys, bits: self.bits(), ..Given::default() }))
+            }
+
+            // Makes an update of a key that tells what the key weighed: its answer, and that.
+            fn tell(&mut self, key: u32, update: impl FnOnce(&mut ffi::User, u32, Option<&mut ffi::Told>) -> i64) -> Result<(u32, Told), Error> {
                 let mut told = ffi::Told::default();
-                let answer = number(update(self.handle(), Some(&mut told)))?;
+                let answer = update(self.handle(), key, Some(&mut told));
+                let answer = self.number(answer, &[key])?;
                 Ok((answer, Told { before: weight(told.before), now: weight(told.now) }))
             }
 
@@ -81,7 +89,7 @@ macro_rules! updates {
             /// meanwhile.
             pub fn remove(&mut self, key: u32) -> Result<Option<u32>, Error> {
                 loop {
-                    let (answer, told) = self.tell(|user, told| ffi::aug_remove(user, key, told))?;
+                    let (answer, told) = self.tell(key, |user, key, told| ffi::aug_remove(user, key, told))?;
                     if answer == 1 || told.before.is_none() {
                         return Ok(told.before);
                     }
@@ -90,7 +98,7 @@ macro_rules! updates {
 
             /// Puts a key in with a weight, or gives a member this weight.
             pub fn put(&mut self, key: u32, weight: u32) -> Result<Put, Error> {
-                let (answer, told) = self.tell(|user, told| ffi::aug_put(user, key, weight, told))?;
+                let (answer, told) = self.tell(key, |user, key, told| ffi::aug_put(user, key, weight, told))?;
                 Ok(match (answer, told.before) {
                     (1, _) => Put::Accepted,
                     (2, Some(before)) => Put::Replaced { before },
@@ -101,13 +109,13 @@ macro_rules! updates {
             /// Adds an amount to a key's weight. A key that is not there goes in with it. Refused with `TooGreat` too, if the sum does not fit 32
             /// bits. It is made again if another user changed the key meanwhile, so no amount is lost.
             pub fn add(&mut self, key: u32, amount: u32) -> Result<Told, Error> {
-                self.tell(|user, told| ffi::aug_add(user, key, amount, told)).map(|(_, told)| told)
+                self.tell(key, |user, key, told| ffi::aug_add(user, key, amount, told)).map(|(_, told)| told)
             }
 
             /// Takes an amount from a key's weight, as `add`. A key of whose weight nothing is left goes out. Refused with `TooLittle` too, if it is
             /// not there or weighs less.
             pub fn sub(&mut self, key: u32, amount: u32) -> Result<Told, Error> {
-                self.tell(|user, told| ffi::aug_sub(user, key, amount, told)).map(|(_, told)| told)
+                self.tell(key, |user, key, told| ffi::aug_sub(user, key, amount, told)).map(|(_, told)| told)
             }
 
             /// Takes out the member with the least key, and tells that key and its weight. Each member comes to one user.
@@ -133,20 +141,23 @@ macro_rules! updates {
             /// than `2^bits`. Except after `Closed`, no update was made then.
             pub fn insert_all(&mut self, keys: &[u32]) -> Result<u32, Error> {
                 // SAFETY: the pointer is that of a slice of this length.
-                number(unsafe { ffi::aug_insert_all(self.handle(), keys.as_ptr(), keys.len()) })
+                let answer = unsafe { ffi::aug_insert_all(self.handle(), keys.as_ptr(), keys.len()) };
+                self.number(answer, keys)
             }
 
             /// Takes keys out. How many were there. Refused as `insert_all`.
             pub fn remove_all(&mut self, keys: &[u32]) -> Result<u32, Error> {
                 // SAFETY: the pointer is that of a slice of this length.
-                number(unsafe { ffi::aug_remove_all(self.handle(), keys.as_ptr(), keys.len()) })
+                let answer = unsafe { ffi::aug_remove_all(self.handle(), keys.as_ptr(), keys.len()) };
+                self.number(answer, keys)
             }
 
             /// Puts keys in, each with the weight that has its index, or gives members these weights. How many updates changed the set. Refused as
             /// `insert_all`, and with `BadLength` if there are not as many weights as keys.
             pub fn put_all(&mut self, keys: &[u32], weights: &[u32]) -> Result<u32, Error> {
                 // SAFETY: the pointers are those of slices of these lengths.
-                number(unsafe { ffi::aug_put_all(self.handle(), keys.as_ptr(), keys.len(), weights.as_ptr(), weights.len()) })
+                let answer = unsafe { ffi::aug_put_all(self.handle(), keys.as_ptr(), keys.len(), weights.as_ptr(), weights.len()) };
+                self.number(answer, keys)
             }
 
             /// How many updates are left to this user in its part of the table: the next one after these takes a part that is spare, or begins a new round of the
@@ -164,6 +175,10 @@ updates!(Look<'_>);
 impl User {
     fn handle(&mut self) -> &mut ffi::User {
         &mut self.handle
+    }
+
+    fn bits(&self) -> u32 {
+        self.trie.bits
     }
 
     /// Takes a snapshot, which queries are asked of: the set after all updates of this user, and after all that it has seen before. Refused

@@ -1,5 +1,5 @@
 //! The crate's calls beside a map, threads, and misuses that its types let through.
-use augtrie::{Change, Error, Look, Put, Told, Trie, User};
+use augtrie::{Again, Change, Error, Look, Put, Told, Trie, User};
 use std::collections::{BTreeMap, BTreeSet};
 use std::mem::forget;
 use std::ops::Bound;
@@ -192,7 +192,7 @@ fn a_look_stays_until_it_is_taken_again() -> Result<(), Error> {
                 update(&mut one, &mut map, &mut drawn, bits);
             }
             ask(&look, &before, &mut drawn, bits);
-            assert_eq!(look.again(), Ok(true));
+            assert_eq!(look.again(), Ok(Again::Comparable));
             ask(&look, &map, &mut drawn, bits);
         }
     }
@@ -218,7 +218,7 @@ fn changes_are_what_differs_between_two_snapshots() -> Result<(), Error> {
         for updates in [0, 1, 5, 40, 120, 240, 2, 0] {
             let before = map.clone();
             (0..updates).for_each(|_| update(&mut one, &mut map, &mut drawn, bits));
-            assert_eq!(look.again(), Ok(true));
+            assert_eq!(look.again(), Ok(Again::Comparable));
             let want = differences(&before, &map);
             assert!(look.changes().eq(want.iter().copied()));
             // A clone goes on from where it was made, and at its end an iterator stays there.
@@ -241,14 +241,14 @@ fn so_many_changes_are_listed_as_there_are() -> Result<(), Error> {
         let mut look = other.look()?;
         let keys: Vec<u32> = (0..count).map(|i| 65_535 - 65 * i).rev().collect();
         assert_eq!(one.put_all(&keys, &vec![7; keys.len()]), Ok(count));
-        assert_eq!(look.again(), Ok(true));
+        assert_eq!(look.again(), Ok(Again::Comparable));
         assert!(look.changes().eq(keys.iter().map(|&key| Change { key, before: None, now: Some(7) })));
         assert_eq!(one.remove_all(&keys), Ok(count));
-        assert_eq!(look.again(), Ok(true));
+        assert_eq!(look.again(), Ok(Again::Comparable));
         assert!(look.changes().eq(keys.iter().map(|&key| Change { key, before: Some(7), now: None })));
         // These go in and out again between two snapshots.
         assert_eq!((one.insert_all(&keys), one.remove_all(&keys)), (Ok(count), Ok(count)));
-        assert_eq!(look.again(), Ok(true));
+        assert_eq!(look.again(), Ok(Again::Comparable));
         assert_eq!(look.changes().next(), None);
     }
     Ok(())
@@ -286,9 +286,9 @@ fn a_list_that_is_none_is_refused() -> Result<(), Error> {
     let refused = |keys: &[u32], weights: &[u32]| look.changes_since(keys, weights).err();
     assert_eq!(refused(&[1, 2], &[1]), Some(Error::BadLength));
     assert_eq!(refused(&[1; 17], &[1; 17]), Some(Error::BadLength));
-    assert_eq!(refused(&[2, 1], &[1, 1]), Some(Error::BadKey));
-    assert_eq!(refused(&[2, 2], &[1, 1]), Some(Error::BadKey));
-    assert_eq!(refused(&[2, 16], &[1, 1]), Some(Error::BadKey));
+    assert_eq!(refused(&[2, 1], &[1, 1]), Some(Error::BadKey { key: 1, bits: 4 }));
+    assert_eq!(refused(&[2, 2], &[1, 1]), Some(Error::BadKey { key: 2, bits: 4 }));
+    assert_eq!(refused(&[2, 16], &[1, 1]), Some(Error::BadKey { key: 16, bits: 4 }));
     assert_eq!(refused(&[2, 15], &[1, 1]), None);
     Ok(())
 }
@@ -313,7 +313,7 @@ fn a_copy_follows_the_changes_that_three_threads_make() -> Result<(), Error> {
             let mut look = looker.look()?;
             let mut copy: BTreeMap<u32, u32> = look.iter().collect();
             for _ in 0..4 {
-                let is_same_round = look.again()?;
+                let is_same_round = look.again()? == Again::Comparable;
                 assert!(is_same_round || look.changes().next().is_none());
                 let (keys, weights): (Vec<u32>, Vec<u32>) = copy.iter().unzip();
                 for change in if is_same_round { look.changes() } else { look.changes_since(&keys, &weights)? } {
@@ -339,7 +339,7 @@ fn many_keys_go_in_one_call() -> Result<(), Error> {
     // None of these makes an update.
     let many = [3; 17];
     for refused in [user.insert_all(&[3, 16]), user.remove_all(&[1, 16]), user.put_all(&[3, 16], &[3, 3])] {
-        assert_eq!(refused, Err(Error::BadKey));
+        assert_eq!(refused, Err(Error::BadKey { key: 16, bits: 4 }));
     }
     let unequal = [user.put_all(&[3], &[]), user.put_all(&[3], &[1, 2])];
     for refused in [user.insert_all(&many), user.remove_all(&many), user.put_all(&many, &many)].into_iter().chain(unequal) {
@@ -477,7 +477,7 @@ fn users_come_and_go_in_four_threads() -> Result<(), Error> {
                             done += 1;
                             open.fetch_sub(1, SeqCst);
                         }
-                        Err(cause) => assert_eq!(cause, Error::NoUser),
+                        Err(cause) => assert_eq!(cause, Error::NoUser { users: 2 }),
                     }
                 }
             });
@@ -661,9 +661,10 @@ fn a_look_makes_each_update_of_its_user_and_shows_the_same() -> Result<(), Error
     assert_eq!(look.sub(2, 6), Ok(Told { before: Some(6), now: None }));
     assert_eq!((look.pop_first(), look.pop_last(), look.pop_first()), (Ok(Some((1, 1))), Ok(Some((3, 3))), Ok(None)));
     assert_eq!((look.insert_all(&[4, 5]), look.put_all(&[4], &[7]), look.remove_all(&[5])), (Ok(2), Ok(1), Ok(1)));
-    assert_eq!((look.insert(64), look.sub(2, 1), look.insert_all(&[0; 65])), (Err(Error::BadKey), Err(Error::TooLittle), Err(Error::BadLength)));
+    assert_eq!(look.insert(64), Err(Error::BadKey { key: 64, bits: 6 }));
+    assert_eq!((look.sub(2, 1), look.insert_all(&[0; 65])), (Err(Error::TooLittle), Err(Error::BadLength)));
     assert!(look.iter().eq([(1, 1), (2, 2), (3, 3)]) && look.changes().next().is_none());
-    assert_eq!(look.again(), Ok(true));
+    assert_eq!(look.again(), Ok(Again::Comparable));
     assert!(look.iter().eq([(4, 7)]) && look.changes().map(|change| change.key).eq(1..=4));
     drop(look);
     assert_eq!((user.insert(10), user.look()?.len()), (Ok(true), 2));
@@ -697,14 +698,14 @@ fn a_user_updates_beside_its_look_over_many_rounds() -> Result<(), Error> {
             }
         }
         ask(&look, &before, &mut drawn, 4);
-        assert_eq!((look.room(), look.again()), (Ok(0), Ok(false)));
+        assert_eq!((look.room(), look.again()), (Ok(0), Ok(Again::NothingToCompare)));
         ask(&look, &map, &mut drawn, 4);
         assert!(look.changes().next().is_none() && look.changes_since(&keys, &weights)?.eq(differences(&before, &map)));
         // The next update begins a round, and the one after that is in the same.
         for is_same_round in [false, true] {
             before = map.clone();
             put(&mut look, &mut map, &mut drawn);
-            assert_eq!(look.again(), Ok(is_same_round));
+            assert_eq!(look.again(), Ok(if is_same_round { Again::Comparable } else { Again::NothingToCompare }));
             assert!(look.changes().eq(if is_same_round { differences(&before, &map) } else { Vec::new() }));
         }
     }
@@ -814,7 +815,7 @@ fn looks_agree_and_never_go_back_while_others_fill_the_table() -> Result<(), Err
                     assert!(now >= *seen && own.count <= 1 && (own.count == 0 || own.sum == u64::from(now) - 1));
                     *seen = now;
                 }
-                look.again()?;
+                let _ = look.again()?;
             }
             looks += 1;
         }
@@ -882,7 +883,7 @@ fn an_update_does_not_wait_long_for_those_that_look_again_and_again() -> Result<
 fn a_panic_ends_the_look_and_frees_the_place() -> Result<(), Error> {
     let trie = small(4, 1);
     let mut user = trie.user()?;
-    assert_eq!((user.insert(3), trie.user().err()), (Ok(true), Some(Error::NoUser)));
+    assert_eq!((user.insert(3), trie.user().err()), (Ok(true), Some(Error::NoUser { users: 1 })));
     let fell = thread::spawn(move || {
         let look = user.look().expect("the trie is open");
         assert!(look.is_empty(), "it is not");
@@ -898,19 +899,22 @@ fn a_panic_ends_the_look_and_frees_the_place() -> Result<(), Error> {
 
 #[test]
 fn refusals_have_names() -> Result<(), Error> {
-    for (bits, users, bytes, want) in [(0, 1, PLENTY, Error::BadBits), (17, 1, PLENTY, Error::BadBits), (4, 0, PLENTY, Error::BadUsers),
-        (4, 65, PLENTY, Error::BadUsers), (4, 1, 0, Error::TooLarge), (4, 1, 33_767, Error::TooLarge),
-        (4, 1, Trie::MOST_BYTES + 1, Error::TooLarge), (4, 1, u64::MAX, Error::TooLarge)]
-    {
-        assert_eq!(Trie::new(bits, users, bytes).err(), Some(want));
+    for bits in [0, 17] {
+        assert_eq!(Trie::new(bits, 1, PLENTY).err(), Some(Error::BadBits { bits }));
+    }
+    for users in [0, 65] {
+        assert_eq!(Trie::new(4, users, PLENTY).err(), Some(Error::BadUsers { users }));
+    }
+    for bytes in [0, 33_767, Trie::MOST_BYTES + 1, u64::MAX] {
+        assert_eq!(Trie::new(4, 1, bytes).err(), Some(Error::BadBytes { bytes, bits: 4, users: 1 }));
     }
     let trie = Trie::new(4, 1, PLENTY)?;
     let mut user = trie.user()?;
-    assert_eq!((user.insert(16), user.remove(u32::MAX)), (Err(Error::BadKey), Err(Error::BadKey)));
-    assert_eq!((user.put(16, 1), user.add(16, 1), user.sub(16, 1)), (Err(Error::BadKey), Err(Error::BadKey), Err(Error::BadKey)));
+    let bad = |key| Error::BadKey { key, bits: 4 };
+    assert_eq!((user.insert(16), user.remove(u32::MAX)), (Err(bad(16)), Err(bad(u32::MAX))));
+    assert_eq!((user.put(16, 1), user.add(17, 1), user.sub(18, 1)), (Err(bad(16)), Err(bad(17)), Err(bad(18))));
     assert_eq!((user.sub(7, 1), user.put(7, u32::MAX), user.add(7, 1)), (Err(Error::TooLittle), Ok(Put::Accepted), Err(Error::TooGreat)));
     assert_eq!(user.look()?.get(7), Some(u32::MAX));
-    assert_eq!(Error::BadBits.to_string(), "the bits are outside 1 to 16");
     Ok(())
 }
 
@@ -951,4 +955,34 @@ fn a_refused_request_for_memory_has_a_name_and_nothing_stays_behind() {
 #[test]
 fn the_library_has_the_version_of_the_crate() {
     assert_eq!(augtrie::version(), env!("CARGO_PKG_VERSION"));
+}
+
+#[test]
+fn the_least_bytes_are_the_fewest_that_a_trie_opens_with() -> Result<(), Error> {
+    for (bits, users) in [(1, 1), (4, 1), (4, 64), (12, 3), (16, 1), (16, 16), (16, 64)] {
+        let least = Trie::least_bytes(bits, users)?;
+        assert_eq!(Trie::new(bits, users, least - 1).err(), Some(Error::BadBytes { bytes: least - 1, bits, users }));
+        assert_eq!(Trie::new(bits, users, least)?.user()?.room(), Ok(64));
+    }
+    assert_eq!((Trie::least_bytes(17, 1), Trie::least_bytes(16, 65)), (Err(Error::BadBits { bits: 17 }), Err(Error::BadUsers { users: 65 })));
+    Ok(())
+}
+
+#[test]
+fn errors_say_what_was_wrong() -> Result<(), Error> {
+    let said = |bits, users, bytes| Trie::new(bits, users, bytes).err().map(|cause| cause.to_string()).unwrap_or_default();
+    assert_eq!((said(17, 1, PLENTY), said(16, 65, PLENTY)), ("17 bits are outside 1 to 16".into(), "65 users are outside 1 to 64".into()));
+    assert_eq!(said(16, 4, 0), "of 0 bytes, 11503440 are needed for 16 bits and 4 users");
+    assert_eq!(said(16, 4, (3 << 29) + 1), "1610612737 bytes are more than 3 * 2^29");
+    let trie = Trie::new(16, 2, PLENTY)?;
+    let (mut user, other) = (trie.user()?, trie.user()?);
+    let text = |cause: Option<Error>| cause.map(|cause| cause.to_string()).unwrap_or_default();
+    assert_eq!(text(trie.user().err()), "all 2 users of the trie are open");
+    assert_eq!(text(user.insert(70_000).err()), "key 70000 is not below 2^16");
+    assert_eq!(text(user.look()?.insert_all(&[3, 70_001, 70_002]).err()), "key 70001 is not below 2^16");
+    assert_eq!(text(user.look()?.changes_since(&[3, 9, 9], &[1, 1, 1]).err()), "key 9 is not above the one before it in the list");
+    assert_eq!(text(user.put_all(&[1], &[]).err()), "there are more keys than 2^bits, or not as many weights as keys");
+    drop(other);
+    assert_eq!(text(trie.user().err()), "");
+    Ok(())
 }

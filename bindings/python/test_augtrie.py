@@ -256,7 +256,7 @@ def many_keys_go_in_one_call():
             size = 1 << bits
             assert trie.update([5, 5, 7, 1]) == 3 and trie.update([]) == 0
             assert trie.difference_update([7, 9, -1, 1 << 20]) == 1
-            assert trie.put_all((1, 2), iter([30, 40])) == 1 and trie.weights([1, 2, 5]) == [30, 40, 5]
+            assert trie.put_all((1, 2), iter([30, 40])) == 2 and trie.weights([1, 2, 5]) == [30, 40, 5]
             assert raises(augtrie.BadKey, trie.update, [3, size]) and raises(augtrie.BadKey, trie.put_all, [3, -1], [1, 1])
             assert raises(augtrie.BadLength, trie.put_all, [3], []) and raises(augtrie.BadLength, trie.put_all, [3], [1, 2])
             assert list(trie) == [1, 2, 5]
@@ -277,8 +277,8 @@ def names_and_iterables_are_as_in_sortedcontainers():
         assert trie.difference_update((3, 4), [20], {22}) == 3 and list(trie) == [5, 9, 21, 23]
         assert raises(augtrie.BadKey, trie.update, [1], [64]) and raises(TypeError, trie.update, [1], 2) and raises(TypeError, trie.update, [1], b"2")
         assert list(trie) == [5, 9, 21, 23]
-        assert trie.peekitem(index=1) == (9, 9) and trie.peekitem(index=-2) == (21, 21) and raises(IndexError, trie.peekitem, index=4)
-        assert trie.popitem(index=0) == (5, 5) and trie.popitem(index=-1) == (23, 23) and raises(IndexError, trie.popitem, index=1)
+        assert trie.peekitem(index=1) == (9, 1) and trie.peekitem(index=-2) == (21, 21) and raises(IndexError, trie.peekitem, index=4)
+        assert trie.popitem(index=0) == (5, 1) and trie.popitem(index=-1) == (23, 23) and raises(IndexError, trie.popitem, index=1)
         assert raises(TypeError, trie.popitem, place=0) and raises(TypeError, trie.peekitem, 0, index=0)
         wide, signed = memoryview(array.array("I", [7, 8, 9])), memoryview(array.array("q", [9, -1, 70, 7]))
         assert trie.update(wide) == 2 and trie.has_all(wide) == [True] * 3 and trie.has_all(signed) == [True, False, False, True]
@@ -324,7 +324,7 @@ def what_has_an_index_is_a_number():
 def refusals_have_names():
     assert all(raises(augtrie.BadBits, Trie, bits) for bits in (17, 0, -1, 1 << 40))
     assert all(raises(augtrie.BadUsers, Trie, 4, users) for users in (65, 0, -1, 1 << 40))
-    assert all(raises(augtrie.TooLarge, Trie, 16, bytes=bytes) for bytes in (0, -1, 999, 12_978_287, (3 << 29) + 1, 1 << 70))
+    assert all(raises(augtrie.BadBytes, Trie, 16, bytes=bytes) for bytes in (0, -1, 999, 12_978_287, (3 << 29) + 1, 1 << 70))
     with Trie(16) as trie:
         assert trie.update(range(1 << 16)) == 1 << 16 and trie.rank_all([1 << 15]) == [1 << 15]
     with Trie(4) as trie:
@@ -542,14 +542,14 @@ def a_thread_updates_beside_its_snapshot_over_many_rounds():
                     put()
                     assert made % 16 or list(now.items()) == kept
                 assert trie.room() == 0 and list(now.items()) == kept == list(now.items(0, 15)) and list(now.changes()) == []
-                assert now.renew() is False and list(now.changes()) == [] and dict(now.items()) == model
+                assert now.renew() is False and raises(augtrie.NothingToCompare, now.changes) and dict(now.items()) == model
                 assert list(now.changes_since(kept)) == differences(before, model)
                 # The next update begins a round, and the one after that is in the same.
                 for is_same_round in (False, True):
                     before = dict(model)
                     put()
                     assert now.renew() is is_same_round
-                    assert list(now.changes()) == (differences(before, model) if is_same_round else [])
+                    assert list(now.changes()) == differences(before, model) if is_same_round else raises(augtrie.NothingToCompare, now.changes)
 
 
 @test
@@ -559,7 +559,7 @@ def a_thread_makes_each_update_beside_its_snapshot():
         with trie.snapshot() as now:
             assert trie.add(9) and trie.discard(9) and trie.put(2, 5) == 2 and trie.increment(2) == 6 and trie.decrement(2, 6) == 0
             assert trie.popitem(0) == (1, 1) and trie.popitem() == (3, 3) and raises(KeyError, trie.popitem) and raises(KeyError, trie.remove, 3)
-            assert trie.update(range(64)) == 64 and trie.difference_update(range(60)) == 60 and trie.put_all([61, 62], [7, 8]) == 0
+            assert trie.update(range(64)) == 64 and trie.difference_update(range(60)) == 60 and trie.put_all([61, 62], [7, 8]) == 2
             assert raises(augtrie.BadKey, trie.add, 64) and raises(augtrie.TooLittle, trie.decrement, 5)
             assert list(now.items()) == [(1, 1), (2, 2), (3, 3)] and len(now) == 3
             assert now.renew() and list(now.items()) == [(60, 60), (61, 7), (62, 8), (63, 63)] and len(list(now.changes())) == 7
@@ -1268,7 +1268,7 @@ def messages_stay_without_docstrings():
     code = "import augtrie\ntry: augtrie.Trie(17)\nexcept augtrie.BadBits as error: print(error)"
     for option in ("-O", "-OO"):
         said = subprocess.run([sys.executable, option, "-c", code], stdout=subprocess.PIPE, text=True, check=True).stdout
-        assert said == "the bits are outside 1 to 16\n", said
+        assert said == "17 bits are outside 1 to 16\n", said
 
 
 @test
@@ -1299,6 +1299,116 @@ def a_call_takes_microseconds():
                 print(f"{name}: {took:.2f} microseconds")
                 assert took < 500, name
             now.close()
+
+
+# ---- What callers are told ----
+
+
+def message(kind, call, *arguments, **named):
+    """What the exception of a call says, which is of exactly this kind."""
+    try:
+        call(*arguments, **named)
+    except kind as fault:
+        assert type(fault) is kind
+        return str(fault)
+    raise AssertionError("it raised nothing")
+
+
+@test
+def exceptions_name_what_was_wrong():
+    assert [message(augtrie.BadBits, Trie, bits) for bits in (17, -1, 1 << 70)] == [f"{bits} bits are outside 1 to 16" for bits in (17, -1, 1 << 70)]
+    assert message(augtrie.BadUsers, Trie, 4, 65) == "65 users are outside 1 to 64"
+    assert message(augtrie.BadBytes, Trie, 16, 4, 0) == "of 0 bytes, 11503440 are needed for 16 bits and 4 users"
+    assert message(augtrie.BadBytes, Trie, 16, bytes=(3 << 29) + 1) == "1610612737 bytes are more than 3 * 2^29"
+    with Trie(16, users=1) as trie:
+        for key in (70_000, -1, 1 << 70):
+            bad = f"key {key} is not below 2^16"
+            for call in (trie.add, trie.increment, trie.decrement, lambda it: trie.put(it, 1), lambda it: trie.update([1], [2, it, -5]),
+                         lambda it: trie.put_all([it], [1]), lambda it: trie.update({it: 7})):
+                assert message(augtrie.BadKey, call, key) == bad, call
+        assert str(elsewhere(lambda: trie.add(1))) == "all 1 users of the trie are open" and len(trie) == 0
+        assert message(augtrie.BadLength, trie.put_all, [1, 2, 3], [4]) == "there are 3 keys and 1 weights"
+        assert message(ValueError, trie.put, 1, -3) == "a weight or an amount is a number of 32 bits, and -3 is none"
+        with trie.snapshot() as now:
+            assert message(augtrie.BadLength, now.changes_since, [(1, 1)] * 65_537) == "65537 members are more than there are keys below 2^16"
+            assert message(augtrie.BadKey, now.changes_since, [(1, 1), (-7, 1)]) == "key -7 is not below 2^16"
+            assert message(augtrie.BadKey, now.changes_since, [(1, 1), (9, 1), (9, 1)]) == "key 9 is not above the one before it in the list"
+
+
+@test
+def a_trie_opens_with_the_bytes_that_it_says_are_needed():
+    for bits, users in ((1, 1), (4, 64), (12, 3), (16, 16)):
+        least = int(message(augtrie.BadBytes, Trie, bits, users, 1).split()[3])
+        assert str(least) in message(augtrie.BadBytes, Trie, bits, users, least - 1)
+        assert Trie(bits, users, least).room() == 64
+
+
+@test
+def a_snapshot_says_that_it_has_nothing_to_be_compared_with():
+    with Trie(**SMALL) as trie:
+        now = trie.snapshot()
+        assert list(now.changes()) == []
+        walk = now.changes()
+        assert elsewhere(lambda: [trie.put(3, it) for it in range(1000)][-1]) == 998 and now.renew() is False
+        assert "use changes_since" in message(augtrie.NothingToCompare, now.changes) and raises(RuntimeError, next, walk)
+        assert list(now.changes_since([])) == [(3, None, 999)]
+        assert elsewhere(lambda: trie.put(3, 5)) == 999
+        # Until it is renewed within a round.
+        while not now.renew():
+            assert raises(augtrie.NothingToCompare, now.changes)
+        assert elsewhere(lambda: trie.put(3, 6)) == 5 and now.renew() is True and list(now.changes()) == [(3, 5, 6)]
+        now.close()
+        assert raises(augtrie.NotLooking, now.changes)
+
+
+class Weights:
+    """A mapping for `dict.update`, and for nobody else."""
+
+    def keys(self):
+        return iter([3, 4])
+
+    def __getitem__(self, key):
+        return 10 * key
+
+
+@test
+def an_update_by_a_mapping_takes_its_weights():
+    with Trie(4) as trie:
+        assert trie.update({1: 5, 2: 0}) == 2 and dict(trie.items()) == {1: 5, 2: 0}
+        # A key that is there gets the weight of a mapping, and keeps its own beside an iterable.
+        assert trie.update([1, 7], {1: 6, 8: 9}, iter([8]), Weights()) == 4
+        assert dict(trie.items()) == {1: 6, 2: 0, 3: 30, 4: 40, 7: 7, 8: 9}
+        assert trie.update(dict.fromkeys(range(16), 1 << 31).keys(), {}) == 10 and trie.weight(0) == 0 and trie.update() == 0
+        for bad in {1: 3, 16: 3}, {1: 3, 2: -1}, {1: 3, 2: 1 << 32}:
+            assert raises(ValueError, trie.update, {5: 3}, bad)
+        assert raises(TypeError, trie.update, {1: 3, 2: "3"}) and raises(TypeError, trie.update, {"1": 3}) and trie.weight(1) == 6 and trie.weight(5) == 5
+        assert trie.difference_update({1: 5}, {16: 1}) == 1 and 1 not in trie
+    assert raises(augtrie.Closed, trie.update) and raises(augtrie.Closed, trie.update, {1: 1})
+
+
+@test
+def many_weights_count_as_in_other_languages():
+    with Trie(8) as trie:
+        assert trie.put_all(range(200), [1] * 200) == 200 and trie.put_all([0, 1, 250], [2, 1, 2]) == 3 and trie.put_all([], []) == 0
+
+
+@test
+def a_trie_says_what_it_is():
+    with Trie(12, users=2) as trie:
+        assert repr(trie) == "<augtrie.Trie bits=12 users=2 size=0>"
+        trie.update(range(5))
+        assert repr(trie) == str(trie) == "<augtrie.Trie bits=12 users=2 size=5>"
+        with trie.snapshot():
+            # It uses the place that nobody has, and leaves it free.
+            assert trie.add(7) and repr(trie) == "<augtrie.Trie bits=12 users=2 size=6>"
+            assert elsewhere(lambda: (trie.add(8), repr(trie))) == (True, "<augtrie.Trie bits=12 users=2 size=7>")
+            let, has_place = threading.Event(), threading.Event()
+            ended = at_once(lambda: (trie.room(), has_place.set(), let.wait(60)))
+            # This thread has a snapshot, and the other one the last place.
+            assert has_place.wait(60) and repr(trie) == elsewhere(lambda: repr(trie)) == "<augtrie.Trie bits=12 users=2>"
+            let.set()
+            ended()
+    assert repr(trie) == "<augtrie.Trie bits=12 users=2 size=7 closed>" and "Snapshots that are open answer as before" in Trie.close.__doc__
 
 
 def main():

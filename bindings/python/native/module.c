@@ -1,10 +1,11 @@
 /* The module: its types, its exceptions, and what objects of all types have in common. */
 #include "module.h"
 
+#include <stdarg.h>
 #include <string.h>
 
 PyTypeObject *members_type, *trie_type, *snapshot_type, *iterator_type, *changes_type, *stay_type, *report_type, *span_type;
-PyObject *any_error;
+PyObject *any_error, *nothing_to_compare;
 
 /* The exceptions by the codes that they stand for, with the sign turned. */
 enum { CODES = 16 };
@@ -22,7 +23,7 @@ static const struct {
     {AUG_NO_MEMORY, "augtrie.NoMemory", &PyExc_MemoryError, NULL},
     {AUG_BAD_BITS, "augtrie.BadBits", &PyExc_ValueError, NULL},
     {AUG_BAD_USERS, "augtrie.BadUsers", &PyExc_ValueError, NULL},
-    {AUG_TOO_LARGE, "augtrie.TooLarge", &PyExc_ValueError, NULL},
+    {AUG_TOO_LARGE, "augtrie.BadBytes", &PyExc_ValueError, NULL},
     {AUG_NO_USER, "augtrie.NoUser", NULL, NULL},
     {AUG_OPEN, "augtrie.Open", NULL, NULL},
     {AUG_BAD_LENGTH, "augtrie.BadLength", &PyExc_ValueError, NULL},
@@ -37,10 +38,25 @@ static const char *text_of(int64_t code) {
     return aug_error_text(code);
 }
 
+static PyObject *error_of(int64_t code) {
+    return code < 0 && -code < CODES && errors[-code] ? errors[-code] : any_error;
+}
+
 void *raise_code(int64_t code) {
-    PyObject *kind = code < 0 && -code < CODES && errors[-code] ? errors[-code] : any_error;
-    PyErr_SetString(kind, text_of(code));
+    PyErr_SetString(error_of(code), text_of(code));
     return NULL;
+}
+
+void *raise_text(int64_t code, const char *format, ...) {
+    va_list given;
+    va_start(given, format);
+    PyErr_FormatV(error_of(code), format, given);
+    va_end(given);
+    return NULL;
+}
+
+void *raise_key(PyObject *key, uint32_t bits) {
+    return raise_text(AUG_BAD_KEY, "key %S is not below 2^%u", key, (unsigned)bits);
 }
 
 PyObject *told_number(int64_t answer) {
@@ -112,7 +128,9 @@ static int add_errors(PyObject *module) {
         if (add(module, kinds[i].name, error)) return -1;
         errors[-kinds[i].code] = error;
     }
-    return 0;
+    const char *text = "a new round of the table began before the last renewal, so there is nothing to compare with: use changes_since";
+    nothing_to_compare = PyErr_NewExceptionWithDoc("augtrie.NothingToCompare", text, any_error, NULL);
+    return add(module, "augtrie.NothingToCompare", nothing_to_compare);
 }
 
 static int add_types(PyObject *module) {
@@ -139,6 +157,9 @@ static int add_types(PyObject *module) {
 }
 
 static struct PyModuleDef definition = {PyModuleDef_HEAD_INIT, "_augtrie", NULL, -1, NULL, NULL, NULL, NULL, NULL};
+
+/* The headers of Python 3.8 do not say so, and all else is hidden. */
+__attribute__((visibility("default"))) PyMODINIT_FUNC PyInit__augtrie(void);
 
 PyMODINIT_FUNC PyInit__augtrie(void) {
     PyObject *module = PyModule_Create(&definition);

@@ -42,17 +42,22 @@ struct Snapshot {
     Trie *trie;
     Seat *seat;        /* NULL once it has ended */
     unsigned renewals; /* how often it has been renewed */
+    char is_anew;      /* the last time, in a new round: it has nothing to be compared with */
 };
 
 /* The types, which the module makes when it is loaded. */
 extern PyTypeObject *members_type, *trie_type, *snapshot_type, *iterator_type, *changes_type, *stay_type, *report_type, *span_type;
 extern PyType_Spec members_spec, trie_spec, snapshot_spec, iterator_spec, changes_spec, stay_spec;
 
-/* The exception that all others are of. */
-extern PyObject *any_error;
+/* The exception that all others are of, and that of a snapshot with nothing before it, which is no code. */
+extern PyObject *any_error, *nothing_to_compare;
 
-/* Raises the exception of a code. NULL. */
+/* Raises the exception of a code, with the library's text, or with one that has numbers. NULL. */
 void *raise_code(int64_t code);
+void *raise_text(int64_t code, const char *format, ...);
+
+/* Raises that of a key that is not below 2^bits. NULL. */
+void *raise_key(PyObject *key, uint32_t bits);
 
 /* The number that a call answered, or NULL with the exception of its code. */
 PyObject *told_number(int64_t answer);
@@ -81,10 +86,21 @@ int read_sum(PyObject *from, int64_t *sum);
 /* A number of a trie that is opened: one that is out of range is still out of range. */
 int read_wide(PyObject *from, uint64_t *number);
 
-/* Reads the numbers of an iterable, or those of each of a tuple of iterables, into memory for PyMem_Free, or answers NULL with an exception. Bytes
-   are no numbers. */
-uint32_t *read_all(PyObject *from, size_t *count, int (*read)(PyObject *, uint32_t *));
-uint32_t *read_each(PyObject *iterables, size_t *count, int (*read)(PyObject *, uint32_t *));
+/* Reads the numbers of an iterable into memory for PyMem_Free, or answers NULL with an exception. Bytes are no numbers. If `items` is no NULL, it gets
+   a tuple of what was read. */
+uint32_t *read_all(PyObject *from, size_t *count, int (*read)(PyObject *, uint32_t *), PyObject **items);
+
+/* Keys that were read, and what they were read from; and the weights of a mapping, or the keys once more. */
+typedef struct {
+    uint32_t *keys, *numbers;
+    size_t count;
+    PyObject *items;
+} Batch;
+
+/* Reads the keys of an iterable, or, if these are asked for and it is a mapping, as dict.update has it, the keys and the weights. 0, or -1 with an
+   exception, and then nothing is to be freed. */
+int read_batch(PyObject *from, int has_weights, Batch *batch);
+void free_batch(Batch *batch);
 
 /* The index that a call may be given by its place or by name, or -1 for the last member; or -1 with an exception. */
 Py_ssize_t read_index(PyObject *args, PyObject *named, const char *format);
@@ -106,7 +122,11 @@ void shut(Trie *trie);
 /* This thread's seat in a trie, which is not busy; or NULL with an exception. Other threads run while one of them asks this thread's snapshot. */
 Seat *seat_of(Trie *trie);
 
-/* The same, with a look that was taken for it. Other threads run while it waits. */
+/* This thread's seat, or one that nobody has, for as long as this thread keeps the interpreter's lock; or NULL, with no exception, where both have
+   something to do. */
+Seat *seat_at_hand(Trie *trie);
+
+/* The same as seat_of, with a look that was taken for it. Other threads run while it waits. */
 Seat *look(Trie *trie);
 
 /* Ends the snapshot of a seat, if it has one: at the end of the call that is on, if the seat is busy. */

@@ -38,7 +38,7 @@ int read_weight(PyObject *from, uint32_t *weight) {
     if (over == -2) return -1;
     *weight = (uint32_t)number;
     if (!over && number >= 0 && number <= UINT32_MAX) return 0;
-    PyErr_SetString(PyExc_ValueError, "a weight or an amount is a number of 32 bits");
+    PyErr_Format(PyExc_ValueError, "a weight or an amount is a number of 32 bits, and %S is none", from);
     return -1;
 }
 
@@ -76,19 +76,7 @@ static int refuse_bytes(PyObject *from) {
     return PyErr_Occurred() ? -1 : 0;
 }
 
-uint32_t *read_each(PyObject *iterables, size_t *count, int (*read)(PyObject *, uint32_t *)) {
-    uint32_t *numbers = NULL;
-    PyObject *all = PyList_New(0);
-    for (Py_ssize_t i = 0; all && i < PyTuple_Size(iterables); i++) {
-        PyObject *from = PyTuple_GetItem(iterables, i);
-        if (refuse_bytes(from) || PyList_SetSlice(all, PY_SSIZE_T_MAX, PY_SSIZE_T_MAX, from)) Py_CLEAR(all);
-    }
-    if (all) numbers = read_all(all, count, read);
-    Py_XDECREF(all);
-    return numbers;
-}
-
-uint32_t *read_all(PyObject *from, size_t *count, int (*read)(PyObject *, uint32_t *)) {
+uint32_t *read_all(PyObject *from, size_t *count, int (*read)(PyObject *, uint32_t *), PyObject **kept) {
     if (refuse_bytes(from)) return NULL;
     /* A tuple, since the __index__ of one number could change a list that has the next. */
     PyObject *items = PySequence_Tuple(from);
@@ -104,7 +92,51 @@ uint32_t *read_all(PyObject *from, size_t *count, int (*read)(PyObject *, uint32
             numbers = NULL;
         }
     }
-    Py_DECREF(items);
+    if (numbers && kept) *kept = items;
+    else Py_DECREF(items);
     *count = (size_t)length;
     return numbers;
+}
+
+/* Whether it has `keys`: 1 or 0, or -1 with an exception. */
+static int is_mapping(PyObject *from) {
+    PyObject *keys = PyObject_GetAttrString(from, "keys");
+    if (!keys && !PyErr_ExceptionMatches(PyExc_AttributeError)) return -1;
+    if (!keys) PyErr_Clear();
+    Py_XDECREF(keys);
+    return keys != NULL;
+}
+
+/* The value of each key of a mapping, as a list, or NULL with an exception. */
+static PyObject *values_of(PyObject *mapping, PyObject *keys) {
+    PyObject *values = PyList_New(0);
+    for (Py_ssize_t i = 0; values && i < PyTuple_Size(keys); i++) {
+        PyObject *value = PyObject_GetItem(mapping, PyTuple_GetItem(keys, i));
+        if (!value || PyList_Append(values, value)) Py_CLEAR(values);
+        Py_XDECREF(value);
+    }
+    return values;
+}
+
+void free_batch(Batch *batch) {
+    if (batch->numbers != batch->keys) PyMem_Free(batch->numbers);
+    PyMem_Free(batch->keys);
+    Py_XDECREF(batch->items);
+}
+
+int read_batch(PyObject *from, int has_weights, Batch *batch) {
+    int is_weighed = has_weights ? is_mapping(from) : 0;
+    PyObject *keys = is_weighed > 0 ? PyMapping_Keys(from) : from;
+    if (is_weighed < 0 || !keys) return -1;
+    batch->keys = batch->numbers = read_all(keys, &batch->count, read_key, &batch->items);
+    if (is_weighed) Py_DECREF(keys);
+    if (!batch->keys) return -1;
+    if (!is_weighed) return 0;
+    size_t weight_count;
+    PyObject *weights = values_of(from, batch->items);
+    batch->numbers = weights ? read_all(weights, &weight_count, read_weight, NULL) : NULL;
+    Py_XDECREF(weights);
+    if (batch->numbers) return 0;
+    free_batch(batch);
+    return -1;
 }

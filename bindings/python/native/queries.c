@@ -185,7 +185,7 @@ static PyObject *list_of(int64_t code, int64_t *answers, size_t count, PyObject 
 static PyObject *ask_all(PyObject *self, PyObject *keys, int (*read)(PyObject *, uint32_t *), Queries queries, PyObject *(*told)(int64_t)) {
     size_t count;
     uint32_t bits = Py_TYPE(self) == trie_type ? ((Trie *)self)->bits : ((Snapshot *)self)->trie->bits;
-    uint32_t *from = read_all(keys, &count, read);
+    uint32_t *from = read_all(keys, &count, read, NULL);
     int64_t *answers = from ? PyMem_Malloc(count * sizeof *answers) : NULL;
     if (from && !answers) PyErr_NoMemory();
     Seat *seat = answers ? begin(self) : NULL;
@@ -521,7 +521,7 @@ static PyObject *snapshot_renew(PyObject *self, PyObject *unused) {
         Seat *seat = begin(self);
         if (!seat) return NULL;
         int64_t code = aug_try_look_again(&seat->handle);
-        if (code >= 0) snapshot->renewals++;
+        if (code >= 0) snapshot->renewals++, snapshot->is_anew = code != AUG_OK;
         if (code >= 0) return PyBool_FromLong(code == AUG_OK);
         if (code != AUG_AGAIN) return raise_code(code);
         if (wait_for_others(snapshot->trie, turn)) return NULL;
@@ -530,32 +530,39 @@ static PyObject *snapshot_renew(PyObject *self, PyObject *unused) {
 
 static PyObject *snapshot_changes(PyObject *self, PyObject *unused) {
     (void)unused;
-    return begin(self) ? changes_of((Snapshot *)self, NULL, 0) : NULL;
+    if (!begin(self)) return NULL;
+    if (!((Snapshot *)self)->is_anew) return changes_of((Snapshot *)self, NULL, 0);
+    PyErr_SetString(nothing_to_compare, "a new round of the table began before the last renewal, so there is nothing to compare with: use changes_since");
+    return NULL;
 }
 
-/* Reads a pair of a key and a weight. 0, or -1 with an exception. */
-static int read_member(PyObject *from, uint32_t *key, uint32_t *weight) {
+/* Reads a pair of a key and a weight. The key is below 2^bits, and not below the least. 0, or -1 with an exception. */
+static int read_member(PyObject *from, uint32_t bits, uint32_t least, uint32_t *key, uint32_t *weight) {
     int read = -1;
     PyObject *pair = PySequence_Tuple(from);
     if (!pair) return -1;
-    if (PyTuple_Size(pair) != 2) {
-        PyErr_SetString(PyExc_ValueError, "a member is a key and its weight");
-    } else if (!read_key(PyTuple_GetItem(pair, 0), key)) {
-        read = read_weight(PyTuple_GetItem(pair, 1), weight);
-    }
+    PyObject *first = PyTuple_Size(pair) == 2 ? PyTuple_GetItem(pair, 0) : NULL;
+    if (!first) PyErr_SetString(PyExc_ValueError, "a member is a key and its weight");
+    else if (read_key(first, key)) read = -1;
+    else if (*key >> bits) raise_key(first, bits);
+    else if (*key < least) raise_text(AUG_BAD_KEY, "key %S is not above the one before it in the list", first);
+    else read = read_weight(PyTuple_GetItem(pair, 1), weight);
     Py_DECREF(pair);
     return read;
 }
 
 /* Reads the members of an iterable, the keys and then the weights, into memory for PyMem_Free, or answers NULL with an exception. */
-static uint32_t *read_members(PyObject *from, size_t *count) {
+static uint32_t *read_members(PyObject *from, uint32_t bits, size_t *count) {
     PyObject *items = PySequence_Tuple(from);
     if (!items) return NULL;
     *count = (size_t)PyTuple_Size(items);
-    uint32_t *numbers = PyMem_Malloc(2 * *count * sizeof *numbers);
-    if (!numbers) PyErr_NoMemory();
+    const int are_many = *count > (size_t)1 << bits;
+    uint32_t *numbers = are_many ? NULL : PyMem_Malloc(2 * *count * sizeof *numbers);
+    if (are_many) raise_text(AUG_BAD_LENGTH, "%zu members are more than there are keys below 2^%u", *count, (unsigned)bits);
+    else if (!numbers) PyErr_NoMemory();
     for (size_t i = 0; numbers && i < *count; i++) {
-        if (!read_member(PyTuple_GetItem(items, (Py_ssize_t)i), &numbers[i], &numbers[*count + i])) continue;
+        const uint32_t least = i ? numbers[i - 1] + 1 : 0;
+        if (!read_member(PyTuple_GetItem(items, (Py_ssize_t)i), bits, least, &numbers[i], &numbers[*count + i])) continue;
         PyMem_Free(numbers);
         numbers = NULL;
     }
@@ -565,7 +572,7 @@ static uint32_t *read_members(PyObject *from, size_t *count) {
 
 static PyObject *snapshot_changes_since(PyObject *self, PyObject *from) {
     size_t kept;
-    uint32_t *members = read_members(from, &kept);
+    uint32_t *members = read_members(from, ((Snapshot *)self)->trie->bits, &kept);
     Seat *seat = members ? begin(self) : NULL;
     int64_t code = seat ? changes_since(seat, members, kept, 0, NULL, 0) : 0;
     if (seat && code == 0) return changes_of((Snapshot *)self, members, kept);
@@ -591,10 +598,10 @@ static PyObject *snapshot_enter(PyObject *self, PyObject *unused) {
 static PyMethodDef snapshot_methods[] = {
     {"renew", snapshot_renew, METH_NOARGS,
      "renew($self, /)\n--\n\nShows the trie as it is now: True if `changes` tells what changed by that, and False if a new round of the table began in between. "
-     "Then `changes` has nothing to compare with, and `changes_since` tells it."},
+     "Then `changes` has nothing to compare with, and raises NothingToCompare, but `changes_since` tells it."},
     {"changes", snapshot_changes, METH_NOARGS,
      "changes($self, /)\n--\n\nAn iterator over what the last `renew` changed: keys, rising, each with its weight before and now, or None where it "
-     "is no member. There is nothing before the first one, or if it answered False. RuntimeError if the snapshot is renewed meanwhile."},
+     "is no member. Nothing before the first one. NothingToCompare if it answered False. RuntimeError if the snapshot is renewed meanwhile."},
     {"changes_since", snapshot_changes_since, METH_O,
      "changes_since($self, members, /)\n--\n\nThe same since members that were listed, as `list(snapshot.items())` has them: pairs of a key and its weight, "
      "with rising keys. It goes over all members of both, however few of them changed."},

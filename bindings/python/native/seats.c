@@ -122,6 +122,13 @@ static uint64_t number_of_thread(void) {
     return this_thread;
 }
 
+/* Opens the user of a seat, if it is not open: a code. */
+static int64_t open_seat(Trie *trie, Seat *seat) {
+    int64_t code = seat->is_open ? AUG_OK : aug_user_open(&trie->handle, &seat->handle);
+    if (code == AUG_OK) seat->is_open = 1;
+    return code;
+}
+
 /* This thread's seat, or NULL with an exception. */
 static Seat *find_seat(Trie *trie) {
     uint64_t thread = number_of_thread();
@@ -133,11 +140,22 @@ static Seat *find_seat(Trie *trie) {
         if (seat->thread == thread) return seat;
         if (!seat->thread && !free) free = seat;
     }
-    int64_t code = !free ? AUG_NO_USER : free->is_open ? AUG_OK : aug_user_open(&trie->handle, &free->handle);
+    if (!free) return raise_text(AUG_NO_USER, "all %u users of the trie are open", (unsigned)trie->users);
+    int64_t code = open_seat(trie, free);
     if (code != AUG_OK) return raise_code(code);
-    free->is_open = 1;
     free->thread = thread;
     return free;
+}
+
+Seat *seat_at_hand(Trie *trie) {
+    Seat *free = NULL;
+    for (uint32_t i = 0; is_open(trie) && i < trie->users; i++) {
+        Seat *seat = &trie->seats[i];
+        if (seat->is_busy || seat->held) continue;
+        if (this_thread && seat->thread == this_thread) return seat;
+        if (!seat->thread && !free) free = seat;
+    }
+    return free && open_seat(trie, free) == AUG_OK ? free : NULL;
 }
 
 Seat *seat_of(Trie *trie) {

@@ -9,6 +9,16 @@ enum { USERS = 16 };
 /* For no more keys than this other threads run, or signals and the end of the trie wait, at a time. */
 enum { PART = 4096 };
 
+/* Raises the exception of a trie that was not opened, with what was given for it. */
+static void refuse_open(const Trie *trie, int64_t code, PyObject **given, uint64_t bytes) {
+    const unsigned bits = trie->bits, users = trie->users;
+    if (code == AUG_BAD_BITS) raise_text(code, "%S bits are outside 1 to 16", given[0]);
+    else if (code == AUG_BAD_USERS) raise_text(code, "%S users are outside 1 to 64", given[1]);
+    else if (code != AUG_TOO_LARGE || !given[2]) raise_code(code);
+    else if (bytes > AUG_MOST_BYTES) raise_text(code, "%S bytes are more than 3 * 2^29", given[2]);
+    else raise_text(code, "of %S bytes, %lld are needed for %u bits and %u users", given[2], (long long)aug_least_bytes(bits, users), bits, users);
+}
+
 static PyObject *trie_new(PyTypeObject *type, PyObject *args, PyObject *named) {
     static char *words[] = {"bits", "users", "bytes", NULL};
     PyObject *given[3] = {NULL, NULL, NULL};
@@ -28,11 +38,12 @@ static PyObject *trie_new(PyTypeObject *type, PyObject *args, PyObject *named) {
     Py_BEGIN_ALLOW_THREADS
     code = aug_open(&trie->handle, trie->bits, trie->users, numbers[2]);
     Py_END_ALLOW_THREADS
-    if (code != AUG_OK) {
-        Py_DECREF(trie);
-        return raise_code(code);
+    if (code == AUG_OK) {
+        enlist(trie);
+    } else {
+        refuse_open(trie, code, given, numbers[2]);
+        Py_CLEAR(trie);
     }
-    enlist(trie);
     return (PyObject *)trie;
 }
 
@@ -98,6 +109,7 @@ static PyObject *trie_snapshot(PyObject *self, PyObject *unused) {
     Py_INCREF(self);
     snapshot->trie = (Trie *)self;
     snapshot->renewals = 0;
+    snapshot->is_anew = 0;
     snapshot->seat = look(snapshot->trie);
     if (snapshot->seat) snapshot->seat->held = snapshot;
     else Py_CLEAR(snapshot);
@@ -127,9 +139,15 @@ static int64_t put(aug_user *user, uint32_t key, uint32_t weight, aug_told *told
 static int64_t increment(aug_user *user, uint32_t key, uint32_t amount, aug_told *told) { MADE(aug_try_add(user, key, amount, told)); }
 static int64_t decrement(aug_user *user, uint32_t key, uint32_t amount, aug_told *told) { MADE(aug_try_sub(user, key, amount, told)); }
 
-/* Makes an update of each key with its number: how many answered 1, or -1 with an exception. What the last one told is in `told`. Other threads run
-   while it waits. */
-static Py_ssize_t change(PyObject *self, Update update, const uint32_t *keys, const uint32_t *numbers, size_t count, aug_told *told) {
+/* The same as put, for a caller that counts what changed. */
+static int64_t put_or_replace(aug_user *user, uint32_t key, uint32_t weight, aug_told *told) {
+    int64_t answer = put(user, key, weight, told);
+    return answer == 2 ? 1 : answer;
+}
+
+/* Makes an update of each key with its number: how many answered 1, or -1 with an exception, which names `key`. What the last one told is in `told`. Other
+   threads run while it waits. */
+static Py_ssize_t change(PyObject *self, Update update, const uint32_t *keys, const uint32_t *numbers, size_t count, aug_told *told, PyObject *key) {
     Py_ssize_t changed = 0;
     unsigned turn = 0;
     for (size_t i = 0;;) {
@@ -141,6 +159,7 @@ static Py_ssize_t change(PyObject *self, Update update, const uint32_t *keys, co
         PyThreadState *others = let_others_run(seat, UPDATES, stop - i);
         for (; i < stop && (answer = update(&seat->handle, keys[i], numbers[i], told)) >= 0; i++) changed += answer == 1;
         run_alone(seat, others);
+        if (answer == AUG_BAD_KEY && key) return raise_key(key, ((Trie *)self)->bits), -1;
         if (answer < 0 && answer != AUG_AGAIN) return raise_code(answer), -1;
         if (i == count) return changed;
         turn = answer < 0 ? turn + 1 : 0;
@@ -151,7 +170,7 @@ static Py_ssize_t change(PyObject *self, Update update, const uint32_t *keys, co
 /* An update of one key: whether it answered 1, or -1 with an exception. */
 static Py_ssize_t change_key(PyObject *self, PyObject *key, Update update, aug_told *told) {
     uint32_t at;
-    return read_key(key, &at) ? -1 : change(self, update, &at, &at, 1, told);
+    return read_key(key, &at) ? -1 : change(self, update, &at, &at, 1, told, key);
 }
 
 static PyObject *trie_add(PyObject *self, PyObject *key) {
@@ -192,7 +211,7 @@ static int change_by(PyObject *self, PyObject *args, PyObject *named, const char
     uint32_t at, by = 1;
     if (!PyArg_ParseTupleAndKeywords(args, named, format, words, &key, &number)) return -1;
     if (read_key(key, &at) || (number && read_weight(number, &by))) return -1;
-    return change(self, update, &at, &by, 1, told) < 0 ? -1 : 0;
+    return change(self, update, &at, &by, 1, told, key) < 0 ? -1 : 0;
 }
 
 /* The weight after an update, which is 0 of what is no member. */
@@ -238,41 +257,60 @@ static PyObject *trie_popitem(PyObject *self, PyObject *args, PyObject *named) {
     }
 }
 
-/* Makes the same update of many keys. Frees the numbers. */
-static PyObject *change_all(PyObject *self, Update update, uint32_t *keys, uint32_t *numbers, size_t count) {
-    Py_ssize_t changed = 0;
+/* Refuses keys of which one is none of the trie. 0, or -1 with an exception. */
+static int refuse_keys(PyObject *self, const Batch *batch) {
+    const uint32_t bits = ((Trie *)self)->bits;
+    for (size_t i = 0; i < batch->count; i++) {
+        if (batch->keys[i] >> bits) return raise_key(PyTuple_GetItem(batch->items, (Py_ssize_t)i), bits), -1;
+    }
+    return 0;
+}
+
+/* Updates the keys of batches, each with its number if it has one: how many updates answered 1, or NULL with an exception. */
+static PyObject *change_all(PyObject *self, Update update, Update weighs, const Batch *batches, Py_ssize_t count) {
     aug_told unwanted;
-    for (size_t i = 0; changed == 0 && update != take_out && i < count; i++) if (keys[i] >> ((Trie *)self)->bits) changed = -1;
-    if (changed < 0) raise_code(AUG_BAD_KEY);
-    else changed = change(self, update, keys, numbers, count, &unwanted);
-    if (numbers != keys) PyMem_Free(numbers);
-    PyMem_Free(keys);
-    return changed < 0 ? NULL : PyLong_FromSsize_t(changed);
+    Py_ssize_t changed = 0;
+    for (Py_ssize_t i = 0; update != take_out && i < count; i++) if (refuse_keys(self, &batches[i])) return NULL;
+    /* Of no batch too, a trie that is closed is refused. */
+    Py_ssize_t some = change(self, update, NULL, NULL, 0, &unwanted, NULL);
+    for (Py_ssize_t i = 0; some >= 0 && i < count; i++) {
+        const Batch *batch = &batches[i];
+        some = change(self, batch->numbers == batch->keys ? update : weighs, batch->keys, batch->numbers, batch->count, &unwanted, NULL);
+        changed += some;
+    }
+    return some < 0 ? NULL : PyLong_FromSsize_t(changed);
 }
 
-static PyObject *trie_update(PyObject *self, PyObject *iterables) {
-    size_t count;
-    uint32_t *read = read_each(iterables, &count, read_key);
-    return read ? change_all(self, insert, read, read, count) : NULL;
+/* The same for a tuple of iterables, which may be mappings if their keys are put in. */
+static PyObject *change_each(PyObject *self, PyObject *iterables, Update update) {
+    const Py_ssize_t count = PyTuple_Size(iterables);
+    PyObject *changed = NULL;
+    Py_ssize_t read = 0;
+    Batch *batches = PyMem_Malloc((size_t)count * sizeof *batches);
+    if (!batches) return PyErr_NoMemory();
+    while (read < count && read_batch(PyTuple_GetItem(iterables, read), update == insert, &batches[read]) == 0) read++;
+    if (read == count) changed = change_all(self, update, put, batches, count);
+    while (read) free_batch(&batches[--read]);
+    PyMem_Free(batches);
+    return changed;
 }
 
-static PyObject *trie_difference_update(PyObject *self, PyObject *iterables) {
-    size_t count;
-    uint32_t *read = read_each(iterables, &count, read_key);
-    return read ? change_all(self, take_out, read, read, count) : NULL;
-}
+static PyObject *trie_update(PyObject *self, PyObject *iterables) { return change_each(self, iterables, insert); }
+static PyObject *trie_difference_update(PyObject *self, PyObject *iterables) { return change_each(self, iterables, take_out); }
 
 static PyObject *trie_put_all(PyObject *self, PyObject *args) {
-    PyObject *keys, *weights;
-    size_t count, weight_count;
-    if (!PyArg_UnpackTuple(args, "put_all", 2, 2, &keys, &weights)) return NULL;
-    uint32_t *read = read_all(keys, &count, read_key);
-    uint32_t *heavy = read ? read_all(weights, &weight_count, read_weight) : NULL;
-    if (heavy && count == weight_count) return change_all(self, put, read, heavy, count);
-    if (heavy) raise_code(AUG_BAD_LENGTH);
-    PyMem_Free(heavy);
-    PyMem_Free(read);
-    return NULL;
+    PyObject *keys, *weights, *changed = NULL;
+    size_t count;
+    Batch batch;
+    if (!PyArg_UnpackTuple(args, "put_all", 2, 2, &keys, &weights) || read_batch(keys, 0, &batch)) return NULL;
+    uint32_t *heavy = read_all(weights, &count, read_weight, NULL);
+    if (heavy) {
+        batch.numbers = heavy;
+        if (count == batch.count) changed = change_all(self, insert, put_or_replace, &batch, 1);
+        else raise_text(AUG_BAD_LENGTH, "there are %zu keys and %zu weights", batch.count, count);
+    }
+    free_batch(&batch);
+    return changed;
 }
 
 /* How many updates are left to this thread. Other threads run while it waits. */
@@ -285,6 +323,24 @@ static PyObject *trie_room(PyObject *self, PyObject *unused) {
         if (left != AUG_AGAIN) return told_number(left);
         if (wait_for_others((Trie *)self, turn)) return NULL;
     }
+}
+
+/* How many members there are, or a number below 0 where that would take a place of a trie that has none left, or a wait. */
+static int64_t size_at_hand(Trie *trie) {
+    if (trie->is_closed) return is_ours(trie) ? (int64_t)trie->report.size : AUG_CLOSED;
+    Seat *seat = seat_at_hand(trie);
+    if (!seat || aug_try_look(&seat->handle) != AUG_OK) return AUG_AGAIN;
+    int64_t size = aug_size(&seat->handle);
+    aug_look_done(&seat->handle);
+    return size;
+}
+
+static PyObject *trie_repr(PyObject *self) {
+    Trie *trie = (Trie *)self;
+    const char *closed = is_open(trie) ? "" : " closed";
+    const int64_t size = size_at_hand(trie);
+    if (size < 0) return PyUnicode_FromFormat("<augtrie.Trie bits=%u users=%u%s>", (unsigned)trie->bits, (unsigned)trie->users, closed);
+    return PyUnicode_FromFormat("<augtrie.Trie bits=%u users=%u size=%lld%s>", (unsigned)trie->bits, (unsigned)trie->users, (long long)size, closed);
 }
 
 static PyObject *trie_bits(PyObject *self, void *unused) {
@@ -313,13 +369,14 @@ static PyMethodDef methods[] = {
      "popitem($self, /, index=-1)\n--\n\nTakes out the last member, or with 0 the first: its key and its weight. KeyError if there is none. Each member "
      "comes to one caller."},
     {"update", trie_update, METH_VARARGS,
-     "update($self, /, *keys)\n--\n\nPuts the keys of some iterables in, each by an update of its own: how many were not there. If one is no key of the trie, none "
-     "goes in."},
+     "update($self, /, *keys)\n--\n\nPuts the keys of some iterables in, each by an update of its own: how many were not there. A key that is there keeps its weight, "
+     "but those of a mapping get the weights that it has. If one is no key of the trie, none goes in."},
     {"difference_update", trie_difference_update, METH_VARARGS,
      "difference_update($self, /, *keys)\n--\n\nTakes the keys of some iterables out, each by an update of its own: how many were there."},
     {"put_all", trie_put_all, METH_VARARGS,
-     "put_all($self, keys, weights, /)\n--\n\nPuts keys in, each with the weight that has its index, or gives members these weights: how many were "
-     "not there. Refused as update is, and with BadLength if there are not as many weights as keys."},
+     "put_all($self, keys, weights, /)\n--\n\nPuts keys in, each with the weight that has its index, or gives members these weights: how many updates changed "
+     "the set, and these are all, since one before which another thread changed its key is made again. Refused as update is, and with BadLength if there are not "
+     "as many weights as keys."},
     {"room", trie_room, METH_NOARGS,
      "room($self, /)\n--\n\nHow many updates are left to this thread until it takes a spare part of the table, or the table is full. None of them is made."},
     {"snapshot", trie_snapshot, METH_NOARGS,
@@ -328,7 +385,8 @@ static PyMethodDef methods[] = {
     {"tend", trie_tend, METH_NOARGS,
      "tend($self, /)\n--\n\nLays a piece of the next round out, once the table is nearly full: True if there is more to do now. Updates do the same in between."},
     {"close", trie_close, METH_NOARGS,
-     "close($self, /)\n--\n\nEnds all snapshots, and closes the trie: what its life came to. The same again if it is closed already."},
+     "close($self, /)\n--\n\nCloses the trie: what its life came to. The same again if it is closed already. It waits for the calls of other threads. Snapshots that "
+     "are open answer as before until they end."},
     {"__enter__", trie_enter, METH_NOARGS, "The trie."},
     {"__exit__", trie_exit, METH_VARARGS, "Closes the trie."},
     {NULL, NULL, 0, NULL},
@@ -342,10 +400,11 @@ static PyGetSetDef fields[] = {
 static PyType_Slot slots[] = {
     {Py_tp_doc,
      "Trie(bits, users=16, bytes=None)\n--\n\nThe empty set of keys below 2^bits, with 1 to 16 bits, for so many threads at a time, at most 64. Its "
-     "table takes at most so many bytes, by default 6 MiB and 768 for each key below 2^bits. TooLarge if these are fewer than 64 updates of each thread "
+     "table takes at most so many bytes, by default 6 MiB and 768 for each key below 2^bits. BadBytes if these are fewer than 64 updates of each thread "
      "take, or more than 3 * 2^29."},
     {Py_tp_new, trie_new},
     {Py_tp_dealloc, trie_free},
+    {Py_tp_repr, trie_repr},
     {Py_tp_methods, methods},
     {Py_tp_getset, fields},
     {0, NULL},

@@ -11,8 +11,8 @@
 """
 
 from augtrie._augtrie import (
-    Again, AugtrieError, BadBits, BadKey, BadLength, BadUsers, Closed, Looking, Members, NoMemory, NotLooking, NoUser, Open, Report, Snapshot,
-    Span, TooGreat, TooLarge, TooLittle, Trie, __version__)
+    Again, AugtrieError, BadBits, BadBytes, BadKey, BadLength, BadUsers, Closed, Looking, Members, NoMemory, NothingToCompare, NotLooking, NoUser, Open,
+    Report, Snapshot, Span, TooGreat, TooLittle, Trie, __version__)
 
 __all__ = ["Trie", "Snapshot", "Members", "Span", "Report", "AugtrieError", "Closed", "BadKey", "Again", "NoMemory", "BadBits", "BadUsers",
-           "TooLarge", "NoUser", "Open", "BadLength", "Looking", "NotLooking", "TooGreat", "TooLittle"]
+           "BadBytes", "NoUser", "Open", "BadLength", "Looking", "NotLooking", "TooGreat", "TooLittle", "NothingToCompare"]

@@ -369,14 +369,14 @@ static PyMethodDef methods[] = {
      "popitem($self, /, index=-1)\n--\n\nTakes out the last member, or with 0 the first: its key and its weight. KeyError if there is none. Each member "
      "comes to one caller."},
     {"update", trie_update, METH_VARARGS,
-     "update($self, /, *keys)\n--\n\nPuts the keys of some iterables in, each by an update of its own: how many were not there. A key that is there keeps its weight, "
-     "but those of a mapping get the weights that it has. If one is no key of the trie, none goes in."},
+     "update($self, /, *keys)\n--\n\nPuts the keys of some iterables in, each by an update of its own: how many were not there. A key that is there keeps its "
+     "weight, but those of a mapping get the weights that it has. If one is no key of the trie, none goes in."},
     {"difference_update", trie_difference_update, METH_VARARGS,
      "difference_update($self, /, *keys)\n--\n\nTakes the keys of some iterables out, each by an update of its own: how many were there."},
     {"put_all", trie_put_all, METH_VARARGS,
      "put_all($self, keys, weights, /)\n--\n\nPuts keys in, each with the weight that has its index, or gives members these weights: how many updates changed "
-     "the set, and these are all, since one before which another thread changed its key is made again. Refused as update is, and with BadLength if there are not "
-     "as many weights as keys."},
+     "the set, and these are all, since one before which another thread changed its key is made again. Refused as update is, and with BadLength if there are "
+     "not as many weights as keys."},
     {"room", trie_room, METH_NOARGS,
      "room($self, /)\n--\n\nHow many updates are left to this thread until it takes a spare part of the table, or the table is full. None of them is made."},
     {"snapshot", trie_snapshot, METH_NOARGS,
@@ -385,8 +385,8 @@ static PyMethodDef methods[] = {
     {"tend", trie_tend, METH_NOARGS,
      "tend($self, /)\n--\n\nLays a piece of the next round out, once the table is nearly full: True if there is more to do now. Updates do the same in between."},
     {"close", trie_close, METH_NOARGS,
-     "close($self, /)\n--\n\nCloses the trie: what its life came to. The same again if it is closed already. It waits for the calls of other threads. Snapshots that "
-     "are open answer as before until they end."},
+     "close($self, /)\n--\n\nCloses the trie: what its life came to. The same again if it is closed already. It waits for the calls of other threads. "
+     "Snapshots that are open answer as before until they end."},
     {"__enter__", trie_enter, METH_NOARGS, "The trie."},
     {"__exit__", trie_exit, METH_VARARGS, "Closes the trie."},
     {NULL, NULL, 0, NULL},

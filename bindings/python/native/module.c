@@ -23,7 +23,7 @@ static const struct {
     {AUG_NO_MEMORY, "augtrie.NoMemory", &PyExc_MemoryError, NULL},
     {AUG_BAD_BITS, "augtrie.BadBits", &PyExc_ValueError, NULL},
     {AUG_BAD_USERS, "augtrie.BadUsers", &PyExc_ValueError, NULL},
-    {AUG_TOO_LARGE, "augtrie.BadBytes", &PyExc_ValueError, NULL},
+    {AUG_TOO_LARGE, "augtrie.BadBytes", &PyExc_ValueError, "the bytes are fewer than 64 updates of each thread take, or more than 3 * 2^29"},
     {AUG_NO_USER, "augtrie.NoUser", NULL, NULL},
     {AUG_OPEN, "augtrie.Open", NULL, NULL},
     {AUG_BAD_LENGTH, "augtrie.BadLength", &PyExc_ValueError, NULL},

@@ -31,10 +31,6 @@ module _ (face : ℕ → ℕ → List (ℕ × ℕ) → List ℕ) (a : TableId) (
   some_words : 0 < size
   some_words = some_size v.shape lead.1.knows.laid_out.workers.0
 
-  -- its own part, and the one that is laid out
-  pub lead_parts : 2 ^ v.shape.bits ≤ v.shape.members → (p.own < length p.out.items) × ((p.next < length p.out.items) × (p.next ≢ p.own)) × (length p.out.items * size < 2 ^ 60)
-  lead_parts room = let n = lead.4.next room in (lead.4.own, (n.0, n.1), subst (λ (z : ℕ). z < 2 ^ 60) lead.4.whole lead.0.few)
-
   module _ (p' : Parts) (other' : ℕ) (shown' : List ℕ) (own : p'.own ≡ p.own) (out : p'.out.items ≡ p.out.items) (where_next : (p'.next < length p.out.items) × (p'.next ≢ p.own))
       (same : p'.next ≡ p.next → (other' ≡ other) × (shown' ≡ shown))
       (turned : p'.next ≢ p.next → (other' ≡ p'.next * size) × (length shown' ≡ length shown) × ((slot : ℕ) → get_or shown' slot 0 ≡ 0)) where

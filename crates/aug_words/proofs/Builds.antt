@@ -1,4 +1,5 @@
 -- The words of a table are filled node by node.
+
 use Rattle.std.proofs.Common.{true, false, ◌≡◌, ℕ, zero, suc, ◌+◌, ◌-◌, ◌*◌, ◌%◌, ◌^◌, ◌<◌, ◌≤◌, ◌≢◌, ◌⊎◌, inl, inr, max, Bool, ◌||◌, eqb, eq-eqb, ne_eqb, leb, le-leb, le-ltb, lt-ltb, if◌then◌else◌, List, [], ◌∷◌, ◌++◌, length, get_or, set, take, replicate, All, refl, sym, ap, ◌∙◌, subst, ⊎_elim, arith, length-set, length-append, get_or-set_other, get_or-set_same}
 use Rattle.std.proofs.lemmas.Bool.{cases_eq, cases_lt, lt-leb}
 use Rattle.std.proofs.lemmas.List.{take_all, take_more, take-append-le, get_or-append_right, get_or_read}
@@ -86,9 +87,6 @@ own_later o l p (suc n) le = ⊎_elim (λ (lt : p < suc n). let h = own_later o 
 
 own_after : (o : Opening) (l p : ℕ) → owns o l p ≡ true → own_before o l (suc p) ≡ own_before o l p + 1
 own_after o l p has = ap (λ (z : Bool). own_before o l p + (if z then 1 else 0)) has
-
-pub own_same : (o : Opening) (l p : ℕ) → owns o l p ≡ false → own_before o l (suc p) ≡ own_before o l p
-own_same o l p none = ap (λ (z : Bool). own_before o l p + (if z then 1 else 0)) none ∙ (let e : own_before o l p + 0 ≡ own_before o l p = omega arith in e)
 
 -- a node's own record has a greater number than those of all nodes before it
 pub number_rises : (o : Opening) → Rises (keys_of o.members) → length (keys_of o.members) ≤ o.shape.members → (q r l p k n : ℕ) → IsWord o.shape (suc l) p q → IsWord o.shape (suc k) n r → q < r → owns o (suc k) n ≡ true → number_at o (suc l) p < number_at o (suc k) n

@@ -1,6 +1,5 @@
 -- A lead lays out the part of its table beside the one at work, and then all of that part is as an opening demands.
 use Rattle.std.proofs.Common.{◌≡◌, ℕ, ◌+◌, ◌-◌, ◌/◌, ◌^◌, ◌<◌, ◌≤◌, ◌≢◌, ◌⊎◌, inl, inr, List, [], ◌∷◌, ◌++◌, length, append-nil, get_or, set, All, refl, sym, ap, ◌∙◌, subst, ⊎_elim, arith, length-set, get_or-set_other, get_or-set_same}
-use Rattle.std.proofs.lemmas.List.{set-get_or}
 use Rattle.std.proofs.lemmas.Bool.{cases_eq}
 use Rattle.aug_model.specs.Keys.{IsKeySet, keys_of}
 use Rattle.aug_model.proofs.Boundaries.{IsKeySet-few}
@@ -14,7 +13,7 @@ use Rattle.aug_core.specs.Renewals.{rewriting, reread, rewrote, IsOpened}
 use Rattle.aug_core.specs.declared.view.SeatView.{SeatView}
 use Rattle.aug_core.proofs.Sizes.{twice, some_leaf}
 use Rattle.aug_core.proofs.Levels.{on_level}
-use Rattle.aug_core.proofs.PrefixLemmas.{prefix_refl, prefix_trans}
+use Rattle.aug_core.proofs.PrefixLemmas.{prefix_trans}
 use Rattle.aug_words.specs.inside.Builds.{AreWords, WritesFive, IsReady}
 use Rattle.aug_words.specs.inside.SeatState.{IsStore}
 use Rattle.aug_words.specs.inside.Laying.{own_number, InChunk, FreesLanes, SharesRecords, ChangesPart, StepsBeside, PutsWord, MayLay, MayBring, IsLaidAs, ShownBelow, IsDraft, Drafts, words_in}
@@ -119,13 +118,6 @@ module _ (base : ℕ) (s : Shape) where
     puts = part_set base (word_count s) place value v.whole inside;
   })
 
-  -- or it was there
-  pub puts_none : (v w : SeatView) (i place value : ℕ) → i ≡ base + place → place < word_count s → w ≡ v → value ≡ get_or v.whole i 0 → PutsWord base s place value v w
-  puts_none v w i place value at inside is found =
-      let same : get_or v.whole (base + place) 0 ≡ value = ap (λ (z : ℕ). get_or v.whole z 0) (sym at) ∙ sym found in
-      let again : set v.whole (base + place) value ≡ v.whole = ap (set v.whole (base + place)) (sym same) ∙ set-get_or v.whole (base + place) 0 in
-      subst (PutsWord base s place value v) (sym is) record { changes = changes_none v; puts = ap (table_part base (word_count s)) (sym again) ∙ part_set base (word_count s) place value v.whole inside }
-
   module _ (a a' t : TableId) (me me' : Sat) (m : MayLay a t base s me) (one : a' ≡ a) (empty : me'.1 ≡ []) where
     -- it may go on to do so
     pub lays_on : ChangesPart base s me.0 me'.0 → MayLay a' t base s me'
@@ -159,9 +151,6 @@ pub knows_steps : (f : ℕ → ℕ → List (ℕ × ℕ) → List ℕ) (v : Seat
 knows_steps f v whole steps kn = record { laid_out = kn.laid_out; key_set = kn.key_set; members_fit = kn.members_fit; few_members = kn.few_members; book = kn.book; opened = kn.opened; fits = kn.fits }
 
 module _ (base : ℕ) (s : Shape) where
-  pub beside_none : (v : SeatView) → StepsBeside base s v v
-  beside_none v = record { view_is = refl; beside = record { long = refl; same = λ i apart. refl }; steps = prefix_refl v.steps }
-
   pub beside_on : (u v w : SeatView) → StepsBeside base s u v → StepsBeside base s v w → StepsBeside base s u w
   beside_on u v w a b = record {
     view_is = b.view_is ∙ (λ i. record (a.view_is i) { whole = w.whole; steps = w.steps });

@@ -201,9 +201,6 @@ module _ (face : ℕ → ℕ → List (ℕ × ℕ) → List ℕ) (a : TableId) (
   root_below s top shape is = let on = level_is s (root_place s) s.bits 0 (root_word s) in let level = ap (level_of s) is ∙ on.0 in let place = ap (place_on s) is ∙ on.1 in
       subst (λ (z : ℕ × ℕ). ShownBelow face s me.0.seen (words_in other s me.0) shown z.0 z.1) (λ i. (sym level i, sym place i)) (subst (λ (z : Shape). ShownBelow face z me.0.seen (words_in other z me.0) shown z.bits 0) shape draft.below)
 
-  pub root_noted : (s : Shape) → me.0.shape ≡ s → length shown ≡ 2 ^ s.bits
-  root_noted s shape = draft.noted ∙ ap (λ (z : Shape). 2 ^ z.bits) shape
-
   -- and is a lead that has done so
   pub lead_brought : (a' : TableId) (noted : List ℕ) (me' : Sat) (s : Shape) (top : ℕ) → me.0.shape ≡ s → top ≡ root_place s → a' ≡ a → me'.1 ≡ [] → StepsBeside other s me.0 me'.0
       → Brings face s me.0.seen (level_of s top) (place_on s top) (words_in other s me.0) (words_in other s me'.0) shown noted → IsLead face a' b next root other noted parts me'

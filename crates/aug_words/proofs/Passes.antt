@@ -1,5 +1,5 @@
 -- The seat of a pass after a step.
-use Rattle.std.proofs.Common.{◌≡◌, ℕ, ◌+◌, ◌-◌, ◌*◌, ◌<◌, ◌≤◌, length, length-set, List, [], ◌∷◌, ◌++◌, refl, sym, ap, ◌∙◌, subst, ⊎_elim, Some}
+use Rattle.std.proofs.Common.{◌≡◌, ℕ, ◌+◌, ◌-◌, ◌*◌, ◌<◌, ◌≤◌, length, length-set, List, [], ◌∷◌, ◌++◌, refl, sym, ap, ◌∙◌, subst, ⊎_elim}
 use mathlib.Core.Option.{some}
 use lib.ListN.{get_elem?}
 use Rattle.atomic_table.specs.Seated.{TableId}
@@ -7,10 +7,8 @@ use Rattle.aug_core.specs.Places.{Shape, lane_place, record_start, record_count,
 use Rattle.aug_core.specs.Lanes.{IsOfLane, block_start, block_size}
 use Rattle.aug_core.specs.Book.{Book}
 use Rattle.std.proofs.lemmas.Bool.{cases_eq}
-use Rattle.aug_core.specs.Pasts.{learnt_of}
-use Rattle.aug_core.specs.Learning.{learning}
-use Rattle.aug_core.specs.Effects.{Sat, stepping, old_word, new_word, made_by, with_changes, with_published, Sees, LoadsLeaf, BeginsAtLeaf, LoadsNode, TriesLeaf, TriesNode, HoldsOnly, HasSeen, KnowsTable, Owns, MayStore, ReadsRecord, on_first, with_word, storing, beginning, own_lane}
-use Rattle.aug_core.specs.Eras.{IsAtWork, seen_in}
+use Rattle.aug_core.specs.Effects.{Sat, stepping, old_word, new_word, made_by, with_changes, with_published, Sees, LoadsLeaf, BeginsAtLeaf, LoadsNode, TriesLeaf, TriesNode, HoldsOnly, HasSeen, KnowsTable, Owns, MayStore, ReadsRecord, on_first, with_word, storing, beginning}
+use Rattle.aug_core.specs.Eras.{IsAtWork}
 use Rattle.aug_core.specs.inside.LaneStates.{HasTakenLane}
 use Rattle.aug_core.specs.Kinds.{load_leaf, try_leaf, load_node, try_node, load_record_word, store_record_word}
 use Rattle.aug_core.specs.declared.step.StepTaken.{StepTaken}
@@ -20,7 +18,7 @@ use Rattle.aug_core.specs.declared.view.Held.{Held}
 use Rattle.aug_core.specs.declared.view.LaneState.TheVariants.{Taken}
 use Rattle.aug_core.specs.declared.view.SeatView.{SeatView}
 use Rattle.aug_core.proofs.Sizes.{record_inside}
-use Rattle.aug_core.proofs.Fits.{knows_shown, knows_same, knows_told}
+use Rattle.aug_core.proofs.Fits.{knows_shown, knows_same}
 use Rattle.aug_core.proofs.Stores.{alone, one_held}
 use Rattle.aug_core.proofs.Eras.{holds_lane}
 use Rattle.aug_words.specs.inside.SeatState.{IsPlaced, SitsAt, IsPassSeat, LendsHere}
@@ -130,25 +128,6 @@ module _ (face : ℕ → ℕ → List (ℕ × ℕ) → List ℕ) (a a' t : Table
     },
   )
 
-  -- a pass that took in a note
-  pub pass_learnt : (w : SeatView) → me'.0 ≡ learning me.0 w → me'.1 ≡ me.1 → IsPass
-  pass_learnt w is same = let seat = is_pass.1 in (
-    sits_on a a' t b l r me.0 me'.0 is_pass.0 one (ap (λ (z : SeatView). z.shape) is) (ap (λ (z : SeatView). z.base) is),
-    subst (IsPassSeat face lane lent) (λ i. (sym is i, sym same i)) record {
-      live = seat.live;
-      no_slot = seat.no_slot;
-      held = seat.held;
-      only = seat.only;
-      named = seat.named;
-      taken = seat.taken;
-      long = seat.long;
-      exists = seat.exists;
-      follows = seat.follows;
-      lends = seat.lends;
-      knows = knows_told face me.0 (seen_in me.0.era w).seen (Some (learnt_of w)) seat.knows;
-    },
-  )
-
   pub pass_loaded : (place word : ℕ) → (me'.1 ≡ []) × ReadsRecord me.0 place word me'.0 → IsPass
   pass_loaded place word did = let seat = is_pass.1 in kept seat.held me.0.held (me.0.steps ++ load_record_word place word ∷ []) seat.only seat.named seat.taken seat.long did.0 did.1.stepped
 
@@ -161,9 +140,6 @@ module _ (face : ℕ → ℕ → List (ℕ × ℕ) → List ℕ) (lane lent : �
   -- a pass's lane is taken
   pub has_taken : HasTakenLane me.0
   has_taken = record { lane = seat.held; only = seat.only; taken = seat.taken }
-
-  pub own_lane_is : own_lane me.0.held ≡ lane
-  own_lane_is = ap own_lane seat.only ∙ seat.named
 
   -- so that it is at work
   pub works_on : IsAtWork me.0

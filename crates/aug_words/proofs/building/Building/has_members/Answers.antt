@@ -1,7 +1,6 @@
 use Rattle.std.proofs.Common.{arith, ap, ◌∙◌, leb}
 use Rattle.aug_core.specs.Faces.{face}
 use Rattle.aug_words.proofs.Builds.{rises, next_node, ready_number, has_by_children}
-use Rattle.aug_words.proofs.Spots.{low_word}
 use Rattle.aug_words.proofs.building.Building.has_members.Goals as goal
 use Rattle.aug_words.proofs.building.Building.has_members.Goals.{then-level-eq0, else-level-eq0}
 
@@ -23,18 +22,3 @@ returns g c =
     (λ z. elim c.if-level-eq0.branch [ then-level-eq0 w ↦ absurd (z w.if-level-eq0.true) | else-level-eq0 w ↦ w.least-is ∙ w.from-least.ensures ∙ b.bits_are ])
     (ready_number f o words _ c.index.result.now n.left_ready c.index.ensures ∙ n.left_number)
     (ready_number f o words _ c.index-2.result.now n.right_ready c.index-2.ensures ∙ n.right_number)
-
-pub overflow_add-left-2 : goal.overflow_add-left-2
-overflow_add-left-2 g c = let b = c.args.self.now.plan in let n = next_node _ b c.args.level c.args.first c.args.place c.args.self.now.words.items
-    c.requires.node in
-    record { fits = low_word b.key.shape _ n.right_ready.inside b.laid_out.words }
-
-pub overflow_mul-left : goal.overflow_mul-left
-overflow_mul-left g c = let b = c.args.self.now.plan in let n = next_node _ b c.args.level c.args.first c.args.place c.args.self.now.words.items
-    c.requires.node in
-    record { fits = low_word b.key.shape _ n.left_ready.inside b.laid_out.words }
-
-pub overflow_add-left : goal.overflow_add-left
-overflow_add-left g c = let b = c.args.self.now.plan in let n = next_node _ b c.args.level c.args.first c.args.place c.args.self.now.words.items
-    c.requires.node in
-    record { fits = low_word b.key.shape _ n.inner.inside b.laid_out.words }

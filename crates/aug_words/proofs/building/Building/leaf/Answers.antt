@@ -1,8 +1,6 @@
-use Rattle.std.proofs.Common.{arith, ap, subst, sym, ◌∙◌, ◌<◌, ℕ, List, length}
-use Rattle.std.proofs.lemmas.List.{get_or_read}
+use Rattle.std.proofs.Common.{arith, ap, ◌∙◌, length}
 use Rattle.aug_monoid.specs.Fold.{fold_of}
 use Rattle.aug_words.proofs.Builds.{leaf_tells, rises, ready_number}
-use Rattle.aug_words.proofs.Spots.{small_place}
 use Rattle.aug_words.proofs.building.Building.leaf.Goals as goal
 
 pub of_leaf-requires : goal.of_leaf-requires
@@ -19,9 +17,3 @@ returns-clause-a g c = let b = c.args.self.now.plan in let o = b.key in let are 
 pub returns-clause-b : goal.returns-clause-b
 returns-clause-b g c = let b = c.args.self.now.plan in let o = b.key in let are = b.leaves_are in let leaf = c.requires.leaf in
     c.of_leaf.ensures.b ∙ ap (fold_of g.B.Monoid.parts) (leaf_tells o (rises o b.key_set) b.members_fit c.args.place _ (omega arith) (ready_number _ o c.args.self.now.words.items c.args.place _ c.requires.ready c.index.ensures))
-
-pub returns-clause-number : goal.returns-clause-number
-returns-clause-number g c = let words : List ℕ = c.args.self.now.words.items in let ready = c.requires.ready in
-    c.of_leaf.ensures.number ∙ get_or_read words c.args.place c.index.result.now (subst (λ (z : ℕ). c.args.place < z) (sym ready.long) (small_place
-    c.args.self.now.plan.key.shape c.args.place ready.inside))
-    c.index.ensures 0 ∙ ready.word

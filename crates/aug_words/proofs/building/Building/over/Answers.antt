@@ -3,11 +3,9 @@ use Rattle.std.proofs.lemmas.Nat.{one_shl}
 use Rattle.aug_core.specs.Places.{Shape, level_start}
 use Rattle.aug_model.specs.Keys.{is_member, keys_of}
 use Rattle.aug_core.specs.Faces.{face}
-use Rattle.aug_core.proofs.Sizes.{own_none}
+use Rattle.aug_core.proofs.Sizes.{own_none, own_next, own_few_more}
 use Rattle.aug_words.specs.declared.building.Plan.{Plan}
 use Rattle.aug_words.specs.inside.Builds.{HasParts, next_own, IsMarked, IsBuilt}
-use Rattle.aug_words.proofs.Brought.{below_last, goes_on}
-use Rattle.aug_words.proofs.Levelled.{few_bits_32, own_few, own_up}
 use Rattle.aug_words.proofs.Builds.{rises, built_none, members_below_keys, next_level, first_nodes, last_nodes}
 use Rattle.aug_words.proofs.building.Building.over.Goals as goal
 
@@ -55,23 +53,23 @@ loop-level-2-init g c =
 pub loop-level-2-preserved : goal.loop-level-2-preserved
 loop-level-2-preserved g c =
     let m = g.A.Monoid in let n = g.B.Monoid in let b = c.put_level.new.self.plan in let words = c.put_level.new.self.words.items in let o = b.key in let s = o.shape in let i = c.loop-level-2.invariant in let level = c.loop-level-2.level in let under = c.loop-level-2-test.true in
-    let same = c.put_level.ensures.same in let was = ap (λ (z : Plan). z.bits) same in let bits = b.bits_are in let few_bits = b.laid_out.bits.1 in
-    let ends = i.last ∙ sym was in let low : level < s.bits = subst (λ (z : ℕ). level < z) (ends ∙ bits) under in
+    let same = c.put_level.ensures.same in let was = ap (λ (z : Plan). z.bits) same in let last = i.last in let bits = b.bits_are in let few_bits = b.laid_out.bits.1 in
+    let low : level < s.bits = omega arith in
     let shape = ap (λ (z : Plan). z.key.shape) same ∙ i.shape in
     let first : c.loop-level-2.first ≡ level_start s (suc level) = i.first ∙ ap (λ (z : Plan). level_start z.key.shape (suc level)) (sym same) in
     let next : c.loop-level-2.next ≡ next_own o level 0 = i.next ∙ ap (λ (z : Plan). next_own z.key level 0) (sym same) in
-    let shifted = one_shl (b.bits - 1 - level) 32 (few_bits_32 b.bits level bits few_bits) in
+    let shifted = one_shl (b.bits - 1 - level) 32 (omega arith) in
     let nodes : (1 * 2 ^ (b.bits - 1 - level)) % 2 ^ 32 ≡ 2 ^ (s.bits - 1 - level) = shifted ∙ ap (λ (z : ℕ). 2 ^ (z - 1 - level)) bits in
     let more : c.from-next-in-loop-level-2.result ≡ min s.members (2 ^ (s.bits - 1 - level)) = c.from-next-in-loop-level-2.ensures ∙ c.min.ensures ∙ ap₂ min (c.members.ensures ∙ ap (λ (z : Shape). z.members) (sym shape)) nodes in
-    record {
-      in_range = goes_on level _ b.bits under ends;
+    let own = own_next s.bits s.members level low in let small = own_few_more s.bits s.members level few_bits in let few = i.few in record {
+      in_range = omega arith;
       last = i.last ∙ ap (λ (z : Plan). z.bits) (sym same);
       shape = shape;
       members = ap (λ (z : Plan). z.key.members) same ∙ i.members;
       parts = subst (λ (z : Plan). HasParts c.args.layout.now z.lanes z.records) (sym same) i.parts;
       first = ap₂ (λ (x y : ℕ). x + y) first nodes ∙ next_level s level low;
-      next = own_up o level c.loop-level-2.next c.from-next-in-loop-level-2.result low next more;
-      few = own_few s level c.loop-level-2.next c.from-next-in-loop-level-2.result few_bits i.few more;
+      next = omega arith;
+      few = omega arith;
       built = subst (λ (z : Plan). IsBuilt (face m.parts n.parts) z.key z.key.shape.bits (level_start z.key.shape (suc (level + 1))) words) (sym same) c.put_level.ensures.built;
     }
 
@@ -80,25 +78,3 @@ returns-clause-built g c =
     let m = g.A.Monoid in let n = g.B.Monoid in let b = c.loop-level-2.building.plan in let words = c.loop-level-2.building.words.items in let s = b.key.shape in let i = c.loop-level-2.invariant in let within = i.in_range in let last = i.last in let past = c.loop-level-2-test.false in let bits = b.bits_are in
     let all : c.loop-level-2.level ≡ s.bits = omega arith in
     subst (λ (z : ℕ). IsBuilt (face m.parts n.parts) b.key s.bits z words) (ap (λ (z : ℕ). level_start s (suc z)) all ∙ last_nodes s) i.built
-
-pub put_level-requires-clause-built : goal.put_level-requires-clause-built
-put_level-requires-clause-built g c = c.loop-level-2.invariant.built
-
-pub overflow_sub-nodes-in-loop-level-2 : goal.overflow_sub-nodes-in-loop-level-2
-overflow_sub-nodes-in-loop-level-2 g c = below_last c.loop-level-2.level _ _ _ c.loop-level-2-test.true c.loop-level-2.invariant.last (ap (λ (z : Plan).
-    z.bits) c.put_level.ensures.same)
-
-pub put_shared-requires-clause-built : goal.put_shared-requires-clause-built
-put_shared-requires-clause-built g c = c.loop-level.invariant.built
-
-pub marked-building-requires-clause-keys : goal.marked-building-requires-clause-keys
-marked-building-requires-clause-keys g c = c.requires.keys
-
-pub marked-building-requires-clause-members_fit : goal.marked-building-requires-clause-members_fit
-marked-building-requires-clause-members_fit g c = c.requires.members_fit
-
-pub marked-building-requires-clause-blank : goal.marked-building-requires-clause-blank
-marked-building-requires-clause-blank g c = c.requires.blank
-
-pub returns-clause-parts : goal.returns-clause-parts
-returns-clause-parts g c = c.loop-level-2.invariant.parts

@@ -1,7 +1,5 @@
-use Rattle.std.proofs.Common.{arith, subst, sym, ◌∙◌, ◌<◌, ℕ, List}
-use Rattle.std.proofs.lemmas.List.{get_or_read}
+use Rattle.std.proofs.Common.{arith}
 use Rattle.aug_words.proofs.Builds.{rises, few_keys, ready_number, record_inside_words}
-use Rattle.aug_words.proofs.Spots.{record_begins, small_place}
 use Rattle.aug_words.proofs.building.Building.record_of.Goals as goal
 
 pub overflow_mul-result : goal.overflow_mul-result
@@ -19,10 +17,3 @@ returns-clause-inside g c = let b = c.args.self.now.plan in let o = b.key in let
 pub returns-clause-few : goal.returns-clause-few
 returns-clause-few g c = let b = c.args.self.now.plan in let o = b.key in let are = b.leaves_are in let first = b.records_are in let node = c.requires.node in let is = ready_number _ o c.args.self.now.words.items c.args.place _ c.requires.ready c.index-number.ensures in
     let room = record_inside_words _ o c.args.self.now.words.items c.args.place (rises o b.key_set) (few_keys b) c.requires.ready (omega arith) in let long = c.requires.ready.long in let few = b.laid_out.words in omega arith
-
-pub returns-clause-value : goal.returns-clause-value
-returns-clause-value g c = let words : List ℕ = c.args.self.now.words.items in let ready = c.requires.ready in
-    record_begins c.args.self.now.plan.key.shape _ _ _ c.args.self.now.plan.records_are
-    (get_or_read words c.args.place c.index-number.result.now (subst (λ (z : ℕ). c.args.place < z) (sym ready.long) (small_place
-    c.args.self.now.plan.key.shape c.args.place ready.inside))
-    c.index-number.ensures 0 ∙ ready.word)

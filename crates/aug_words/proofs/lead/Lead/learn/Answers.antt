@@ -1,6 +1,4 @@
-use Rattle.std.proofs.Common.{ap, subst, sym, ◌∙◌, ◌≡◌, ◌+◌, ◌<◌}
-use Rattle.atomic_table.specs.Seated.{TableId}
-use Rattle.aug_core.specs.Places.{Shape, lane_place}
+use Rattle.std.proofs.Common.{ap, subst, sym, ◌∙◌, ◌≡◌}
 use Rattle.aug_core.specs.Faces.{face}
 use Rattle.aug_core.specs.Addresses.{root_place}
 use Rattle.std.specs.Prelude.{IfSome}
@@ -33,15 +31,3 @@ returns-clause-learns g c = let m = g.A.Monoid in let n = g.B.Monoid in let f = 
     let is : c.join_seat.new.seat.me.0 ≡ learning old note = ap (λ (z : Sat). z.0) c.join_seat.ensures.2 ∙ ap (λ (k : Known). learning k.view c.note.inside.seat.me.0) c.self.view_is ∙ ap (λ (k : Known). learning old k.view) c.note.view_is in
     let both = subst (λ (z : SeatView). LoadsNode f z (root_place z.shape) told.0 after × IfSome z.told (IsLearnt z.shape z.era z.past z.members)) is (told.1, c.load_after_note.ensures.told) in
     (told.0, learnt_note f old note after told.0 both.0 both.1)
-
-pub load_after_note-requires-clause-inside : goal.load_after_note-requires-clause-inside
-load_after_note-requires-clause-inside g c = subst (λ (z : TableId). c.root_word-root.result < z.words) (c.requires.together.one_table
-    ∙ ap (λ (s : Store). s.table) (sym c.words.view_is)) c.root_word-root.ensures.inside
-
-pub load_after_note-requires-clause-root : goal.load_after_note-requires-clause-root
-load_after_note-requires-clause-root g c = c.root_word-root.ensures.value
-    ∙ sym (ap (λ (z : Sat). z.0.base + root_place z.0.shape) c.join_seat.ensures.2 ∙ ap (λ (k : Known). k.view.base + root_place k.view.shape) c.self.view_is)
-
-pub root_word-root-requires : goal.root_word-root-requires
-root_word-root-requires g c = c.words.invariant.lanes_are ∙ ap (λ (z : Store). lane_place z.shape 0) c.words.view_is
-    ∙ ap (λ (z : Shape). lane_place z 0) (sym c.requires.together.one_shape)

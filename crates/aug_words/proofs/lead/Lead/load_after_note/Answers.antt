@@ -1,4 +1,4 @@
-use Rattle.std.proofs.Common.{ap, subst, sym, ◌∙◌, ◌≡◌, ◌+◌}
+use Rattle.std.proofs.Common.{ap, subst, sym, ◌∙◌, ◌≡◌, ◌+◌, arith}
 use Rattle.aug_core.specs.Faces.{face}
 use Rattle.aug_core.specs.Addresses.{root_place}
 use Rattle.std.specs.Prelude.{IfSome}
@@ -9,19 +9,12 @@ use Rattle.aug_core.proofs.EraSteps.{loads_after_note}
 use Rattle.aug_core.specs.declared.view.SeatView.{SeatView}
 use Rattle.aug_words.specs.Seats.{Known}
 use Rattle.aug_words.proofs.Leads.{lead_loaded, root_inner}
-use Rattle.aug_words.proofs.Spots.{small_place}
 use Rattle.aug_words.proofs.lead.Lead.load_after_note.Goals as goal
 
 pub load-number-requires : goal.load-number-requires
-load-number-requires g c = let v : SeatView = c.self.inside.seat.me.0 in let bits = c.self.invariant.1.knows.laid_out.bits in
-    let inner = root_inner v.shape bits.0 bits.1 in
-    let at : c.args.root ≡ v.base + root_place v.shape = subst (λ (k : Known). c.args.root ≡ k.view.base + root_place k.view.shape) (sym c.self.view_is) c.requires.root in (
-      ap (λ (k : Known). k.table) c.self.view_is ∙ c.requires.table,
-      c.requires.inside,
-      loads_after_note _ _ _ _ (root_place v.shape) _ _ (hands_out v
-          c.self.inside.next c.self.invariant.1.hands_out) c.self.invariant.1.live c.self.invariant.1.no_slot (small_place v.shape (root_place v.shape)
-          inner.inside) at,
-    )
+load-number-requires g c = let f = face g.A.Monoid.parts g.B.Monoid.parts in let v : SeatView = c.self.inside.seat.me.0 in let bits = c.self.invariant.1.knows.laid_out.bits in let inner = root_inner v.shape bits.0 bits.1 in
+    let at : c.args.root ≡ v.base + root_place v.shape = subst (λ (k : Known). c.args.root ≡ k.view.base + root_place k.view.shape) (sym c.self.view_is) c.requires.root in
+    let inside = inner.inside in (ap (λ (k : Known). k.table) c.self.view_is ∙ c.requires.table, c.requires.inside, loads_after_note _ _ _ _ (root_place v.shape) _ _ (hands_out v c.self.inside.next c.self.invariant.1.hands_out) c.self.invariant.1.live c.self.invariant.1.no_slot (omega arith) at)
 
 pub invariant_of-self : goal.invariant_of-self
 invariant_of-self g c = let f = face g.A.Monoid.parts g.B.Monoid.parts in let v : SeatView = c.self.inside.seat.me.0 in let bits = c.self.invariant.1.knows.laid_out.bits in let inner = root_inner v.shape bits.0 bits.1 in
@@ -35,6 +28,6 @@ returns-clause-view g c = let f = face g.A.Monoid.parts g.B.Monoid.parts in let 
     (c.load-number.result, subst (λ (k : Known). LoadsNode f k.view (root_place k.view.shape) c.load-number.result c.load-number.new.seat.me.0) c.self.view_is ((c.load-number.ensures.2 (root_place v.shape) at).0.1 inner))
 
 pub returns-clause-told : goal.returns-clause-told
-returns-clause-told g c = let v : SeatView = c.self.inside.seat.me.0 in
+returns-clause-told g c = let f = face g.A.Monoid.parts g.B.Monoid.parts in let v : SeatView = c.self.inside.seat.me.0 in let bits = c.self.invariant.1.knows.laid_out.bits in let inner = root_inner v.shape bits.0 bits.1 in
     let at : c.args.root ≡ v.base + root_place v.shape = subst (λ (k : Known). c.args.root ≡ k.view.base + root_place k.view.shape) (sym c.self.view_is) c.requires.root in
     subst (λ (k : Known). IfSome k.view.told (IsLearnt k.view.shape k.view.era k.view.past k.view.members)) c.self.view_is (c.load-number.ensures.2 (root_place v.shape) at).1

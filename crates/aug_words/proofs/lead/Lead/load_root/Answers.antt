@@ -1,4 +1,4 @@
-use Rattle.std.proofs.Common.{ap, subst, sym, ◌∙◌, ◌≡◌, ◌+◌}
+use Rattle.std.proofs.Common.{ap, subst, sym, ◌∙◌, ◌≡◌, ◌+◌, arith}
 use Rattle.aug_core.specs.Faces.{face}
 use Rattle.aug_core.specs.Addresses.{root_place}
 use Rattle.aug_core.specs.Renewals.{Surveys}
@@ -7,19 +7,12 @@ use Rattle.aug_core.proofs.Renewals.{surveys}
 use Rattle.aug_core.specs.declared.view.SeatView.{SeatView}
 use Rattle.aug_words.specs.Seats.{Known}
 use Rattle.aug_words.proofs.Leads.{lead_loaded, root_inner}
-use Rattle.aug_words.proofs.Spots.{small_place}
 use Rattle.aug_words.proofs.lead.Lead.load_root.Goals as goal
 
 pub load-number-requires : goal.load-number-requires
-load-number-requires g c = let v : SeatView = c.self.inside.seat.me.0 in let bits = c.self.invariant.1.knows.laid_out.bits in
-    let inner = root_inner v.shape bits.0 bits.1 in
-    let at : c.args.root ≡ v.base + root_place v.shape = subst (λ (k : Known). c.args.root ≡ k.view.base + root_place k.view.shape) (sym c.self.view_is) c.requires.root in (
-      ap (λ (k : Known). k.table) c.self.view_is ∙ c.requires.table,
-      c.requires.inside,
-      surveys _ _ _ _ (root_place v.shape) _ _ (hands_out v
-          c.self.inside.next c.self.invariant.1.hands_out) c.self.invariant.1.live c.self.invariant.1.no_slot (small_place v.shape (root_place v.shape)
-          inner.inside) at,
-    )
+load-number-requires g c = let f = face g.A.Monoid.parts g.B.Monoid.parts in let v : SeatView = c.self.inside.seat.me.0 in let bits = c.self.invariant.1.knows.laid_out.bits in let inner = root_inner v.shape bits.0 bits.1 in
+    let at : c.args.root ≡ v.base + root_place v.shape = subst (λ (k : Known). c.args.root ≡ k.view.base + root_place k.view.shape) (sym c.self.view_is) c.requires.root in
+    let inside = inner.inside in (ap (λ (k : Known). k.table) c.self.view_is ∙ c.requires.table, c.requires.inside, surveys _ _ _ _ (root_place v.shape) _ _ (hands_out v c.self.inside.next c.self.invariant.1.hands_out) c.self.invariant.1.live c.self.invariant.1.no_slot (omega arith) at)
 
 pub invariant_of-self : goal.invariant_of-self
 invariant_of-self g c = let f = face g.A.Monoid.parts g.B.Monoid.parts in let v : SeatView = c.self.inside.seat.me.0 in let bits = c.self.invariant.1.knows.laid_out.bits in let inner = root_inner v.shape bits.0 bits.1 in

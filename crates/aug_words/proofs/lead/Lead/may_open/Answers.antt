@@ -1,9 +1,9 @@
-use Rattle.std.proofs.Common.{ap, refl, sym, subst, ◌∙◌, ◌≡◌, ◌*◌, ◌^◌, ◌<◌, ◌≤◌, Bool, true, false, IsTrue, ℕ, length}
+use Rattle.std.proofs.Common.{ap, refl, sym, subst, ◌∙◌, ◌≡◌, ◌*◌, ◌^◌, ◌≤◌, Bool, true, false, IsTrue, ℕ}
 use Rattle.aug_core.specs.Faces.{face}
 use Rattle.aug_core.specs.Places.{word_count}
 use Rattle.aug_words.specs.Leads.{MayOpen}
 use Rattle.aug_words.specs.Seats.{Known, Store}
-use Rattle.aug_words.proofs.Aims.{lead_aimed, lead_parts, may_not_open, may_open_there}
+use Rattle.aug_words.proofs.Aims.{lead_aimed, may_not_open, may_open_there}
 use Rattle.aug_words.proofs.lead.Lead.may_open.Goals as goal
 
 pub invariant_of-self : goal.invariant_of-self
@@ -23,15 +23,3 @@ returns-clause-value g c = let f = face g.A.Monoid.parts g.B.Monoid.parts in
     by_result : (b : Bool) → (b ≡ false → ⊥) → IsTrue b
     by_result true never = refl
     by_result false never = absurd (never refl)
-
-pub aim-requires-clause-next : goal.aim-requires-clause-next
-aim-requires-clause-next g c = (lead_parts (face g.A.Monoid.parts g.B.Monoid.parts) _ _ _ _ _ _ c.self.inside.parts c.self.inside.seat.me c.self.invariant
-    (subst (λ (k : Known). 2 ^ k.view.shape.bits ≤ k.view.shape.members) (sym c.self.view_is) c.requires.room)).1
-
-pub aim-requires-clause-small : goal.aim-requires-clause-small
-aim-requires-clause-small g c =
-    let sized = c.words-2.ensures.value ∙ ap word_count (ap (λ (z : Store). z.shape) c.words.view_is
-    ∙ sym (ap (λ (z : Known). z.view.shape) c.self.view_is ∙ c.requires.together.one_shape)) in
-    subst (λ (z : ℕ). length c.self.inside.parts.out.items * z < 2 ^ 60) (sym sized) (lead_parts (face g.A.Monoid.parts g.B.Monoid.parts) _ _ _ _ _ _
-    c.self.inside.parts c.self.inside.seat.me c.self.invariant (subst (λ (k : Known). 2 ^ k.view.shape.bits ≤ k.view.shape.members) (sym c.self.view_is)
-    c.requires.room)).2

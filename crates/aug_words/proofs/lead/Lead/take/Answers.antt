@@ -1,11 +1,10 @@
-use Rattle.std.proofs.Common.{ap, inl, inr, refl, sym, subst, ◌∙◌, ◌*◌, ◌/◌, ◌<◌, ◌≤◌, ◌≡◌, ℕ}
+use Rattle.std.proofs.Common.{ap, inl, inr, sym, subst, ◌∙◌, ◌*◌, ◌/◌, ◌<◌, ◌≤◌, ◌≡◌, ℕ}
 use Rattle.aug_core.specs.Faces.{face}
 use Rattle.aug_core.specs.Places.{word_count}
 use Rattle.aug_core.specs.Effects.{Sat}
 use Rattle.aug_words.specs.Seats.{Known, Store}
 use Rattle.aug_core.proofs.Eras.{hands_out}
 use Rattle.aug_core.proofs.Lending.{takes_reader}
-use Rattle.aug_core.specs.Readers.{taking_reader}
 use Rattle.aug_words.specs.Leads.{IsNotTaken}
 use Rattle.aug_words.proofs.Aims.{lead_elsewhere, lead_kept, lead_refuses}
 use Rattle.aug_words.proofs.Leads.{lead_took, some_words}
@@ -48,19 +47,3 @@ invariant_of-self-2 g c = let f = face g.A.Monoid.parts g.B.Monoid.parts in let 
     let part = c.reader.inside.base / c.words-size.result in let t = c.take.ensures.taken c.if-not-take.false in
     lead_took f _ _ c.self.inside.base c.self.inside.next c.self.inside.root c.self.inside.draft.base c.self.inside.draft.shown.items c.self.inside.parts c.self.inside.seat.me c.join_seat.new.seat.me c.self.invariant c.join_seat.ensures.0 c.reader.inside.seat.me.0
     part c.take.new.self (subst (λ (z : ℕ). part < z) (c.len.ensures ∙ c.self.inside.parts.out.ok.0) c.if-part-len.false) (sym c.reader.invariant.0.base_is ∙ sym c.if-part-size.false ∙ ap (λ z. part * z) sized) t.0 t.1 c.take.ensures.own c.take.ensures.next t.2 (ap (λ (z : Sat). z.0) c.join_seat.ensures.2) (ap (λ (z : Sat). z.1) c.join_seat.ensures.2)
-
-pub returns-clause-taken : goal.returns-clause-taken
-returns-clause-taken g c = ap (λ (z : Sat). z.0) c.join_seat.ensures.2 ∙ ap (λ (k : Known). taking_reader k.view c.reader.inside.seat.me.0) c.self.view_is
-    ∙ ap (λ (k : Known). taking_reader c.args.self.now.view k.view) c.reader.view_is
-
-pub returns-then-not-take-clause-same : goal.returns-then-not-take-clause-same
-returns-then-not-take-clause-same g c = (refl, c.self.view_is)
-
-pub returns-then-part-size-clause-same : goal.returns-then-part-size-clause-same
-returns-then-part-size-clause-same g c = (refl, refl)
-
-pub returns-clause-table : goal.returns-clause-table
-returns-clause-table g c = c.join_seat.ensures.0 ∙ ap (λ (z : Known). z.table) c.self.view_is
-
-pub take-requires : goal.take-requires
-take-requires g c = subst (λ (z : ℕ). c.reader.inside.base / c.words-size.result < z) (c.len.ensures ∙ c.self.inside.parts.out.ok.0) c.if-part-len.false

@@ -2,15 +2,7 @@ use Rattle.std.proofs.Common.{ap, sym, ◌∙◌}
 use Rattle.aug_core.proofs.Notes.{notes_in_its_era}
 use Rattle.aug_words.specs.Seats.{Store, Known}
 use Rattle.aug_words.proofs.Leads.{some_words}
-use Rattle.aug_core.specs.Effects.{Sat, noted}
-use Rattle.aug_words.proofs.Brought.{same_known}
 use Rattle.aug_words.proofs.note.WordNote.again.Goals as goal
 
 pub split_seat-seat-requires : goal.split_seat-seat-requires
 split_seat-seat-requires g c = (ap (λ (k : Known). k.table) c.self.view_is ∙ c.requires ∙ ap (λ (s : Store). s.table) (sym c.words.view_is), some_words _ _ _ _ _ c.words.invariant, notes_in_its_era _ _ _ _)
-
-pub returns-clause-same : goal.returns-clause-same
-returns-clause-same g c = let split = c.split_seat-seat.ensures in same_known _ _ _ _ c.args.self.now split.0 split.2 c.self.view_is
-
-pub returns-clause-note : goal.returns-clause-note
-returns-clause-note g c = ap (λ (z : Sat). z.0) c.split_seat-seat.ensures.4 ∙ ap (λ (k : Known). noted k.view) c.self.view_is

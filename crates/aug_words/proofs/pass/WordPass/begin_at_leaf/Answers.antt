@@ -1,22 +1,17 @@
-use Rattle.std.proofs.Common.{ap, subst, sym, ◌^◌, ◌+◌, ◌<◌, ℕ}
+use Rattle.std.proofs.Common.{ap, subst, sym, ◌^◌, ◌+◌, ◌<◌, ℕ, arith}
 use Rattle.aug_core.specs.Faces.{face}
 use Rattle.aug_core.specs.Effects.{BeginsAtLeaf}
 use Rattle.aug_core.proofs.EraSteps.{begins_at_leaf}
 use Rattle.aug_words.specs.Seats.{Known}
 use Rattle.aug_words.proofs.Passes.{pass_began_at_leaf, works_on}
-use Rattle.aug_words.proofs.Spots.{leaf_spot, low_place}
+use Rattle.aug_core.proofs.Sizes.{twice}
 use Rattle.aug_words.proofs.pass.WordPass.begin_at_leaf.Goals as goal
 
 pub load-requires : goal.load-requires
 load-requires g c =
-    let sits = c.self.invariant.0 in
+    let sits = c.self.invariant.0 in let wide = sits.placed.wide in let base = sits.placed.base_is in let t = twice c.self.inside.seat.me.0.shape.bits in
     let low = subst (λ (k : Known). c.args.leaf < 2 ^ k.view.shape.bits) (sym c.self.view_is) c.requires in
-    let spot = leaf_spot _ c.self.inside.seat.me.0 c.self.inside.base c.args.leaf sits.placed low in (
-      sits.seated,
-      spot.inside,
-      begins_at_leaf _ _ _ _ c.args.leaf _ _ (works_on _ _ _ _ c.self.invariant.1) c.self.invariant.1.live
-          c.self.invariant.1.no_slot spot.small spot.at,
-    )
+    (sits.seated, omega arith, begins_at_leaf _ _ _ _ c.args.leaf _ _ (works_on _ _ _ _ c.self.invariant.1) c.self.invariant.1.live c.self.invariant.1.no_slot (omega arith) (omega arith))
 
 pub invariant_of-self : goal.invariant_of-self
 invariant_of-self g c = let m = g.A.Monoid in let n = g.B.Monoid in let f = face m.parts n.parts in
@@ -28,8 +23,3 @@ pub returns-clause-view : goal.returns-clause-view
 returns-clause-view g c = let m = g.A.Monoid in let n = g.B.Monoid in let f = face m.parts n.parts in
     let low = subst (λ (k : Known). c.args.leaf < 2 ^ k.view.shape.bits) (sym c.self.view_is) c.requires in
     subst (λ (k : Known). BeginsAtLeaf f k.view c.args.leaf c.load.result c.load.new.seat.me.0) c.self.view_is ((c.load.ensures.2 c.args.leaf (ap (λ (z : ℕ). z + c.args.leaf) c.self.invariant.0.placed.base_is)).1 low)
-
-pub overflow_add-self-inside : goal.overflow_add-self-inside
-overflow_add-self-inside g c =
-    let placed = c.self.invariant.0.placed in let low = subst (λ (k : Known). c.args.leaf < 2 ^ k.view.shape.bits) (sym c.self.view_is) c.requires in
-    record { fits = low_place _ _ (leaf_spot _ c.self.inside.seat.me.0 c.self.inside.base c.args.leaf placed low).inside placed.few }

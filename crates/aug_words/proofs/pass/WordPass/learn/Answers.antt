@@ -9,7 +9,7 @@ use Rattle.aug_core.specs.declared.view.SeatView.{SeatView}
 use Rattle.aug_core.proofs.Notes.{learns_in_its_era}
 use Rattle.aug_words.specs.Seats.{Known}
 use Rattle.aug_words.proofs.Leads.{pass_has_words, learnt_note}
-use Rattle.aug_words.proofs.Passes.{pass_learnt, works_on}
+use Rattle.aug_words.proofs.Passes.{works_on}
 use Rattle.aug_words.proofs.pass.WordPass.learn.Goals as goal
 
 pub join_seat-requires : goal.join_seat-requires
@@ -28,8 +28,3 @@ returns-clause-learns g c = let m = g.A.Monoid in let n = g.B.Monoid in let f = 
     let is : mid ≡ learning old note = ap (λ (z : Sat). z.0) c.join_seat.ensures.2 ∙ ap (λ (k : Known). learning k.view c.note.inside.seat.me.0) c.self.view_is ∙ ap (λ (k : Known). learning old k.view) c.note.view_is in
     let both = subst (λ (z : SeatView). LoadsNode f z (root_place z.shape) number after × IfSome z.told (IsLearnt z.shape z.era z.past z.members)) is (c.load_after_note.ensures.view, c.load_after_note.ensures.told) in
     learnt_note f old note after number both.0 both.1
-
-pub invariant_of-self : goal.invariant_of-self
-invariant_of-self g c = let joined = c.join_seat.ensures.2 in
-    pass_learnt (face g.A.Monoid.parts g.B.Monoid.parts) _ _ _ _ _ _ _ _ c.self.inside.seat.me c.join_seat.new.seat.me c.self.invariant
-    c.join_seat.ensures.0 c.note.inside.seat.me.0 (ap (λ (z : Sat). z.0) joined) (ap (λ (z : Sat). z.1) joined)

@@ -1,11 +1,8 @@
-use Rattle.std.proofs.Common.{ap, ◌∙◌}
+use Rattle.std.proofs.Common.{ap}
 use Rattle.aug_core.specs.Faces.{face}
 use Rattle.aug_core.specs.Effects.{Sat}
-use Rattle.aug_core.specs.Readers.{lending, reader_of}
-use Rattle.aug_words.specs.Seats.{Known}
 use Rattle.aug_core.proofs.Lending.{lends_in_its_era}
 use Rattle.aug_words.proofs.Aims.{pass_lent}
-use Rattle.aug_words.proofs.Brought.{lent_reader}
 use Rattle.aug_words.proofs.Leads.{pass_has_words}
 use Rattle.aug_words.proofs.Passes.{works_on}
 use Rattle.aug_words.proofs.pass.WordPass.lend.Goals as goal
@@ -16,14 +13,3 @@ split_seat-seat-requires g c = (c.self.invariant.0.seated, pass_has_words _ _ _ 
 pub invariant_of-self : goal.invariant_of-self
 invariant_of-self g c = let split = c.split_seat-seat.ensures.2 in
     pass_lent (face g.A.Monoid.parts g.B.Monoid.parts) _ _ _ _ _ _ _ c.self.inside.lent c.self.inside.seat.me c.split_seat-seat.new.seat.me c.self.invariant c.split_seat-seat.ensures.0 c.saturating_add-self-inside.result c.saturating_add-self-inside.ensures (ap (λ (z : Sat). z.0) split) (ap (λ (z : Sat). z.1) split)
-
-pub invariant_of-result : goal.invariant_of-result
-invariant_of-result g c = let split = c.split_seat-seat.ensures in
-    lent_reader (face g.A.Monoid.parts g.B.Monoid.parts) _ _ _ _ _ _ _ _ c.self.inside.seat.me c.split_seat-seat.result.me c.self.invariant.0
-    c.self.invariant.1 split.3 split.4
-
-pub returns-clause-lends : goal.returns-clause-lends
-returns-clause-lends g c = ap (λ (z : Sat). z.0) c.split_seat-seat.ensures.2 ∙ ap (λ (k : Known). lending k.view) c.self.view_is
-
-pub returns-clause-reader : goal.returns-clause-reader
-returns-clause-reader g c = ap (λ (z : Sat). z.0) c.split_seat-seat.ensures.4 ∙ ap (λ (k : Known). reader_of k.view) c.self.view_is

@@ -10,18 +10,13 @@ use Rattle.aug_core.proofs.Sizes.{twice, some_leaf}
 use Rattle.aug_words.specs.Seats.{Known}
 use Rattle.aug_words.proofs.Leads.{root_inner}
 use Rattle.aug_words.proofs.Passes.{pass_loaded_node, works_on}
-use Rattle.aug_words.proofs.Spots.{root_spot}
 use Rattle.aug_words.proofs.pass.WordPass.load_after_note.Goals as goal
 
 pub load-requires : goal.load-requires
 load-requires g c =
-    let sits = c.self.invariant.0 in let s : Shape = c.self.inside.seat.me.0.shape in
-    let spot = root_spot _ c.self.inside.seat.me.0 c.self.inside.lanes sits.placed.wide sits.lanes_are in (
-      sits.seated,
-      spot.inside,
-      loads_after_note _ _ _ _ (root_place s) _ _ (works_on _ _ _ _ c.self.invariant.1) c.self.invariant.1.live
-          c.self.invariant.1.no_slot spot.small spot.at,
-    )
+    let sits = c.self.invariant.0 in let wide = sits.placed.wide in let begins = sits.lanes_are in let s : Shape = c.self.inside.seat.me.0.shape in let t = twice s.bits in let bits = c.self.invariant.1.knows.laid_out.bits in
+    let low = (root_inner s bits.0 bits.1).inside in
+    (sits.seated, omega arith, loads_after_note _ _ _ _ (root_place s) _ _ (works_on _ _ _ _ c.self.invariant.1) c.self.invariant.1.live c.self.invariant.1.no_slot (omega arith) (omega arith))
 
 pub overflow_sub-self-inside : goal.overflow_sub-self-inside
 overflow_sub-self-inside g c = let begins = c.self.invariant.0.lanes_are in let s : Shape = c.self.inside.seat.me.0.shape in let t = twice s.bits in let some = some_leaf s.bits in omega arith

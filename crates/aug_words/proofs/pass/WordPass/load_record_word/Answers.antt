@@ -1,40 +1,31 @@
-use Rattle.std.proofs.Common.{refl, subst, sym, ◌+◌, ℕ}
+use Rattle.std.proofs.Common.{refl, subst, sym, ◌+◌, ℕ, arith}
 use Rattle.aug_core.specs.Places.{record_start}
 use Rattle.aug_core.specs.Fields.{field_offset}
 use Rattle.aug_core.proofs.EraSteps.{loads_record_word}
 use Rattle.aug_words.specs.Seats.{Known, MayLoad, LoadsRecordWord}
 use Rattle.aug_words.proofs.Passes.{pass_loaded, loads_inside, tells, works_on}
-use Rattle.aug_words.proofs.Spots.{record_at, record_low, record_spot}
 use Rattle.aug_words.proofs.pass.WordPass.load_record_word.Goals as goal
 
 pub record_word-place-requires : goal.record_word-place-requires
 record_word-place-requires g c =
-    let sits = c.self.invariant.0 in
+    let sits = c.self.invariant.0 in let begins = sits.records_are in let far = sits.placed.wide in let most = sits.placed.few in let small = c.self.invariant.1.knows.laid_out.words in let field = c.offset.ensures.small in
     let below = loads_inside _ _ _ c.self.inside.seat.me c.self.invariant.1 c.args.number (subst (λ (k : Known). MayLoad k.view c.args.number) (sym c.self.view_is) c.requires) in
-    record_low _ c.self.inside.seat.me.0 _ c.args.number c.offset.result sits.placed.wide sits.placed.few sits.records_are below c.offset.ensures.small
+    omega arith
 
 pub load-requires : goal.load-requires
 load-requires g c =
-    let sits = c.self.invariant.0 in
+    let sits = c.self.invariant.0 in let begins = sits.records_are in let wide = sits.placed.wide in let field = c.offset.ensures.small in let at = c.record_word-place.ensures in
     let below = loads_inside _ _ _ c.self.inside.seat.me c.self.invariant.1 c.args.number (subst (λ (k : Known). MayLoad k.view c.args.number) (sym c.self.view_is) c.requires) in
-    let spot = record_spot _ c.self.inside.seat.me.0 _ c.args.number c.offset.result c.record_word-place.result sits.placed.wide sits.records_are below
-    c.offset.ensures.small c.record_word-place.ensures in (
-      sits.seated,
-      spot.inside,
-      loads_record_word _ _ _ _ (record_start c.self.inside.seat.me.0.shape c.args.number + c.offset.result) _ _ (works_on _ _ _ _
-          c.self.invariant.1) c.self.invariant.1.live c.self.invariant.1.no_slot spot.small spot.at,
-    )
+    (sits.seated, omega arith, loads_record_word _ _ _ _ (record_start c.self.inside.seat.me.0.shape c.args.number + c.offset.result) _ _ (works_on _ _ _ _ c.self.invariant.1) c.self.invariant.1.live c.self.invariant.1.no_slot (omega arith) (omega arith))
 
 pub invariant_of-self : goal.invariant_of-self
 invariant_of-self g c = let begins = c.self.invariant.0.records_are in let at = c.record_word-place.ensures in let place : ℕ = record_start c.self.inside.seat.me.0.shape c.args.number + c.offset.result in
-    pass_loaded _ _ _ _ _ _ _ _ _ c.self.inside.seat.me c.load.new.seat.me c.self.invariant c.load.ensures.0 place c.load.result (c.load.ensures.2 place
-    (record_at c.self.inside.seat.me.0 _ c.args.number c.offset.result c.record_word-place.result begins at))
+    pass_loaded _ _ _ _ _ _ _ _ _ c.self.inside.seat.me c.load.new.seat.me c.self.invariant c.load.ensures.0 place c.load.result (c.load.ensures.2 place (omega arith))
 
 pub returns-clause-view : goal.returns-clause-view
 returns-clause-view g c =
     let begins = c.self.invariant.0.records_are in let at = c.record_word-place.ensures in
     let place : ℕ = record_start c.self.inside.seat.me.0.shape c.args.number + c.offset.result in
-    let told = tells c.self.inside.seat.me.0 c.load.new.seat.me.0 place c.args.number c.offset.result c.load.result c.offset.ensures.small refl
-    (c.load.ensures.2 place (record_at c.self.inside.seat.me.0 _ c.args.number c.offset.result c.record_word-place.result begins at)).1 in
+    let told = tells c.self.inside.seat.me.0 c.load.new.seat.me.0 place c.args.number c.offset.result c.load.result c.offset.ensures.small refl (c.load.ensures.2 place (omega arith)).1 in
     subst (λ (k : Known). LoadsRecordWord k.view c.args.number (field_offset c.args.field) c.load.result c.load.new.seat.me.0) c.self.view_is
     (subst (λ (z : ℕ). LoadsRecordWord c.self.inside.seat.me.0 c.args.number z c.load.result c.load.new.seat.me.0) c.offset.ensures.value told)

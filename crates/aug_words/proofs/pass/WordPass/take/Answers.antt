@@ -1,7 +1,6 @@
 use Rattle.std.proofs.Common.{ap, refl, sym, subst, arith, inl, inr, ◌∙◌}
 use Rattle.aug_core.specs.Faces.{face}
 use Rattle.aug_core.specs.Effects.{Sat}
-use Rattle.aug_core.specs.Readers.{taking_reader}
 use Rattle.aug_words.specs.Seats.{Known}
 use Rattle.aug_core.proofs.Lending.{takes_reader}
 use Rattle.aug_words.specs.Leads.{IsNotTaken}
@@ -33,7 +32,3 @@ pub invariant_of-self : goal.invariant_of-self
 invariant_of-self g c = let joined = c.join_seat.ensures.2 in
     pass_took (face g.A.Monoid.parts g.B.Monoid.parts) _ _ _ _ _ _ _ c.self.inside.lent c.self.inside.seat.me c.join_seat.new.seat.me c.self.invariant c.join_seat.ensures.0 c.reader.inside.seat.me.0
     (sym c.reader.invariant.0.base_is ∙ c.if-reader-self.false ∙ c.self.invariant.0.placed.base_is) (omega (arith, c.if-self-eq0.false)) (let few = c.self.invariant.1.lends.few in omega (arith, c.if-self.false)) (ap (λ (z : Sat). z.0) joined) (ap (λ (z : Sat). z.1) joined)
-
-pub returns-clause-taken : goal.returns-clause-taken
-returns-clause-taken g c = ap (λ (z : Sat). z.0) c.join_seat.ensures.2 ∙ ap (λ (k : Known). taking_reader k.view c.reader.inside.seat.me.0) c.self.view_is
-    ∙ ap (λ (k : Known). taking_reader c.args.self.now.view k.view) c.reader.view_is

@@ -1,25 +1,19 @@
-use Rattle.std.proofs.Common.{ap, subst, sym, ◌+◌, ◌^◌, ◌<◌, ℕ}
-use Rattle.std.proofs.lemmas.Bool.{eq-eqb, eqb-true}
+use Rattle.std.proofs.Common.{ap, subst, sym, ◌+◌, ◌^◌, ◌<◌, ℕ, arith, rules}
 use Rattle.aug_core.specs.Faces.{face}
 use Rattle.aug_core.specs.Effects.{MayChange, TriesLeaf}
 use Rattle.aug_core.proofs.EraSteps.{allows_leaf}
 use Rattle.aug_words.specs.Seats.{Known, MayAdvance}
 use Rattle.aug_words.proofs.Passes.{pass_tried_leaf, has_taken}
-use Rattle.aug_words.proofs.Spots.{leaf_spot, low_place}
+use Rattle.aug_core.proofs.Sizes.{twice}
 use Rattle.aug_words.proofs.pass.WordPass.try_leaf.Goals as goal
 
 pub compare_exchange-found-requires : goal.compare_exchange-found-requires
 compare_exchange-found-requires g c =
-    let sits = c.self.invariant.0 in
+    let sits = c.self.invariant.0 in let wide = sits.placed.wide in let base = sits.placed.base_is in let t = twice c.self.inside.seat.me.0.shape.bits in
     let low = subst (λ (k : Known). c.args.leaf < 2 ^ k.view.shape.bits) (sym c.self.view_is) c.requires.leaf in
-    let spot = leaf_spot _ c.self.inside.seat.me.0 c.self.inside.base c.args.leaf sits.placed low in
     let m = subst (λ (k : Known). MayAdvance k.view c.args.leaf c.args.old c.args.new) (sym c.self.view_is) c.requires.advance in
-    let may = subst (λ (k : Known). MayChange k.view) (sym c.self.view_is) c.requires.change in (
-      sits.seated,
-      spot.inside,
-      allows_leaf _ _ _ _ c.args.leaf _ c.args.old c.args.new m.advance m.entry _ m.from m.to c.self.invariant.1.live
-          c.self.invariant.1.no_slot spot.small spot.at low (has_taken _ _ _ _ c.self.invariant.1) may m.at m.weighs m.is_advance,
-    )
+    let may = subst (λ (k : Known). MayChange k.view) (sym c.self.view_is) c.requires.change in
+    (sits.seated, omega arith, allows_leaf _ _ _ _ c.args.leaf _ c.args.old c.args.new m.advance m.entry _ m.from m.to c.self.invariant.1.live c.self.invariant.1.no_slot (omega arith) (omega arith) low (has_taken _ _ _ _ c.self.invariant.1) may m.at m.weighs m.is_advance)
 
 pub invariant_of-self : goal.invariant_of-self
 invariant_of-self g c = let m = g.A.Monoid in let n = g.B.Monoid in let f = face m.parts n.parts in
@@ -30,18 +24,4 @@ invariant_of-self g c = let m = g.A.Monoid in let n = g.B.Monoid in let f = face
 pub returns-clause-view : goal.returns-clause-view
 returns-clause-view g c = let f = face g.A.Monoid.parts g.B.Monoid.parts in
     let told = c.compare_exchange-found.ensures.2 c.args.leaf (ap (λ (z : ℕ). z + c.args.leaf) c.self.invariant.0.placed.base_is) in
-    record {
-      found = c.compare_exchange-found.result;
-      decided = (
-        eqb-true c.compare_exchange-found.result c.args.old,
-        eq-eqb c.compare_exchange-found.result
-            c.args.old,
-      );
-      told = λ a is from to. subst (λ (k : Known). TriesLeaf f k.view c.args.leaf a c.compare_exchange-found.result
-          c.compare_exchange-found.new.seat.me.0) c.self.view_is (told.1 a is from to);
-    }
-
-pub overflow_add-place : goal.overflow_add-place
-overflow_add-place g c =
-    let placed = c.self.invariant.0.placed in let low = subst (λ (k : Known). c.args.leaf < 2 ^ k.view.shape.bits) (sym c.self.view_is) c.requires.leaf in
-    record { fits = low_place _ _ (leaf_spot _ c.self.inside.seat.me.0 c.self.inside.base c.args.leaf placed low).inside placed.few }
+    record { found = c.compare_exchange-found.result; decided = search rules; told = λ a is from to. subst (λ (k : Known). TriesLeaf f k.view c.args.leaf a c.compare_exchange-found.result c.compare_exchange-found.new.seat.me.0) c.self.view_is (told.1 a is from to) }

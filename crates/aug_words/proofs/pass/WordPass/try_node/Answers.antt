@@ -1,4 +1,4 @@
-use Rattle.std.proofs.Common.{ap, subst, sym, ◌+◌, ℕ}
+use Rattle.std.proofs.Common.{ap, subst, sym, ◌+◌, ℕ, arith}
 use Rattle.std.proofs.lemmas.Bool.{eq-eqb, eqb-true}
 use Rattle.aug_core.specs.Faces.{face}
 use Rattle.aug_core.specs.Addresses.{IsInner}
@@ -6,21 +6,15 @@ use Rattle.aug_core.specs.Effects.{MayStore, IsFilled, TriesNode}
 use Rattle.aug_core.proofs.EraSteps.{tries_node}
 use Rattle.aug_words.specs.Seats.{Known}
 use Rattle.aug_words.proofs.Passes.{pass_tried_node, has_taken}
-use Rattle.aug_words.proofs.Spots.{low_place, node_spot}
 use Rattle.aug_words.proofs.pass.WordPass.try_node.Goals as goal
 
 pub compare_exchange-found-requires : goal.compare_exchange-found-requires
 compare_exchange-found-requires g c = let m = g.A.Monoid in let n = g.B.Monoid in let f = face m.parts n.parts in
-    let sits = c.self.invariant.0 in
-    let inner = subst (λ (k : Known). IsInner k.view.shape c.args.node) (sym c.self.view_is) c.requires.inner in
-    let spot = node_spot _ c.self.inside.seat.me.0 c.self.inside.base c.args.node sits.placed inner.inside in
+    let sits = c.self.invariant.0 in let wide = sits.placed.wide in let base = sits.placed.base_is in
+    let inner = subst (λ (k : Known). IsInner k.view.shape c.args.node) (sym c.self.view_is) c.requires.inner in let low = inner.inside in
     let may = subst (λ (k : Known). MayStore k.view c.args.number) (sym c.self.view_is) c.requires.own in
-    let filled = subst (λ (k : Known). IsFilled f k.view c.args.node c.args.from c.args.number) (sym c.self.view_is) c.requires.filled in (
-      sits.seated,
-      spot.inside,
-      tries_node f _ _ _ c.args.node _ _ _ _ c.self.invariant.1.live c.self.invariant.1.no_slot spot.small spot.at inner (has_taken
-          _ _ _ _ c.self.invariant.1) may filled,
-    )
+    let filled = subst (λ (k : Known). IsFilled f k.view c.args.node c.args.from c.args.number) (sym c.self.view_is) c.requires.filled in
+    (sits.seated, omega arith, tries_node f _ _ _ c.args.node _ _ _ _ c.self.invariant.1.live c.self.invariant.1.no_slot (omega arith) (omega arith) inner (has_taken _ _ _ _ c.self.invariant.1) may filled)
 
 pub invariant_of-self : goal.invariant_of-self
 invariant_of-self g c = let m = g.A.Monoid in let n = g.B.Monoid in let f = face m.parts n.parts in
@@ -35,8 +29,3 @@ returns-clause-view g c = let m = g.A.Monoid in let n = g.B.Monoid in let f = fa
       told = subst (λ (k : Known). TriesNode f k.view c.args.node c.args.from c.args.number c.compare_exchange-found.result
           c.compare_exchange-found.new.seat.me.0) c.self.view_is told.1;
     }
-
-pub overflow_add-place : goal.overflow_add-place
-overflow_add-place g c =
-    let placed = c.self.invariant.0.placed in let inner = subst (λ (k : Known). IsInner k.view.shape c.args.node) (sym c.self.view_is) c.requires.inner in
-    record { fits = low_place _ _ (node_spot _ c.self.inside.seat.me.0 c.self.inside.base c.args.node placed inner.inside).inside placed.few }

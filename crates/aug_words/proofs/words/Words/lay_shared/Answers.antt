@@ -4,8 +4,7 @@ use Rattle.aug_core.specs.Places.{Shape, record_start, record_words}
 use Rattle.aug_words.specs.inside.Builds.{WritesFive}
 use Rattle.aug_core.proofs.FaceLemmas.{face_is}
 use Rattle.aug_words.specs.Seats.{Store}
-use Rattle.aug_words.specs.inside.Laying.{SharesRecords, words_in}
-use Rattle.aug_words.proofs.Brought.{at_end}
+use Rattle.aug_words.specs.inside.Laying.{words_in}
 use Rattle.aug_words.proofs.Lays.{changes_none, changes_on, shares_more, shares_none}
 use Rattle.aug_words.proofs.words.Words.lay_shared.Goals as goal
 
@@ -31,10 +30,3 @@ loop-level-preserved g c =
           ((λ i. below i ∷ below i ∷ 0 ∷ c.to_word.result ∷ c.to_word-in-loop-level.result ∷ [])
           ∙ face_is m.parts n.parts (level - 1) (level - 1) 0 c.to_word.result c.to_word-in-loop-level.result [] refl (c.to_word.ensures ∙ ap m.parts.to_word c.unit.ensures) (c.to_word-in-loop-level.ensures ∙ ap n.parts.to_word c.unit-in-loop-level.ensures));
     }
-
-pub returns-clause-shares : goal.returns-clause-shares
-returns-clause-shares g c =
-    let s : Shape = c.args.self.now.shape in let i = c.loop-level.invariant in let b : ℕ = c.args.base in let last = c.bits-level-end.ensures
-    ∙ ap (λ (z : Store). z.shape.bits) c.self.view_is in
-    subst (λ (z : ℕ). SharesRecords (face g.A.Monoid.parts g.B.Monoid.parts) s z (words_in b s c.args.seat.now.me.0) (words_in b s c.loop-level.seat.me.0))
-    (at_end c.loop-level.level _ s.bits i.in_range c.loop-level-test.false last) i.shares

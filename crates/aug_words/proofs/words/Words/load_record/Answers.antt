@@ -1,11 +1,9 @@
-use Rattle.std.proofs.Common.{arith, subst, sym, ◌≡◌, ◌∙◌, ◌∷◌, [], ℕ, List, get_or, ⊎_elim}
+use Rattle.std.proofs.Common.{arith, subst, sym, ◌≡◌, ◌∷◌, [], ℕ, List, get_or, ⊎_elim}
 use Rattle.std.proofs.lemmas.Bool.{cases_eq}
 use Rattle.aug_core.specs.Effects.{Says}
 use Rattle.aug_core.specs.Places.{Shape}
 use Rattle.aug_core.specs.declared.view.SeatView.{SeatView}
-use Rattle.aug_words.proofs.Brought.{seen_on}
 use Rattle.aug_words.proofs.Lays.{beside_on, says_on}
-use Rattle.aug_words.proofs.Spots.{small_place}
 use Rattle.aug_words.proofs.words.Words.load_record.Goals as goal
 
 pub returns-clause-says : goal.returns-clause-says
@@ -26,36 +24,3 @@ returns-clause-view g c =
     let zero = beside_on b s _ _ _ (beside_on b s _ _ _ c.fetch.ensures.view c.fetch-2.ensures.view) c.fetch-3.ensures.view in
     let two = beside_on b s _ _ _ (beside_on b s _ _ _ zero c.load_field-left.ensures.view) c.load_field-right.ensures.view in
     beside_on b s _ _ _ (beside_on b s _ _ _ (beside_on b s _ _ _ two c.load_field-count.ensures.view) c.load_field-a.ensures.view) c.load_field-b.ensures.view
-
-pub load_field-left-requires-clause-seen : goal.load_field-left-requires-clause-seen
-load_field-left-requires-clause-seen g c = let b : ℕ = c.args.base in let s : Shape = c.args.self.now.shape in let n : ℕ = c.args.number in
-    seen_on b s _ _ n c.fetch-3.ensures.view (seen_on b s _ _ n c.fetch-2.ensures.view (seen_on b s _ _ n c.fetch.ensures.view c.requires.seen))
-
-pub load_field-right-requires-clause-seen : goal.load_field-right-requires-clause-seen
-load_field-right-requires-clause-seen g c = let b : ℕ = c.args.base in let s : Shape = c.args.self.now.shape in let n : ℕ = c.args.number in
-    seen_on b s _ _ n c.load_field-left.ensures.view (seen_on b s _ _ n c.fetch-3.ensures.view (seen_on b s _ _ n c.fetch-2.ensures.view (seen_on b s _ _ n
-    c.fetch.ensures.view c.requires.seen)))
-
-pub load_field-count-requires-clause-seen : goal.load_field-count-requires-clause-seen
-load_field-count-requires-clause-seen g c = let b : ℕ = c.args.base in let s : Shape = c.args.self.now.shape in let n : ℕ = c.args.number in
-    seen_on b s _ _ n c.load_field-right.ensures.view (seen_on b s _ _ n c.load_field-left.ensures.view (seen_on b s _ _ n c.fetch-3.ensures.view (seen_on b
-    s _ _ n c.fetch-2.ensures.view (seen_on b s _ _ n c.fetch.ensures.view c.requires.seen))))
-
-pub load_field-a-requires-clause-seen : goal.load_field-a-requires-clause-seen
-load_field-a-requires-clause-seen g c = let b : ℕ = c.args.base in let s : Shape = c.args.self.now.shape in let n : ℕ = c.args.number in
-    seen_on b s _ _ n c.load_field-count.ensures.view (seen_on b s _ _ n c.load_field-right.ensures.view (seen_on b s _ _ n c.load_field-left.ensures.view
-    (seen_on b s _ _ n c.fetch-3.ensures.view (seen_on b s _ _ n c.fetch-2.ensures.view (seen_on b s _ _ n c.fetch.ensures.view c.requires.seen)))))
-
-pub load_field-b-requires-clause-seen : goal.load_field-b-requires-clause-seen
-load_field-b-requires-clause-seen g c = let b : ℕ = c.args.base in let s : Shape = c.args.self.now.shape in let n : ℕ = c.args.number in
-    seen_on b s _ _ n c.load_field-a.ensures.view (seen_on b s _ _ n c.load_field-count.ensures.view (seen_on b s _ _ n c.load_field-right.ensures.view
-    (seen_on b s _ _ n c.load_field-left.ensures.view (seen_on b s _ _ n c.fetch-3.ensures.view (seen_on b s _ _ n c.fetch-2.ensures.view (seen_on b s _
-    _ n c.fetch.ensures.view c.requires.seen))))))
-
-pub fetch-requires-3-clause-place : goal.fetch-requires-3-clause-place
-fetch-requires-3-clause-place g c = small_place c.args.self.now.shape c.args.node c.requires.node.inside
-
-pub returns-clause-same : goal.returns-clause-same
-returns-clause-same g c = c.load_field-b.ensures.same ∙ c.load_field-a.ensures.same ∙ c.load_field-count.ensures.same ∙ c.load_field-right.ensures.same
-    ∙ c.load_field-left.ensures.same
-    ∙ c.fetch-3.ensures.same ∙ c.fetch-2.ensures.same ∙ c.fetch.ensures.same

@@ -1,9 +1,8 @@
-use Rattle.std.proofs.Common.{refl, ap, sym, subst, ◌⊎◌, ◌∙◌, ◌≡◌, ◌≢◌, ◌*◌, ◌+◌, ◌-◌, ◌^◌, ◌<◌, ◌≤◌, ℕ, List, length, get_or}
+use Rattle.std.proofs.Common.{refl, ap, sym, subst, ◌∙◌, ◌≡◌, ◌+◌, ◌-◌, ℕ, List}
 use Rattle.aug_core.specs.Addresses.{IsInner, root_place}
 use Rattle.aug_core.specs.Cuts.{pairs_of_cut}
 use Rattle.aug_core.specs.Effects.{Sat}
 use Rattle.aug_core.specs.Faces.{face}
-use Rattle.aug_core.specs.Layout.{IsLayout}
 use Rattle.aug_core.specs.Eras.{opening_with}
 use Rattle.aug_core.specs.Places.{Shape, record_start, word_count}
 use Rattle.aug_core.specs.Renewals.{HoldsAll, IsOpened, Reopens}
@@ -11,16 +10,15 @@ use Rattle.aug_core.specs.inside.RootCuts.{root_cut}
 use Rattle.aug_core.specs.declared.view.SeatView.{SeatView}
 use Rattle.aug_words.specs.Rests.{OpensAgain}
 use Rattle.aug_words.specs.Seats.{Known, Store}
-use Rattle.aug_words.specs.inside.Laying.{ChangesPart, FreesLanes, IsDraft, OpensOver, IsLaidAs, MayLay, SharesRecords, words_in}
+use Rattle.aug_words.specs.inside.Laying.{OpensOver, words_in}
 use Rattle.aug_words.proofs.Lays.{root_at}
 use Rattle.aug_words.specs.declared.parts.Parts.{Parts}
-use Rattle.aug_words.proofs.Aims.{lead_aimed, lead_clear, lead_parts, may_not_open}
-use Rattle.aug_words.proofs.Brought.{starts_in}
-use Rattle.aug_words.proofs.Counts.{some_size}
+use Rattle.aug_words.proofs.Aims.{may_not_open}
 use Rattle.aug_words.specs.Leads.{MayOpen}
-use Rattle.aug_words.proofs.Leads.{lead_may, root_below, root_inner, root_named, root_noted}
+use Rattle.aug_words.proofs.Leads.{lead_may, root_below, root_inner, root_named}
 use Rattle.aug_words.proofs.Renewed.{lead_renewed, renewed_shape}
-use Rattle.aug_words.proofs.Reopens.{opened_by, opens_again, opens_over, Renews, renews_here, still_all}
+use Rattle.aug_words.proofs.Reopens.{opened_by, opens_again, opens_over, renews_here, still_all}
+use Rattle.aug_words.proofs.Aimed.{aimed, renews_at}
 use Rattle.aug_words.proofs.words.Words.open_again.Goals as goal
 
 pub unreachable-requires : goal.unreachable-requires
@@ -34,129 +32,67 @@ unreachable-requires g c =
 pub bring-requires-clause-may : goal.bring-requires-clause-may
 bring-requires-clause-may g c =
     let f = face g.A.Monoid.parts g.B.Monoid.parts in let s : Shape = c.args.self.now.shape in let me : Sat = c.lead.inside.seat.me in
-    let given = c.lead.invariant in
-    let shape : me.0.shape ≡ s = ap (λ (k : Known). k.view.shape) c.lead.view_is ∙ c.requires.together.one_shape in
-    let room = subst (λ (z : Shape). 2 ^ z.bits ≤ z.members) (sym shape) c.requires.room in let stored = ap (λ (z : Store). z.shape) c.self.view_is in
+    let stored = ap (λ (z : Store). z.shape) c.self.view_is in let e = c.aim.ensures in let parts : Parts = c.aim.new.parts in
     let root : ℕ = c.lead.inside.root in let base : ℕ = c.lead.inside.base in let next : ℕ = c.lead.inside.next in
-    let sized = c.words-size.ensures.value ∙ ap word_count (stored ∙ sym shape) in let e = c.aim.ensures in let parts : Parts = c.aim.new.parts in
     let other : ℕ = c.aim.new.self.base in let shown : List ℕ = c.aim.new.self.shown.items in
-    let turned : parts.next ≢ c.lead.inside.parts.next → (other ≡ parts.next * word_count me.0.shape) × (length shown ≡ length
-    c.lead.inside.draft.shown.items) × ((slot : ℕ) → get_or shown slot 0 ≡ 0) = λ ne. let t = e.turned ne in (
-      t.0
-          ∙ ap (λ (z : ℕ). parts.next * z) sized,
-      t.1,
-      t.2,
-    ) in
-    let lead = lead_aimed f _ base next root _ _ c.lead.inside.parts me given parts other shown e.own e.out e.next e.same turned in
-    let clear = lead_clear f _ base next root _ _ c.lead.inside.parts me given parts other shown e.own e.out e.next e.same turned room (e.free c.if-not-aim.false) in
-    lead_may f _ base next root other shown parts me lead room c.args.self.now.table (base + c.self.inside.records) s clear (ap (λ (k : Known). k.table) c.lead.view_is ∙ c.requires.together.one_table) shape
+    let aims = aimed f _ base next root _ _ c.lead.inside.parts me c.lead.invariant s (ap (λ (k : Known). k.view.shape) c.lead.view_is
+    ∙ c.requires.together.one_shape) c.requires.room _ (c.words-size.ensures.value ∙ ap word_count stored) parts other shown e.own e.out e.next e.same e.turned in
+    lead_may f _ base next root other shown parts me aims.lead aims.room c.args.self.now.table (base + c.self.inside.records) s (aims.clear (e.free c.if-not-aim.false))
+    (ap (λ (k : Known). k.table) c.lead.view_is ∙ c.requires.together.one_table) aims.shape
     (ap (λ (z : ℕ). base + z) (c.self.invariant.records_are ∙ ap (λ (z : Shape). record_start z 0) stored))
 
 pub bring-requires-clause-named : goal.bring-requires-clause-named
 bring-requires-clause-named g c =
     let f = face g.A.Monoid.parts g.B.Monoid.parts in let s : Shape = c.args.self.now.shape in let me : Sat = c.lead.inside.seat.me in
-    let given = c.lead.invariant in
-    let shape : me.0.shape ≡ s = ap (λ (k : Known). k.view.shape) c.lead.view_is ∙ c.requires.together.one_shape in
-    let room = subst (λ (z : Shape). 2 ^ z.bits ≤ z.members) (sym shape) c.requires.room in let stored = ap (λ (z : Store). z.shape) c.self.view_is in
-    let top = root_at _ _ _ s _ _ c.self.invariant stored in
+    let stored = ap (λ (z : Store). z.shape) c.self.view_is in let e = c.aim.ensures in let parts : Parts = c.aim.new.parts in
     let root : ℕ = c.lead.inside.root in let base : ℕ = c.lead.inside.base in let next : ℕ = c.lead.inside.next in
-    let sized = c.words-size.ensures.value ∙ ap word_count (stored ∙ sym shape) in let e = c.aim.ensures in let parts : Parts = c.aim.new.parts in
     let other : ℕ = c.aim.new.self.base in let shown : List ℕ = c.aim.new.self.shown.items in
-    let turned : parts.next ≢ c.lead.inside.parts.next → (other ≡ parts.next * word_count me.0.shape) × (length shown ≡ length
-    c.lead.inside.draft.shown.items) × ((slot : ℕ) → get_or shown slot 0 ≡ 0) = λ ne. let t = e.turned ne in (
-      t.0
-          ∙ ap (λ (z : ℕ). parts.next * z) sized,
-      t.1,
-      t.2,
-    ) in
-    let lead = lead_aimed f _ base next root _ _ c.lead.inside.parts me given parts other shown e.own e.out e.next e.same turned in
-    root_named f _ base next root other shown parts me lead room (c.self.inside.lanes - 1) (top.1 ∙ ap root_place (sym shape))
+    let aims = aimed f _ base next root _ _ c.lead.inside.parts me c.lead.invariant s (ap (λ (k : Known). k.view.shape) c.lead.view_is
+    ∙ c.requires.together.one_shape) c.requires.room _ (c.words-size.ensures.value ∙ ap word_count stored) parts other shown e.own e.out e.next e.same e.turned in
+    let top = (root_at _ _ _ s _ _ c.self.invariant stored).1 in
+    root_named f _ base next root other shown parts me aims.lead aims.room (c.self.inside.lanes - 1) (top ∙ ap root_place (sym aims.shape))
 
 pub bring-requires-clause-below : goal.bring-requires-clause-below
 bring-requires-clause-below g c =
     let f = face g.A.Monoid.parts g.B.Monoid.parts in let s : Shape = c.args.self.now.shape in let me : Sat = c.lead.inside.seat.me in
-    let given = c.lead.invariant in
-    let shape : me.0.shape ≡ s = ap (λ (k : Known). k.view.shape) c.lead.view_is ∙ c.requires.together.one_shape in
-    let room = subst (λ (z : Shape). 2 ^ z.bits ≤ z.members) (sym shape) c.requires.room in let stored = ap (λ (z : Store). z.shape) c.self.view_is in
-    let top = root_at _ _ _ s _ _ c.self.invariant stored in
+    let stored = ap (λ (z : Store). z.shape) c.self.view_is in let e = c.aim.ensures in let parts : Parts = c.aim.new.parts in
     let root : ℕ = c.lead.inside.root in let base : ℕ = c.lead.inside.base in let next : ℕ = c.lead.inside.next in
-    let sized = c.words-size.ensures.value ∙ ap word_count (stored ∙ sym shape) in let e = c.aim.ensures in let parts : Parts = c.aim.new.parts in
     let other : ℕ = c.aim.new.self.base in let shown : List ℕ = c.aim.new.self.shown.items in
-    let turned : parts.next ≢ c.lead.inside.parts.next → (other ≡ parts.next * word_count me.0.shape) × (length shown ≡ length
-    c.lead.inside.draft.shown.items) × ((slot : ℕ) → get_or shown slot 0 ≡ 0) = λ ne. let t = e.turned ne in (
-      t.0
-          ∙ ap (λ (z : ℕ). parts.next * z) sized,
-      t.1,
-      t.2,
-    ) in
-    let lead = lead_aimed f _ base next root _ _ c.lead.inside.parts me given parts other shown e.own e.out e.next e.same turned in
-    root_below f _ base next root other shown parts me lead room s (c.self.inside.lanes - 1) shape top.1
+    let aims = aimed f _ base next root _ _ c.lead.inside.parts me c.lead.invariant s (ap (λ (k : Known). k.view.shape) c.lead.view_is
+    ∙ c.requires.together.one_shape) c.requires.room _ (c.words-size.ensures.value ∙ ap word_count stored) parts other shown e.own e.out e.next e.same e.turned in
+    let top = (root_at _ _ _ s _ _ c.self.invariant stored).1 in
+    root_below f _ base next root other shown parts me aims.lead aims.room s (c.self.inside.lanes - 1) aims.shape top
 
 pub reopen-requires-clause-opened : goal.reopen-requires-clause-opened
 reopen-requires-clause-opened g c =
     let f = face g.A.Monoid.parts g.B.Monoid.parts in let s : Shape = c.args.self.now.shape in let me : Sat = c.lead.inside.seat.me in
-    let given = c.lead.invariant in
-    let shape : me.0.shape ≡ s = ap (λ (k : Known). k.view.shape) c.lead.view_is ∙ c.requires.together.one_shape in
-    let room = subst (λ (z : Shape). 2 ^ z.bits ≤ z.members) (sym shape) c.requires.room in let stored = ap (λ (z : Store). z.shape) c.self.view_is in
-    let top = root_at _ _ _ s _ _ c.self.invariant stored in
+    let stored = ap (λ (z : Store). z.shape) c.self.view_is in let e = c.aim.ensures in let parts : Parts = c.aim.new.parts in
     let root : ℕ = c.lead.inside.root in let base : ℕ = c.lead.inside.base in let next : ℕ = c.lead.inside.next in
-    let sized = c.words-size.ensures.value ∙ ap word_count (stored ∙ sym shape) in let e = c.aim.ensures in let parts : Parts = c.aim.new.parts in
     let other : ℕ = c.aim.new.self.base in let shown : List ℕ = c.aim.new.self.shown.items in
-    let turned : parts.next ≢ c.lead.inside.parts.next → (other ≡ parts.next * word_count me.0.shape) × (length shown ≡ length
-    c.lead.inside.draft.shown.items) × ((slot : ℕ) → get_or shown slot 0 ≡ 0) = λ ne. let t = e.turned ne in (
-      t.0
-          ∙ ap (λ (z : ℕ). parts.next * z) sized,
-      t.1,
-      t.2,
-    ) in
-    let lead = lead_aimed f _ base next root _ _ c.lead.inside.parts me given parts other shown e.own e.out e.next e.same turned in
-    let draft : IsDraft f c.lead.inside.seat.table_id other shown me.0 = lead.3 room in let same : c.bring.new.draft.base ≡ other = c.bring.ensures.base in let v1 : SeatView = c.bring.new.seat.me.0 in let v2 : SeatView = c.lay_shared.new.seat.me.0 in let v3 : SeatView = c.free_lanes.new.seat.me.0 in
-    let r : Renews f other root me.0 v1 v2 v3 s = record {
-      room = c.requires.room;
-      brought = c.bring.ensures.view;
-      laid = subst (λ (z : ℕ). IsLaidAs f s me.0.seen z root (words_in other s v1)) top.1 (c.bring.ensures.done (c.bring.ensures.all refl).0);
-      shared = subst (λ (z : ℕ). ChangesPart z s v1 v2) same c.lay_shared.ensures.changes;
-      shares = subst (λ (z : ℕ). SharesRecords f s s.bits (words_in z s v1) (words_in z s v2)) same c.lay_shared.ensures.shares;
-      freed = subst (λ (z : ℕ). ChangesPart z s v2 v3) same c.free_lanes.ensures.changes;
-      frees = subst (λ (z : ℕ). FreesLanes s s.workers (words_in z s v2) (words_in z s v3)) same c.free_lanes.ensures.frees;
-      apart = subst (λ (z : Shape). (other + word_count z ≤ me.0.base) ⊎ (me.0.base + word_count z ≤ other)) shape draft.apart;
-      inside = subst (λ (z : ℕ × Shape). other + word_count z.1 ≤ z.0) (λ i. (sym lead.2 i, shape i)) draft.inside;
-    } in let here = renews_here f other root me.0 v1 v2 v3 s shape r in
-    let kn = lead.1.knows in let n = lead.1.names_root in let over : OpensOver f other v3 = opens_over f other root me.0 v1 v2 v3 kn n here (lead_clear f _
-    base next root _ _ c.lead.inside.parts me given parts other shown e.own e.out e.next e.same turned room (e.free c.if-not-aim.false)) in
-    subst (λ (z : ℕ). OpensOver f z v3) (sym same) over
+    let aims = aimed f _ base next root _ _ c.lead.inside.parts me c.lead.invariant s (ap (λ (k : Known). k.view.shape) c.lead.view_is
+    ∙ c.requires.together.one_shape) c.requires.room _ (c.words-size.ensures.value ∙ ap word_count stored) parts other shown e.own e.out e.next e.same e.turned in
+    let top = (root_at _ _ _ s _ _ c.self.invariant stored).1 in
+    let same : c.bring.new.draft.base ≡ other = c.bring.ensures.base in let v1 : SeatView = c.bring.new.seat.me.0 in
+    let v2 : SeatView = c.lay_shared.new.seat.me.0 in let v3 : SeatView = c.free_lanes.new.seat.me.0 in
+    let r = renews_at f _ base next root other shown parts me s _ aims v1 v2 v3 _ _ top same c.bring.ensures.view (c.bring.ensures.done (c.bring.ensures.all refl).0)
+    c.lay_shared.ensures.changes c.lay_shared.ensures.shares c.free_lanes.ensures.changes c.free_lanes.ensures.frees in
+    let here = renews_here f other root me.0 v1 v2 v3 s aims.shape r in let kn = aims.lead.1.knows in let n = aims.lead.1.names_root in
+    subst (λ (z : ℕ). OpensOver f z v3) (sym same) (opens_over f other root me.0 v1 v2 v3 kn n here (aims.clear (e.free c.if-not-aim.false)))
 
 pub reopen-requires-clause-all : goal.reopen-requires-clause-all
 reopen-requires-clause-all g c =
     let f = face g.A.Monoid.parts g.B.Monoid.parts in let s : Shape = c.args.self.now.shape in let me : Sat = c.lead.inside.seat.me in
-    let given = c.lead.invariant in
-    let shape : me.0.shape ≡ s = ap (λ (k : Known). k.view.shape) c.lead.view_is ∙ c.requires.together.one_shape in
-    let room = subst (λ (z : Shape). 2 ^ z.bits ≤ z.members) (sym shape) c.requires.room in let stored = ap (λ (z : Store). z.shape) c.self.view_is in
-    let top = root_at _ _ _ s _ _ c.self.invariant stored in
+    let stored = ap (λ (z : Store). z.shape) c.self.view_is in let e = c.aim.ensures in let parts : Parts = c.aim.new.parts in
     let root : ℕ = c.lead.inside.root in let base : ℕ = c.lead.inside.base in let next : ℕ = c.lead.inside.next in
-    let sized = c.words-size.ensures.value ∙ ap word_count (stored ∙ sym shape) in let e = c.aim.ensures in let parts : Parts = c.aim.new.parts in
     let other : ℕ = c.aim.new.self.base in let shown : List ℕ = c.aim.new.self.shown.items in
-    let turned : parts.next ≢ c.lead.inside.parts.next → (other ≡ parts.next * word_count me.0.shape) × (length shown ≡ length
-    c.lead.inside.draft.shown.items) × ((slot : ℕ) → get_or shown slot 0 ≡ 0) = λ ne. let t = e.turned ne in (
-      t.0
-          ∙ ap (λ (z : ℕ). parts.next * z) sized,
-      t.1,
-      t.2,
-    ) in
-    let lead = lead_aimed f _ base next root _ _ c.lead.inside.parts me given parts other shown e.own e.out e.next e.same turned in
-    let draft : IsDraft f c.lead.inside.seat.table_id other shown me.0 = lead.3 room in let same : c.bring.new.draft.base ≡ other = c.bring.ensures.base in let v1 : SeatView = c.bring.new.seat.me.0 in let v2 : SeatView = c.lay_shared.new.seat.me.0 in let v3 : SeatView = c.free_lanes.new.seat.me.0 in
-    let r : Renews f other root me.0 v1 v2 v3 s = record {
-      room = c.requires.room;
-      brought = c.bring.ensures.view;
-      laid = subst (λ (z : ℕ). IsLaidAs f s me.0.seen z root (words_in other s v1)) top.1 (c.bring.ensures.done (c.bring.ensures.all refl).0);
-      shared = subst (λ (z : ℕ). ChangesPart z s v1 v2) same c.lay_shared.ensures.changes;
-      shares = subst (λ (z : ℕ). SharesRecords f s s.bits (words_in z s v1) (words_in z s v2)) same c.lay_shared.ensures.shares;
-      freed = subst (λ (z : ℕ). ChangesPart z s v2 v3) same c.free_lanes.ensures.changes;
-      frees = subst (λ (z : ℕ). FreesLanes s s.workers (words_in z s v2) (words_in z s v3)) same c.free_lanes.ensures.frees;
-      apart = subst (λ (z : Shape). (other + word_count z ≤ me.0.base) ⊎ (me.0.base + word_count z ≤ other)) shape draft.apart;
-      inside = subst (λ (z : ℕ × Shape). other + word_count z.1 ≤ z.0) (λ i. (sym lead.2 i, shape i)) draft.inside;
-    } in let here = renews_here f other root me.0 v1 v2 v3 s shape r in
-    let kn = lead.1.knows in let n = lead.1.names_root in
+    let aims = aimed f _ base next root _ _ c.lead.inside.parts me c.lead.invariant s (ap (λ (k : Known). k.view.shape) c.lead.view_is
+    ∙ c.requires.together.one_shape) c.requires.room _ (c.words-size.ensures.value ∙ ap word_count stored) parts other shown e.own e.out e.next e.same e.turned in
+    let top = (root_at _ _ _ s _ _ c.self.invariant stored).1 in
+    let same : c.bring.new.draft.base ≡ other = c.bring.ensures.base in let v1 : SeatView = c.bring.new.seat.me.0 in
+    let v2 : SeatView = c.lay_shared.new.seat.me.0 in let v3 : SeatView = c.free_lanes.new.seat.me.0 in
+    let r = renews_at f _ base next root other shown parts me s _ aims v1 v2 v3 _ _ top same c.bring.ensures.view (c.bring.ensures.done (c.bring.ensures.all refl).0)
+    c.lay_shared.ensures.changes c.lay_shared.ensures.shares c.free_lanes.ensures.changes c.free_lanes.ensures.frees in
+    let here = renews_here f other root me.0 v1 v2 v3 s aims.shape r in let kn = aims.lead.1.knows in let n = aims.lead.1.names_root in
     still_all f other root me.0 v1 v2 v3 kn n here (subst (λ (k : Known). HoldsAll k.view) (sym c.lead.view_is) c.requires.all)
 
 pub own_number-requires : goal.own_number-requires
@@ -171,105 +107,55 @@ own_number-requires g c =
 pub returns-clause-together : goal.returns-clause-together
 returns-clause-together g c =
     let f = face g.A.Monoid.parts g.B.Monoid.parts in let s : Shape = c.args.self.now.shape in let me : Sat = c.lead.inside.seat.me in
-    let given = c.lead.invariant in
-    let shape : me.0.shape ≡ s = ap (λ (k : Known). k.view.shape) c.lead.view_is ∙ c.requires.together.one_shape in
-    let room = subst (λ (z : Shape). 2 ^ z.bits ≤ z.members) (sym shape) c.requires.room in let stored = ap (λ (z : Store). z.shape) c.self.view_is in
-    let top = root_at _ _ _ s _ _ c.self.invariant stored in
+    let stored = ap (λ (z : Store). z.shape) c.self.view_is in let e = c.aim.ensures in let parts : Parts = c.aim.new.parts in
     let root : ℕ = c.lead.inside.root in let base : ℕ = c.lead.inside.base in let next : ℕ = c.lead.inside.next in
-    let sized = c.words-size.ensures.value ∙ ap word_count (stored ∙ sym shape) in let e = c.aim.ensures in let parts : Parts = c.aim.new.parts in
     let other : ℕ = c.aim.new.self.base in let shown : List ℕ = c.aim.new.self.shown.items in
-    let turned : parts.next ≢ c.lead.inside.parts.next → (other ≡ parts.next * word_count me.0.shape) × (length shown ≡ length
-    c.lead.inside.draft.shown.items) × ((slot : ℕ) → get_or shown slot 0 ≡ 0) = λ ne. let t = e.turned ne in (
-      t.0
-          ∙ ap (λ (z : ℕ). parts.next * z) sized,
-      t.1,
-      t.2,
-    ) in
-    let lead = lead_aimed f _ base next root _ _ c.lead.inside.parts me given parts other shown e.own e.out e.next e.same turned in
-    let draft : IsDraft f c.lead.inside.seat.table_id other shown me.0 = lead.3 room in let same : c.bring.new.draft.base ≡ other = c.bring.ensures.base in let v1 : SeatView = c.bring.new.seat.me.0 in let v2 : SeatView = c.lay_shared.new.seat.me.0 in let v3 : SeatView = c.free_lanes.new.seat.me.0 in
-    let r : Renews f other root me.0 v1 v2 v3 s = record {
-      room = c.requires.room;
-      brought = c.bring.ensures.view;
-      laid = subst (λ (z : ℕ). IsLaidAs f s me.0.seen z root (words_in other s v1)) top.1 (c.bring.ensures.done (c.bring.ensures.all refl).0);
-      shared = subst (λ (z : ℕ). ChangesPart z s v1 v2) same c.lay_shared.ensures.changes;
-      shares = subst (λ (z : ℕ). SharesRecords f s s.bits (words_in z s v1) (words_in z s v2)) same c.lay_shared.ensures.shares;
-      freed = subst (λ (z : ℕ). ChangesPart z s v2 v3) same c.free_lanes.ensures.changes;
-      frees = subst (λ (z : ℕ). FreesLanes s s.workers (words_in z s v2) (words_in z s v3)) same c.free_lanes.ensures.frees;
-      apart = subst (λ (z : Shape). (other + word_count z ≤ me.0.base) ⊎ (me.0.base + word_count z ≤ other)) shape draft.apart;
-      inside = subst (λ (z : ℕ × Shape). other + word_count z.1 ≤ z.0) (λ i. (sym lead.2 i, shape i)) draft.inside;
-    } in record {
+    let aims = aimed f _ base next root _ _ c.lead.inside.parts me c.lead.invariant s (ap (λ (k : Known). k.view.shape) c.lead.view_is
+    ∙ c.requires.together.one_shape) c.requires.room _ (c.words-size.ensures.value ∙ ap word_count stored) parts other shown e.own e.out e.next e.same e.turned in
+    let top = (root_at _ _ _ s _ _ c.self.invariant stored).1 in
+    let same : c.bring.new.draft.base ≡ other = c.bring.ensures.base in let v1 : SeatView = c.bring.new.seat.me.0 in
+    let v2 : SeatView = c.lay_shared.new.seat.me.0 in let v3 : SeatView = c.free_lanes.new.seat.me.0 in
+    let r = renews_at f _ base next root other shown parts me s _ aims v1 v2 v3 _ _ top same c.bring.ensures.view (c.bring.ensures.done (c.bring.ensures.all refl).0)
+    c.lay_shared.ensures.changes c.lay_shared.ensures.shares c.free_lanes.ensures.changes c.free_lanes.ensures.frees in record {
       one_table = c.reopen.ensures.table ∙ c.free_lanes.ensures.may.seated;
-      one_shape = renewed_shape f c.lead.inside.seat.table_id base next root other shown parts me c.reopen.new.seat.me v1 v2 v3 s lead shape r
+      one_shape = renewed_shape f c.lead.inside.seat.table_id base next root other shown parts me c.reopen.new.seat.me v1 v2 v3 s aims.lead aims.shape r
           c.bring.new.draft.base same c.reopen.ensures.view;
     }
 
 pub returns-clause-opens : goal.returns-clause-opens
 returns-clause-opens g c =
     let f = face g.A.Monoid.parts g.B.Monoid.parts in let s : Shape = c.args.self.now.shape in let me : Sat = c.lead.inside.seat.me in
-    let given = c.lead.invariant in
-    let shape : me.0.shape ≡ s = ap (λ (k : Known). k.view.shape) c.lead.view_is ∙ c.requires.together.one_shape in
-    let room = subst (λ (z : Shape). 2 ^ z.bits ≤ z.members) (sym shape) c.requires.room in let stored = ap (λ (z : Store). z.shape) c.self.view_is in
-    let top = root_at _ _ _ s _ _ c.self.invariant stored in
+    let stored = ap (λ (z : Store). z.shape) c.self.view_is in let e = c.aim.ensures in let parts : Parts = c.aim.new.parts in
     let root : ℕ = c.lead.inside.root in let base : ℕ = c.lead.inside.base in let next : ℕ = c.lead.inside.next in
-    let sized = c.words-size.ensures.value ∙ ap word_count (stored ∙ sym shape) in let e = c.aim.ensures in let parts : Parts = c.aim.new.parts in
     let other : ℕ = c.aim.new.self.base in let shown : List ℕ = c.aim.new.self.shown.items in
-    let turned : parts.next ≢ c.lead.inside.parts.next → (other ≡ parts.next * word_count me.0.shape) × (length shown ≡ length
-    c.lead.inside.draft.shown.items) × ((slot : ℕ) → get_or shown slot 0 ≡ 0) = λ ne. let t = e.turned ne in (
-      t.0
-          ∙ ap (λ (z : ℕ). parts.next * z) sized,
-      t.1,
-      t.2,
-    ) in
-    let lead = lead_aimed f _ base next root _ _ c.lead.inside.parts me given parts other shown e.own e.out e.next e.same turned in
-    let draft : IsDraft f c.lead.inside.seat.table_id other shown me.0 = lead.3 room in let same : c.bring.new.draft.base ≡ other = c.bring.ensures.base in let v1 : SeatView = c.bring.new.seat.me.0 in let v2 : SeatView = c.lay_shared.new.seat.me.0 in let v3 : SeatView = c.free_lanes.new.seat.me.0 in
-    let r : Renews f other root me.0 v1 v2 v3 s = record {
-      room = c.requires.room;
-      brought = c.bring.ensures.view;
-      laid = subst (λ (z : ℕ). IsLaidAs f s me.0.seen z root (words_in other s v1)) top.1 (c.bring.ensures.done (c.bring.ensures.all refl).0);
-      shared = subst (λ (z : ℕ). ChangesPart z s v1 v2) same c.lay_shared.ensures.changes;
-      shares = subst (λ (z : ℕ). SharesRecords f s s.bits (words_in z s v1) (words_in z s v2)) same c.lay_shared.ensures.shares;
-      freed = subst (λ (z : ℕ). ChangesPart z s v2 v3) same c.free_lanes.ensures.changes;
-      frees = subst (λ (z : ℕ). FreesLanes s s.workers (words_in z s v2) (words_in z s v3)) same c.free_lanes.ensures.frees;
-      apart = subst (λ (z : Shape). (other + word_count z ≤ me.0.base) ⊎ (me.0.base + word_count z ≤ other)) shape draft.apart;
-      inside = subst (λ (z : ℕ × Shape). other + word_count z.1 ≤ z.0) (λ i. (sym lead.2 i, shape i)) draft.inside;
-    } in let here = renews_here f other root me.0 v1 v2 v3 s shape r in
-    let kn = lead.1.knows in let n = lead.1.names_root in let members : List (ℕ × ℕ) = pairs_of_cut (root_cut me.0.shape me.0.seen n.index) in
+    let aims = aimed f _ base next root _ _ c.lead.inside.parts me c.lead.invariant s (ap (λ (k : Known). k.view.shape) c.lead.view_is
+    ∙ c.requires.together.one_shape) c.requires.room _ (c.words-size.ensures.value ∙ ap word_count stored) parts other shown e.own e.out e.next e.same e.turned in
+    let top = (root_at _ _ _ s _ _ c.self.invariant stored).1 in
+    let same : c.bring.new.draft.base ≡ other = c.bring.ensures.base in let v1 : SeatView = c.bring.new.seat.me.0 in
+    let v2 : SeatView = c.lay_shared.new.seat.me.0 in let v3 : SeatView = c.free_lanes.new.seat.me.0 in
+    let r = renews_at f _ base next root other shown parts me s _ aims v1 v2 v3 _ _ top same c.bring.ensures.view (c.bring.ensures.done (c.bring.ensures.all refl).0)
+    c.lay_shared.ensures.changes c.lay_shared.ensures.shares c.free_lanes.ensures.changes c.free_lanes.ensures.frees in
+    let here = renews_here f other root me.0 v1 v2 v3 s aims.shape r in let kn = aims.lead.1.knows in let n = aims.lead.1.names_root in
+    let members : List (ℕ × ℕ) = pairs_of_cut (root_cut me.0.shape me.0.seen n.index) in
     let re : Reopens f members other v3 c.reopen.new.seat.me.0 = subst (λ (z : ℕ). Reopens f members z v3 c.reopen.new.seat.me.0) same (c.reopen.ensures.view members (subst (λ (z : ℕ). IsOpened f (opening_with v3.shape members) (words_in z v3.shape v3)) (sym same) (opened_by f other root me.0 v1 v2 v3 kn n here))) in
     subst (λ (k : Known). OpensAgain f k.view c.reopen.new.seat.me.0) c.lead.view_is (opens_again f other root me.0 v1 v2 v3 kn n here c.reopen.new.seat.me.0 re)
 
 pub invariant_of-result : goal.invariant_of-result
 invariant_of-result g c =
     let f = face g.A.Monoid.parts g.B.Monoid.parts in let s : Shape = c.args.self.now.shape in let me : Sat = c.lead.inside.seat.me in
-    let given = c.lead.invariant in
-    let shape : me.0.shape ≡ s = ap (λ (k : Known). k.view.shape) c.lead.view_is ∙ c.requires.together.one_shape in
-    let room = subst (λ (z : Shape). 2 ^ z.bits ≤ z.members) (sym shape) c.requires.room in let stored = ap (λ (z : Store). z.shape) c.self.view_is in
-    let top = root_at _ _ _ s _ _ c.self.invariant stored in
+    let stored = ap (λ (z : Store). z.shape) c.self.view_is in let e = c.aim.ensures in let parts : Parts = c.aim.new.parts in
     let root : ℕ = c.lead.inside.root in let base : ℕ = c.lead.inside.base in let next : ℕ = c.lead.inside.next in
-    let sized = c.words-size.ensures.value ∙ ap word_count (stored ∙ sym shape) in let e = c.aim.ensures in let parts : Parts = c.aim.new.parts in
     let other : ℕ = c.aim.new.self.base in let shown : List ℕ = c.aim.new.self.shown.items in
-    let turned : parts.next ≢ c.lead.inside.parts.next → (other ≡ parts.next * word_count me.0.shape) × (length shown ≡ length
-    c.lead.inside.draft.shown.items) × ((slot : ℕ) → get_or shown slot 0 ≡ 0) = λ ne. let t = e.turned ne in (
-      t.0
-          ∙ ap (λ (z : ℕ). parts.next * z) sized,
-      t.1,
-      t.2,
-    ) in
-    let lead = lead_aimed f _ base next root _ _ c.lead.inside.parts me given parts other shown e.own e.out e.next e.same turned in
-    let draft : IsDraft f c.lead.inside.seat.table_id other shown me.0 = lead.3 room in let same : c.bring.new.draft.base ≡ other = c.bring.ensures.base in let v1 : SeatView = c.bring.new.seat.me.0 in let v2 : SeatView = c.lay_shared.new.seat.me.0 in let v3 : SeatView = c.free_lanes.new.seat.me.0 in
-    let r : Renews f other root me.0 v1 v2 v3 s = record {
-      room = c.requires.room;
-      brought = c.bring.ensures.view;
-      laid = subst (λ (z : ℕ). IsLaidAs f s me.0.seen z root (words_in other s v1)) top.1 (c.bring.ensures.done (c.bring.ensures.all refl).0);
-      shared = subst (λ (z : ℕ). ChangesPart z s v1 v2) same c.lay_shared.ensures.changes;
-      shares = subst (λ (z : ℕ). SharesRecords f s s.bits (words_in z s v1) (words_in z s v2)) same c.lay_shared.ensures.shares;
-      freed = subst (λ (z : ℕ). ChangesPart z s v2 v3) same c.free_lanes.ensures.changes;
-      frees = subst (λ (z : ℕ). FreesLanes s s.workers (words_in z s v2) (words_in z s v3)) same c.free_lanes.ensures.frees;
-      apart = subst (λ (z : Shape). (other + word_count z ≤ me.0.base) ⊎ (me.0.base + word_count z ≤ other)) shape draft.apart;
-      inside = subst (λ (z : ℕ × Shape). other + word_count z.1 ≤ z.0) (λ i. (sym lead.2 i, shape i)) draft.inside;
-    } in
+    let aims = aimed f _ base next root _ _ c.lead.inside.parts me c.lead.invariant s (ap (λ (k : Known). k.view.shape) c.lead.view_is
+    ∙ c.requires.together.one_shape) c.requires.room _ (c.words-size.ensures.value ∙ ap word_count stored) parts other shown e.own e.out e.next e.same e.turned in
+    let top = (root_at _ _ _ s _ _ c.self.invariant stored).1 in
+    let same : c.bring.new.draft.base ≡ other = c.bring.ensures.base in let v1 : SeatView = c.bring.new.seat.me.0 in
+    let v2 : SeatView = c.lay_shared.new.seat.me.0 in let v3 : SeatView = c.free_lanes.new.seat.me.0 in
+    let r = renews_at f _ base next root other shown parts me s _ aims v1 v2 v3 _ _ top same c.bring.ensures.view (c.bring.ensures.done (c.bring.ensures.all refl).0)
+    c.lay_shared.ensures.changes c.lay_shared.ensures.shares c.free_lanes.ensures.changes c.free_lanes.ensures.frees in
     let one = c.reopen.ensures.table ∙ c.free_lanes.ensures.may.seated ∙ sym (ap (λ (k : Known). k.table) c.lead.view_is ∙ c.requires.together.one_table) in
-    lead_renewed f c.lead.inside.seat.table_id base next root other shown parts me c.reopen.new.seat.me v1 v2 v3 s lead shape r c.bring.new.draft.base same
-    c.reopen.ensures.view c.own_number.result (c.self.inside.lanes - 1) top.1 c.own_number.ensures
+    lead_renewed f c.lead.inside.seat.table_id base next root other shown parts me c.reopen.new.seat.me v1 v2 v3 s aims.lead aims.shape r c.bring.new.draft.base same
+    c.reopen.ensures.view c.own_number.result (c.self.inside.lanes - 1) top c.own_number.ensures
     c.reopen.new.seat.table_id c.turn.new.self.base c.turn.new.self.shown.items c.swap.new.self one c.reopen.ensures.no_slot c.turn.ensures.base
     (c.turn.ensures.noted ∙ c.bring.ensures.brings.noted) c.turn.ensures.none
     c.swap.ensures.own c.swap.ensures.next c.swap.ensures.out
@@ -277,61 +163,5 @@ invariant_of-result g c =
 pub overflow_sub-top : goal.overflow_sub-top
 overflow_sub-top g c = (root_at _ _ _ c.args.self.now.shape _ _ c.self.invariant (ap (λ (z : Store). z.shape) c.self.view_is)).0
 
-pub aim-requires-clause-next : goal.aim-requires-clause-next
-aim-requires-clause-next g c = (lead_parts (face g.A.Monoid.parts g.B.Monoid.parts) _ _ _ _ _ _ c.lead.inside.parts c.lead.inside.seat.me c.lead.invariant
-    (subst (λ (z : Shape). 2 ^ z.bits ≤ z.members) (sym (ap (λ (k : Known). k.view.shape) c.lead.view_is ∙ c.requires.together.one_shape)) c.requires.room)).1
-
-pub aim-requires-clause-small : goal.aim-requires-clause-small
-aim-requires-clause-small g c =
-    let sized = c.words-size.ensures.value ∙ ap word_count (ap (λ (z : Store). z.shape) c.self.view_is
-    ∙ sym (ap (λ (k : Known). k.view.shape) c.lead.view_is ∙ c.requires.together.one_shape)) in
-    subst (λ (z : ℕ). length c.lead.inside.parts.out.items * z < 2 ^ 60) (sym sized) (lead_parts (face g.A.Monoid.parts g.B.Monoid.parts) _ _ _ _ _ _
-    c.lead.inside.parts c.lead.inside.seat.me c.lead.invariant (subst (λ (z : Shape). 2 ^ z.bits ≤ z.members) (sym (ap (λ (k : Known). k.view.shape)
-    c.lead.view_is ∙ c.requires.together.one_shape)) c.requires.room)).2
-
 pub bring-requires-clause-node : goal.bring-requires-clause-node
 bring-requires-clause-node g c = (root_at _ _ _ c.args.self.now.shape _ _ c.self.invariant (ap (λ (z : Store). z.shape) c.self.view_is)).2
-
-pub bring-requires-clause-noted : goal.bring-requires-clause-noted
-bring-requires-clause-noted g c =
-    let f = face g.A.Monoid.parts g.B.Monoid.parts in let s : Shape = c.args.self.now.shape in let me : Sat = c.lead.inside.seat.me in
-    let given = c.lead.invariant in
-    let shape : me.0.shape ≡ s = ap (λ (k : Known). k.view.shape) c.lead.view_is ∙ c.requires.together.one_shape in
-    let room = subst (λ (z : Shape). 2 ^ z.bits ≤ z.members) (sym shape) c.requires.room in let stored = ap (λ (z : Store). z.shape) c.self.view_is in
-    let root : ℕ = c.lead.inside.root in let base : ℕ = c.lead.inside.base in let next : ℕ = c.lead.inside.next in
-    let sized = c.words-size.ensures.value ∙ ap word_count (stored ∙ sym shape) in let e = c.aim.ensures in let parts : Parts = c.aim.new.parts in
-    let other : ℕ = c.aim.new.self.base in let shown : List ℕ = c.aim.new.self.shown.items in
-    let turned : parts.next ≢ c.lead.inside.parts.next → (other ≡ parts.next * word_count me.0.shape) × (length shown ≡ length
-    c.lead.inside.draft.shown.items) × ((slot : ℕ) → get_or shown slot 0 ≡ 0) = λ ne. let t = e.turned ne in (
-      t.0
-          ∙ ap (λ (z : ℕ). parts.next * z) sized,
-      t.1,
-      t.2,
-    ) in
-    let lead = lead_aimed f _ base next root _ _ c.lead.inside.parts me given parts other shown e.own e.out e.next e.same turned in
-    root_noted f _ base next root other shown parts me lead room s shape
-
-pub lay_shared-requires : goal.lay_shared-requires
-lay_shared-requires g c = record {
-  may = subst (λ (z : ℕ). MayLay c.bring.new.seat.table_id c.args.self.now.table z c.args.self.now.shape
-      c.bring.new.seat.me) (sym c.bring.ensures.base) c.bring.ensures.may.may;
-}
-
-pub reopen-requires-clause-table : goal.reopen-requires-clause-table
-reopen-requires-clause-table g c = c.free_lanes.ensures.may.seated ∙ sym (ap (λ (z : Store). z.table) c.self.view_is)
-
-pub reopen-requires-clause-some : goal.reopen-requires-clause-some
-reopen-requires-clause-some g c = let workers = subst (λ (z : Shape). 1 ≤ z.workers) (ap (λ (z : Store). z.shape) c.self.view_is)
-    c.self.invariant.laid_out.workers.0 in
-    starts_in _ _ _ _ c.free_lanes.ensures.may.inside (some_size c.args.self.now.shape workers) (ap (λ (z : Store). z.table.words) c.self.view_is)
-
-pub reopen-requires-clause-laid_out : goal.reopen-requires-clause-laid_out
-reopen-requires-clause-laid_out g c = subst IsLayout (sym (ap (λ (z : SeatView). z.shape) c.free_lanes.ensures.changes.view_is
-    ∙ ap (λ (z : SeatView). z.shape) c.lay_shared.ensures.changes.view_is ∙ ap (λ (z : SeatView). z.shape) c.bring.ensures.view.view_is))
-    c.lead.invariant.1.knows.laid_out
-
-pub reopen-requires-clause-live : goal.reopen-requires-clause-live
-reopen-requires-clause-live g c = c.free_lanes.ensures.may.leads.live
-
-pub reopen-requires-clause-no_slot : goal.reopen-requires-clause-no_slot
-reopen-requires-clause-no_slot g c = c.free_lanes.ensures.may.no_slot

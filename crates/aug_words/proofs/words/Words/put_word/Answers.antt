@@ -4,7 +4,7 @@ use Rattle.aug_core.specs.Renewals.{rewriting}
 use Rattle.aug_core.specs.declared.view.SeatView.{SeatView}
 use Rattle.aug_words.specs.Seats.{Store}
 use Rattle.aug_words.specs.inside.Laying.{ChangesPart, MayLay}
-use Rattle.aug_words.proofs.Lays.{changes_none, lay_loads, lay_stores, lays_on, puts_none, puts_word}
+use Rattle.aug_words.proofs.Lays.{changes_none, lay_loads, lay_stores, lays_on, puts_word}
 use Rattle.aug_words.proofs.words.Words.put_word.Goals as goal
 
 pub load-requires : goal.load-requires
@@ -26,13 +26,3 @@ returns-then-load-value-clause-may g c = let m = c.requires.may in
 pub returns-then-load-value-clause-puts : goal.returns-then-load-value-clause-puts
 returns-then-load-value-clause-puts g c = puts_word c.args.base c.args.self.now.shape _ _ (c.args.base + c.args.place) c.args.place c.args.value refl c.requires.place
     (c.store.ensures.2.1 ∙ ap (λ (z : SeatView). rewriting z (c.args.base + c.args.place) c.args.value) c.load.ensures.2.1)
-
-pub returns-else-load-value-clause-may : goal.returns-else-load-value-clause-may
-returns-else-load-value-clause-may g c = let told = c.load.ensures.2 in
-    lays_on c.args.base c.args.self.now.shape _ _ _ _ _ c.requires.may c.load.ensures.0 told.0 (subst (ChangesPart c.args.base c.args.self.now.shape
-    c.args.seat.now.me.0) (sym told.1) (changes_none _ _ _))
-
-pub returns-else-load-value-clause-puts : goal.returns-else-load-value-clause-puts
-returns-else-load-value-clause-puts g c = let told = c.load.ensures.2 in
-    puts_none c.args.base c.args.self.now.shape _ _ (c.args.base + c.args.place) c.args.place c.args.value refl c.requires.place told.1 (sym
-    c.if-load-value.false ∙ told.2)

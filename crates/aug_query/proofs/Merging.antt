@@ -19,7 +19,7 @@ use Rattle.aug_query.specs.DescendBoth.{BothSets}
 use Rattle.aug_query.specs.Tree.{IsTreeSet}
 use Rattle.aug_query.specs.BothMembers.{members_of_both}
 use Rattle.aug_query.specs.inside.Since.{below_both}
-use Rattle.aug_query.specs.declared.descent.pages.Side.TheVariants.{From}
+use Rattle.aug_query.specs.declared.descent.pages.Stretch.TheVariants.{From}
 use Rattle.aug_query.specs.declared.loaded.Loaded.{Loaded}
 use Rattle.aug_query.proofs.Boundaries.{boundary_stays, none_between}
 use Rattle.aug_query.proofs.Changing.{changes_below}

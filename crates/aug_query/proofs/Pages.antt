@@ -14,8 +14,8 @@ use Rattle.aug_model.proofs.Pairs.{range-again, pairs_of-append, length-pairs_of
 use Rattle.aug_model.proofs.Ranges.{range_cut, range_none, range_clipped, range_within, no_members}
 use Rattle.aug_query.specs.Tree.{IsTreeSet}
 use Rattle.aug_query.specs.Yields.{members_from, members_below}
-use Rattle.aug_query.specs.declared.descent.pages.Side.{Side}
-use Rattle.aug_query.specs.declared.descent.pages.Side.TheVariants.{From, Below}
+use Rattle.aug_query.specs.declared.descent.pages.Stretch.{Stretch}
+use Rattle.aug_query.specs.declared.descent.pages.Stretch.TheVariants.{From, Below}
 use Rattle.aug_query.specs.inside.Pages.{Reaches, crosses, part_of, place_of_first, place_of_second}
 use Rattle.aug_query.specs.Descend.{Descends}
 use Rattle.aug_query.specs.declared.loaded.Loaded.{Loaded}
@@ -51,43 +51,43 @@ below_clipped set k is =
       | inr within ↦ ap (members_below set) (min-eq_right {n = k} {m = n} within)
     ]
 
--- nothing, where no key is on the side
-pub part_none : (set : SetFacts) (side : Side) (a b : ℕ) → IsTreeSet set → (Reaches side a b → ⊥) → part_of side set.pairs a b ≡ []
+-- nothing, where no key is in the stretch
+pub part_none : (set : SetFacts) (stretch : Stretch) (a b : ℕ) → IsTreeSet set → (Reaches stretch a b → ⊥) → part_of stretch set.pairs a b ≡ []
 part_none set (From k) a b is not = pairs_none set (max a k) b is (omega (arith, not, le-max_right a k))
 part_none set (Below k) a b is not = ap reverse (pairs_none set a (min b k) is (omega (arith, not, min-le_right b k)))
 
--- the other way round on the one side
-turned : {X : Type 0} → Side → List X → List X
+-- the other way round in a falling stretch
+turned : {X : Type 0} → Stretch → List X → List X
 turned (From k) xs = xs
 turned (Below k) xs = reverse xs
 
--- all of them, where all keys are on the side
-part_whole : (set : SetFacts) (side : Side) (a b : ℕ) → Reaches side a b → crosses side a b ≡ 0 → part_of side set.pairs a b ≡ turned side (weighted_range_of set.pairs a b)
+-- all of them, where all keys are in the stretch
+part_whole : (set : SetFacts) (stretch : Stretch) (a b : ℕ) → Reaches stretch a b → crosses stretch a b ≡ 0 → part_of stretch set.pairs a b ≡ turned stretch (weighted_range_of set.pairs a b)
 unfolding turned
 part_whole set (From k) a b some none = ap (λ (n : ℕ). weighted_range_of set.pairs n b) (max-eq_left {n = a} {m = k} (omega (arith, some, none)))
 part_whole set (Below k) a b some none = ap (λ (n : ℕ). reverse (weighted_range_of set.pairs a n)) (min-eq_left {n = b} {m = k} (omega (arith, some, none)))
 
-length-turned : {X : Type 0} (side : Side) (xs : List X) → length (turned side xs) ≡ length xs
+length-turned : {X : Type 0} (stretch : Stretch) (xs : List X) → length (turned stretch xs) ≡ length xs
 unfolding turned
 length-turned (From k) xs = refl
 length-turned (Below k) xs = length-reverse xs
 
-turned_one : {X : Type 0} (side : Side) (x : X) → turned side (x ∷ []) ≡ x ∷ []
+turned_one : {X : Type 0} (stretch : Stretch) (x : X) → turned stretch (x ∷ []) ≡ x ∷ []
 unfolding turned
 turned_one (From k) x = refl
 turned_one (Below k) x = refl
 
 -- a leaf gives its member
-pub part_leaf : (set : SetFacts) (side : Side) (level place n w : ℕ) → IsTreeSet set → level ≡ 0 → Reaches side (first_key level place) (end_key level place) → n ≡ length (keys_below (list_of set) level place) → n ≢ 0 → w ≡ weight_in set.pairs place
-    → part_of side set.pairs (first_key level place) (end_key level place) ≡ (place, w) ∷ []
-part_leaf set side level place n w is leaf some counts there weighs =
+pub part_leaf : (set : SetFacts) (stretch : Stretch) (level place n w : ℕ) → IsTreeSet set → level ≡ 0 → Reaches stretch (first_key level place) (end_key level place) → n ≡ length (keys_below (list_of set) level place) → n ≢ 0 → w ≡ weight_in set.pairs place
+    → part_of stretch set.pairs (first_key level place) (end_key level place) ≡ (place, w) ∷ []
+part_leaf set stretch level place n w is leaf some counts there weighs =
     let first = leaf_first level place leaf in
     let end = leaf_end level place leaf in
     let alone = ap (pairs_of (weight_in set.pairs)) (leaf_below_one set level place n is leaf counts there) ∙ ap (λ (z : ℕ). (place, z) ∷ []) (sym weighs) in
     let one = range-again set.pairs (first_key level place) (end_key level place) (set_rises is) ∙ alone in
-    part_whole set side (first_key level place) (end_key level place) some (omega (arith, first, end)) ∙ ap (turned side) one ∙ turned_one side (place, w)
+    part_whole set stretch (first_key level place) (end_key level place) some (omega (arith, first, end)) ∙ ap (turned stretch) one ∙ turned_one stretch (place, w)
 
--- the side's members among those of an interval are those of its two parts
+-- the stretch's members among those of an interval are those of its two parts
 from_cut : (set : SetFacts) (k a m b : ℕ) → IsTreeSet set → a ≤ m → m ≤ b → weighted_range_of set.pairs (max a k) b ≡ weighted_range_of set.pairs (max a k) m ++ weighted_range_of set.pairs (max m k) b
 from_cut set k a m b is low high =
     elim (cases_lt m k) [
@@ -130,8 +130,8 @@ module _ (level l place : ℕ) (e : l + 1 ≡ level) where
   high_half = omega (arith, ends)
 
   -- a node gives what its two children give
-  pub part_children : (set : SetFacts) (side : Side) → IsTreeSet set → part_of side set.pairs (first_key level place) (end_key level place)
-      ≡ part_of side set.pairs (first_key l (place_of_first side place)) (end_key l (place_of_first side place)) ++ part_of side set.pairs (first_key l (place_of_second side place)) (end_key l (place_of_second side place))
+  pub part_children : (set : SetFacts) (stretch : Stretch) → IsTreeSet set → part_of stretch set.pairs (first_key level place) (end_key level place)
+      ≡ part_of stretch set.pairs (first_key l (place_of_first stretch place)) (end_key l (place_of_first stretch place)) ++ part_of stretch set.pairs (first_key l (place_of_second stretch place)) (end_key l (place_of_second stretch place))
   part_children set (From k) is =
       from_cut set k (first_key level place) (end_key l (2 * place)) (end_key level place) is low_half high_half
       ∙ ap (λ (n : ℕ). weighted_range_of set.pairs (max n k) (end_key l (2 * place)) ++ weighted_range_of set.pairs (max (end_key l (2 * place)) k) (end_key level place)) (sym begins)
@@ -143,13 +143,13 @@ module _ (level l place : ℕ) (e : l + 1 ≡ level) where
       ∙ ap (λ (n : ℕ). weighted_range_of set.pairs n (min (end_key l (2 * place)) k) ++ weighted_range_of set.pairs (end_key l (2 * place)) (min (end_key level place) k)) (sym begins)
       ∙ ap (λ (n : ℕ). left ++ weighted_range_of set.pairs (end_key l (2 * place)) (min n k)) (sym ends)) ∙ reverse-append left right
 
-  -- and only one of them has some keys on the side and others not, if it has
-  pub one_crosses : (side : Side) → crosses side (first_key l (place_of_first side place)) (end_key l (place_of_first side place)) + crosses side (first_key l (place_of_second side place)) (end_key l (place_of_second side place)) ≤ crosses side (first_key level place) (end_key level place)
+  -- and only one of them has some keys in the stretch and others not, if it has
+  pub one_crosses : (stretch : Stretch) → crosses stretch (first_key l (place_of_first stretch place)) (end_key l (place_of_first stretch place)) + crosses stretch (first_key l (place_of_second stretch place)) (end_key l (place_of_second stretch place)) ≤ crosses stretch (first_key level place) (end_key level place)
   one_crosses (From k) = omega (arith, begins, ends, low_half, high_half)
   one_crosses (Below k) = omega (arith, begins, ends, low_half, high_half)
 
   -- how many members the second child covers
-  pub second_count : (set low high : SetFacts) (side : Side) (p q n some : ℕ) → IsTreeSet set → low ≡ set → high ≡ set → p ≡ place_of_first side place → q ≡ place_of_second side place → n ≡ length (keys_below (list_of set) level place) → some ≡ length (keys_below (list_of low) l p)
+  pub second_count : (set low high : SetFacts) (stretch : Stretch) (p q n some : ℕ) → IsTreeSet set → low ≡ set → high ≡ set → p ≡ place_of_first stretch place → q ≡ place_of_second stretch place → n ≡ length (keys_below (list_of set) level place) → some ≡ length (keys_below (list_of low) l p)
       → (some ≤ n) × (n - some ≡ length (keys_below (list_of high) l q))
   second_count set low high (From k) p q n some is same alike at next all counts =
       let both = children_length (list_of set) level l place (set_rises is) e in
@@ -214,23 +214,23 @@ part_counts level l x y z e few some =
     omega (arith, each, more, some, ap (λ j. j * z) e)
 
 -- a node that is gone into gives a member, or has keys on either side
-pub some_given : (set : SetFacts) (side : Side) (level place n : ℕ) (old new : List (ℕ × ℕ)) → IsTreeSet set → n ≡ length (keys_below (list_of set) level place) → n ≢ 0 → length old < 32 → Reaches side (first_key level place) (end_key level place)
-    → new ≡ old ++ take (32 - length old) (part_of side set.pairs (first_key level place) (end_key level place)) → 1 ≤ length new - length old + crosses side (first_key level place) (end_key level place)
-some_given set side level place n old new is counts some room reaches given =
+pub some_given : (set : SetFacts) (stretch : Stretch) (level place n : ℕ) (old new : List (ℕ × ℕ)) → IsTreeSet set → n ≡ length (keys_below (list_of set) level place) → n ≢ 0 → length old < 32 → Reaches stretch (first_key level place) (end_key level place)
+    → new ≡ old ++ take (32 - length old) (part_of stretch set.pairs (first_key level place) (end_key level place)) → 1 ≤ length new - length old + crosses stretch (first_key level place) (end_key level place)
+some_given set stretch level place n old new is counts some room reaches given =
     let a = first_key level place in
     let b = end_key level place in
-    let part = part_of side set.pairs a b in
+    let part = part_of stretch set.pairs a b in
     let long : length new ≡ length old + min (32 - length old) (length part) = ap length given ∙ length-append old (take (32 - length old) part) ∙ ap (λ (m : ℕ). length old + m) (length-take (32 - length old) part) in
-    elim (cases_lt 0 (crosses side a b)) [
+    elim (cases_lt 0 (crosses stretch a b)) [
       | inl crossed ↦ omega (arith, crossed)
       | inr within ↦
-          let whole = ap length (part_whole set side a b reaches (omega (arith, within))) ∙ length-turned side (weighted_range_of set.pairs a b) ∙ length-pairs_below set level place is in
+          let whole = ap length (part_whole set stretch a b reaches (omega (arith, within))) ∙ length-turned stretch (weighted_range_of set.pairs a b) ∙ length-pairs_below set level place is in
           omega (arith, long, whole, counts, some, room)
     ]
 
 -- a page has no more than its places
-pub page_few : {X : Type 0} (side : Side) (a b : ℕ) (old new part : List X) → old ≡ [] → new ≡ old ++ take (32 - length old) part → length new - length old + crosses side a b ≤ 33
-page_few side a b old new part none given =
+pub page_few : {X : Type 0} (stretch : Stretch) (a b : ℕ) (old new part : List X) → old ≡ [] → new ≡ old ++ take (32 - length old) part → length new - length old + crosses stretch a b ≤ 33
+page_few stretch a b old new part none given =
     let long : length new ≡ length old + min (32 - length old) (length part) = ap length given ∙ length-append old (take (32 - length old) part) ∙ ap (λ (m : ℕ). length old + m) (length-take (32 - length old) part) in
     omega (arith, long, ap length none)
 
@@ -245,38 +245,38 @@ inner_none set a b c d is none low high =
     ]
 
 -- and no member is given, where a node covers none
-pub part_empty : (set : SetFacts) (side : Side) (level place n : ℕ) → IsTreeSet set → n ≡ length (keys_below (list_of set) level place) → n ≡ 0 → part_of side set.pairs (first_key level place) (end_key level place) ≡ []
+pub part_empty : (set : SetFacts) (stretch : Stretch) (level place n : ℕ) → IsTreeSet set → n ≡ length (keys_below (list_of set) level place) → n ≡ 0 → part_of stretch set.pairs (first_key level place) (end_key level place) ≡ []
 part_empty set (From k) level place n is counts none = inner_none set (first_key level place) (max (first_key level place) k) (end_key level place) (end_key level place) is (sym counts ∙ none) (le-max_left (first_key level place) k) (le_refl (end_key level place))
 part_empty set (Below k) level place n is counts none = ap reverse (inner_none set (first_key level place) (first_key level place) (min (end_key level place) k) (end_key level place) is (sym counts ∙ none) (le_refl (first_key level place)) (min-le_left (end_key level place) k))
 
-module _ (level l place : ℕ) (e : l + 1 ≡ level) (side : Side) (p q : ℕ) (at : p ≡ place_of_first side place) (next : q ≡ place_of_second side place) where
+module _ (level l place : ℕ) (e : l + 1 ≡ level) (stretch : Stretch) (p q : ℕ) (at : p ≡ place_of_first stretch place) (next : q ≡ place_of_second stretch place) where
   -- a page after the parts of both children, where their sets and places are written in another way
-  pub both_given : (set low high : SetFacts) (old mid new : List (ℕ × ℕ)) → IsTreeSet set → low ≡ set → high ≡ set → mid ≡ old ++ take (32 - length old) (part_of side low.pairs (first_key l p) (end_key l p))
-      → new ≡ mid ++ take (32 - length mid) (part_of side high.pairs (first_key l q) (end_key l q)) → new ≡ old ++ take (32 - length old) (part_of side set.pairs (first_key level place) (end_key level place))
+  pub both_given : (set low high : SetFacts) (old mid new : List (ℕ × ℕ)) → IsTreeSet set → low ≡ set → high ≡ set → mid ≡ old ++ take (32 - length old) (part_of stretch low.pairs (first_key l p) (end_key l p))
+      → new ≡ mid ++ take (32 - length mid) (part_of stretch high.pairs (first_key l q) (end_key l q)) → new ≡ old ++ take (32 - length old) (part_of stretch set.pairs (first_key level place) (end_key level place))
   both_given set low high old mid new is same alike first then =
-      let part = λ (z : ℕ). part_of side set.pairs (first_key l z) (end_key l z) in
-      let mine = ap (λ (s : SetFacts). part_of side s.pairs (first_key l p) (end_key l p)) same ∙ ap part at in
-      let other = ap (λ (s : SetFacts). part_of side s.pairs (first_key l q) (end_key l q)) alike ∙ ap part next in
-      page_joined 32 old mid new (part (place_of_first side place)) (part (place_of_second side place)) (first ∙ ap (λ (xs : List (ℕ × ℕ)). old ++ take (32 - length old) xs) mine) (then ∙ ap (λ (xs : List (ℕ × ℕ)). mid ++ take (32 - length mid) xs) other)
-      ∙ ap (λ (xs : List (ℕ × ℕ)). old ++ take (32 - length old) xs) (sym (part_children level l place e set side is))
+      let part = λ (z : ℕ). part_of stretch set.pairs (first_key l z) (end_key l z) in
+      let mine = ap (λ (s : SetFacts). part_of stretch s.pairs (first_key l p) (end_key l p)) same ∙ ap part at in
+      let other = ap (λ (s : SetFacts). part_of stretch s.pairs (first_key l q) (end_key l q)) alike ∙ ap part next in
+      page_joined 32 old mid new (part (place_of_first stretch place)) (part (place_of_second stretch place)) (first ∙ ap (λ (xs : List (ℕ × ℕ)). old ++ take (32 - length old) xs) mine) (then ∙ ap (λ (xs : List (ℕ × ℕ)). mid ++ take (32 - length mid) xs) other)
+      ∙ ap (λ (xs : List (ℕ × ℕ)). old ++ take (32 - length old) xs) (sym (part_children level l place e set stretch is))
 
   -- what both give, and where both have keys on either side
   both_few : {X : Type 0} (old mid new xs ys : List X) → mid ≡ old ++ xs → new ≡ mid ++ ys
-      → length mid - length old + crosses side (first_key l p) (end_key l p) + (length new - length mid + crosses side (first_key l q) (end_key l q)) ≤ length new - length old + crosses side (first_key level place) (end_key level place)
+      → length mid - length old + crosses stretch (first_key l p) (end_key l p) + (length new - length mid + crosses stretch (first_key l q) (end_key l q)) ≤ length new - length old + crosses stretch (first_key level place) (end_key level place)
   both_few old mid new xs ys first then =
-      let one = one_crosses level l place e side in
-      let mine = ap (λ (z : ℕ). crosses side (first_key l z) (end_key l z)) at in
-      let other = ap (λ (z : ℕ). crosses side (first_key l z) (end_key l z)) next in
+      let one = one_crosses level l place e stretch in
+      let mine = ap (λ (z : ℕ). crosses stretch (first_key l z) (end_key l z)) at in
+      let other = ap (λ (z : ℕ). crosses stretch (first_key l z) (end_key l z)) next in
       omega (arith, one, mine, other, ap length first, length-append old xs, ap length then, length-append mid ys)
 
   -- the loads of the descents into both children, and of the children themselves
   module _ {Tree Name : Type 0} {set_of : Tree → SetFacts} {loads_of : Tree → Loaded} {Names : Tree → ℕ → ℕ → Name → Type 0} {KeepsRest : Tree → Tree → Type 0} (on : (first tree last : Tree) → KeepsRest first tree → KeepsRest tree last → KeepsRest first last) where
-    pub both_descend : {X : Type 0} {a b c d f h : Tree} (old mid new xs ys : List X) → mid ≡ old ++ xs → new ≡ mid ++ ys → 1 ≤ length new - length old + crosses side (first_key level place) (end_key level place)
+    pub both_descend : {X : Type 0} {a b c d f h : Tree} (old mid new xs ys : List X) → mid ≡ old ++ xs → new ≡ mid ++ ys → 1 ≤ length new - length old + crosses stretch (first_key level place) (end_key level place)
         → Descends set_of loads_of Names KeepsRest 1 0 0 0 a b → Descends set_of loads_of Names KeepsRest 0 1 0 0 b c
-        → Descends set_of loads_of Names KeepsRest (2 * l * (length mid - length old + crosses side (first_key l p) (end_key l p))) (l * (length mid - length old + crosses side (first_key l p) (end_key l p))) 0 0 c d
+        → Descends set_of loads_of Names KeepsRest (2 * l * (length mid - length old + crosses stretch (first_key l p) (end_key l p))) (l * (length mid - length old + crosses stretch (first_key l p) (end_key l p))) 0 0 c d
         → Descends set_of loads_of Names KeepsRest 1 0 0 0 d f
-        → Descends set_of loads_of Names KeepsRest (2 * l * (length new - length mid + crosses side (first_key l q) (end_key l q))) (l * (length new - length mid + crosses side (first_key l q) (end_key l q))) 0 0 f h
-        → Descends set_of loads_of Names KeepsRest (2 * level * (length new - length old + crosses side (first_key level place) (end_key level place))) (level * (length new - length old + crosses side (first_key level place) (end_key level place))) 0 0 a h
+        → Descends set_of loads_of Names KeepsRest (2 * l * (length new - length mid + crosses stretch (first_key l q) (end_key l q))) (l * (length new - length mid + crosses stretch (first_key l q) (end_key l q))) 0 0 f h
+        → Descends set_of loads_of Names KeepsRest (2 * level * (length new - length old + crosses stretch (first_key level place) (end_key level place))) (level * (length new - length old + crosses stretch (first_key level place) (end_key level place))) 0 0 a h
     both_descend old mid new xs ys front back some child count walk other rest =
         let few = both_few old mid new xs ys front back in
         let first = further on (further on child count (le_refl _) (le_refl _) (le_refl _) (le_refl _)) walk (le_refl _) (le_refl _) (le_refl _) (le_refl _) in
@@ -284,13 +284,13 @@ module _ (level l place : ℕ) (e : l + 1 ≡ level) (side : Side) (p q : ℕ) (
         further on next rest (part_nodes level l _ _ _ e few some) (part_counts level l _ _ _ e few some) (le_refl _) (le_refl _)
 
     -- those of the descent into the first child alone, if the other one gives nothing
-    pub first_descends : {X : Type 0} {a b c d : Tree} (old mid xs ys : List X) → mid ≡ old ++ xs → mid ≡ mid ++ ys → 1 ≤ length mid - length old + crosses side (first_key level place) (end_key level place)
+    pub first_descends : {X : Type 0} {a b c d : Tree} (old mid xs ys : List X) → mid ≡ old ++ xs → mid ≡ mid ++ ys → 1 ≤ length mid - length old + crosses stretch (first_key level place) (end_key level place)
         → Descends set_of loads_of Names KeepsRest 1 0 0 0 a b → Descends set_of loads_of Names KeepsRest 0 1 0 0 b c
-        → Descends set_of loads_of Names KeepsRest (2 * l * (length mid - length old + crosses side (first_key l p) (end_key l p))) (l * (length mid - length old + crosses side (first_key l p) (end_key l p))) 0 0 c d
-        → Descends set_of loads_of Names KeepsRest (2 * level * (length mid - length old + crosses side (first_key level place) (end_key level place))) (level * (length mid - length old + crosses side (first_key level place) (end_key level place))) 0 0 a d
+        → Descends set_of loads_of Names KeepsRest (2 * l * (length mid - length old + crosses stretch (first_key l p) (end_key l p))) (l * (length mid - length old + crosses stretch (first_key l p) (end_key l p))) 0 0 c d
+        → Descends set_of loads_of Names KeepsRest (2 * level * (length mid - length old + crosses stretch (first_key level place) (end_key level place))) (level * (length mid - length old + crosses stretch (first_key level place) (end_key level place))) 0 0 a d
     first_descends old mid xs ys front back some child count walk =
         let few = both_few old mid mid xs ys front back in
-        let low : length mid - length old + crosses side (first_key l p) (end_key l p) + 0 ≤ length mid - length old + crosses side (first_key level place) (end_key level place) = omega (arith, few) in
+        let low : length mid - length old + crosses stretch (first_key l p) (end_key l p) + 0 ≤ length mid - length old + crosses stretch (first_key level place) (end_key level place) = omega (arith, few) in
         further on (further on child count (le_refl _) (le_refl _) (le_refl _) (le_refl _)) walk (omega (arith, part_nodes level l _ 0 _ e low some)) (omega (arith, part_counts level l _ 0 _ e low some)) (le_refl _) (le_refl _)
 
 -- the keys of a page have few bits

@@ -56,7 +56,7 @@ pub fn put_pairs<A: Monoid, B: Monoid, D: Descend<A, B>>(tree: &mut D, list: &mu
 }
 
 // What a list has of each member.
-trait Item: Copy {
+trait Listed: Copy {
     // The item of a key with a weight.
     ghost item_of: { ℕ → ℕ → Self };
 
@@ -65,7 +65,7 @@ trait Item: Copy {
         ensures { result ≡ item_of key weight };
 }
 
-impl Item for u32 {
+impl Listed for u32 {
     ghost item_of = { λ key weight. key };
 
     fn of_member(key: u32, _weight: u32) -> u32 {
@@ -73,7 +73,7 @@ impl Item for u32 {
     }
 }
 
-impl Item for (u32, u32) {
+impl Listed for (u32, u32) {
     ghost item_of = { λ key weight. (key, weight) };
 
     fn of_member(key: u32, weight: u32) -> (u32, u32) {
@@ -82,7 +82,7 @@ impl Item for (u32, u32) {
 }
 
 // The items of all members, rising.
-fn list<A: Monoid, B: Monoid, D: Descend<A, B>, I: Item>(
+fn list<A: Monoid, B: Monoid, D: Descend<A, B>, I: Listed>(
     alloc: Global,
     tree: &mut D,
 ) -> Result<Vec<I>, AllocError>
@@ -101,7 +101,7 @@ fn list<A: Monoid, B: Monoid, D: Descend<A, B>, I: Item>(
 
 // Puts the items of the members that the node at a level and a place covers at the end of `list`, which has room for them. No
 // child that covers none is gone into, and only the count of a left child is loaded.
-fn list_members<A: Monoid, B: Monoid, D: Descend<A, B>, I: Item>(
+fn list_members<A: Monoid, B: Monoid, D: Descend<A, B>, I: Listed>(
     tree: &mut D,
     level: u32,
     place: u32,

@@ -26,7 +26,7 @@ impl<A: Monoid, B: Monoid> Query<A, B> for MembersFrom {
     ghost most = { λ q set. loads (66 * set.bits + 1) (33 * set.bits + 1) 0 0 };
 
     fn run<D: Descend<A, B>>(self, tree: &mut D) -> Page {
-        page_of(tree, Side::From(self.0))
+        page_of(tree, Stretch::From(self.0))
     }
 }
 
@@ -42,20 +42,20 @@ impl<A: Monoid, B: Monoid> Query<A, B> for MembersBelow {
     ghost most = { λ q set. loads (66 * set.bits + 1) (33 * set.bits + 1) 0 0 };
 
     fn run<D: Descend<A, B>>(self, tree: &mut D) -> Page {
-        page_of(tree, Side::Below(self.0))
+        page_of(tree, Stretch::Below(self.0))
     }
 }
 
-// The side of a key that is listed: what is from it on, rising, or what is below it, falling.
+// The stretch of keys that is listed: from a key on, rising, or below it, falling.
 #[derive(Clone, Copy)]
-enum Side {
+enum Stretch {
     From(u32),
     Below(u32),
 }
 
-// The first members on a side of a key.
-fn page_of<A: Monoid, B: Monoid, D: Descend<A, B>>(tree: &mut D, side: Side) -> Page
-    ensures answer { result.items ≡ take 32 (part_of side (D.set_of tree.old).pairs 0 (2 ^ (D.set_of tree.old).bits)) }
+// The first members of a stretch.
+fn page_of<A: Monoid, B: Monoid, D: Descend<A, B>>(tree: &mut D, stretch: Stretch) -> Page
+    ensures answer { result.items ≡ take 32 (part_of stretch (D.set_of tree.old).pairs 0 (2 ^ (D.set_of tree.old).bits)) }
     ensures set { IsTreeSet (D.set_of tree.old) }
     ensures descends { Descends D.set_of D.loads_of D.Names D.KeepsRest (66 * (D.set_of tree.old).bits + 1) (33 * (D.set_of tree.old).bits + 1) 0 0 tree.old tree.new }
 {
@@ -63,14 +63,14 @@ fn page_of<A: Monoid, B: Monoid, D: Descend<A, B>>(tree: &mut D, side: Side) -> 
     let top = tree.top();
     let count = tree.count(bits, 0, &top);
     let mut page = ArrayVec::new();
-    put_part(tree, side, bits, 0, &top, count, &mut page);
+    put_part(tree, stretch, bits, 0, &top, count, &mut page);
     page
 }
 
-// Puts the members that a node covers on a side of a key at the end of a page, as many as it has places for. The node covers `count` members.
+// Puts the members of a stretch that a node covers at the end of a page, as many as it has places for. The node covers `count` members.
 fn put_part<A: Monoid, B: Monoid, D: Descend<A, B>>(
     tree: &mut D,
-    side: Side,
+    stretch: Stretch,
     level: u32,
     place: u32,
     node: &D::Name,
@@ -79,31 +79,31 @@ fn put_part<A: Monoid, B: Monoid, D: Descend<A, B>>(
 )
     requires name { D.Names tree.old level place node.now }
     requires count { count ≡ length (keys_below (list_of (D.set_of tree.old)) level place) }
-    ensures answer { page.new.items ≡ page.old.items ++ take (32 - length page.old.items) (part_of side (D.set_of tree.old).pairs (first_key level place) (end_key level place)) }
-    ensures descends { Descends D.set_of D.loads_of D.Names D.KeepsRest (2 * level * (length page.new.items - length page.old.items + crosses side (first_key level place) (end_key level place))) (level * (length page.new.items - length page.old.items + crosses side (first_key level place) (end_key level place))) 0 0 tree.old tree.new }
+    ensures answer { page.new.items ≡ page.old.items ++ take (32 - length page.old.items) (part_of stretch (D.set_of tree.old).pairs (first_key level place) (end_key level place)) }
+    ensures descends { Descends D.set_of D.loads_of D.Names D.KeepsRest (2 * level * (length page.new.items - length page.old.items + crosses stretch (first_key level place) (end_key level place))) (level * (length page.new.items - length page.old.items + crosses stretch (first_key level place) (end_key level place))) 0 0 tree.old tree.new }
 {
     if count == 0 || page.is_full() {
         return;
     }
-    if !side.reaches(tree, level, place, node) {
+    if !stretch.reaches(tree, level, place, node) {
         return;
     }
     if level == 0 {
         page.push((place, tree.weight(place, node)));
         return;
     }
-    let (child, at) = side.first_child(tree, level - 1, place, node);
+    let (child, at) = stretch.first_child(tree, level - 1, place, node);
     let some = tree.count(level - 1, at, &child);
-    put_part(tree, side, level - 1, at, &child, some, page);
+    put_part(tree, stretch, level - 1, at, &child, some, page);
     if some == count || page.is_full() {
         return;
     }
-    let (child, at) = side.second_child(tree, level - 1, place, node);
-    put_part(tree, side, level - 1, at, &child, count - some, page);
+    let (child, at) = stretch.second_child(tree, level - 1, place, node);
+    put_part(tree, stretch, level - 1, at, &child, count - some, page);
 }
 
-impl Side {
-    // Whether a node covers keys on this side.
+impl Stretch {
+    // Whether a node covers keys of it.
     #[inline(always)]
     fn reaches<A: Monoid, B: Monoid, D: Descend<A, B>>(
         self,
@@ -116,8 +116,8 @@ impl Side {
         ensures { IsTrue result ↔ Reaches self (first_key level place) (end_key level place) }
     {
         match self {
-            Side::From(k) => k >> level <= place,
-            Side::Below(k) => place << level < k,
+            Stretch::From(k) => k >> level <= place,
+            Stretch::Below(k) => place << level < k,
         }
     }
 
@@ -136,8 +136,8 @@ impl Side {
         ensures descends { Descends D.set_of D.loads_of D.Names D.KeepsRest 1 0 0 0 tree.old tree.new }
     {
         match self {
-            Side::From(_) => (tree.left(level, place, node), 2 * place),
-            Side::Below(_) => (tree.right(level, place, node), 2 * place + 1),
+            Stretch::From(_) => (tree.left(level, place, node), 2 * place),
+            Stretch::Below(_) => (tree.right(level, place, node), 2 * place + 1),
         }
     }
 
@@ -156,8 +156,8 @@ impl Side {
         ensures descends { Descends D.set_of D.loads_of D.Names D.KeepsRest 1 0 0 0 tree.old tree.new }
     {
         match self {
-            Side::From(_) => (tree.right(level, place, node), 2 * place + 1),
-            Side::Below(_) => (tree.left(level, place, node), 2 * place),
+            Stretch::From(_) => (tree.right(level, place, node), 2 * place + 1),
+            Stretch::Below(_) => (tree.left(level, place, node), 2 * place),
         }
     }
 }

@@ -1,6 +1,6 @@
 use Rattle.std.proofs.Common.{arith}
 use Rattle.aug_query.proofs.Beside.{child_places}
-use Rattle.aug_query.proofs.descent.pages.Side.first_child.Goals as goal
+use Rattle.aug_query.proofs.descent.pages.Stretch.second_child.Goals as goal
 
 pub overflow_mul-result : goal.overflow_mul-result
 overflow_mul-result g c = omega (arith, child_places c.args.level (g.met.D.Descend.name_stands c.args.tree.now _ _ c.args.node.now c.requires))

@@ -2,7 +2,7 @@ use Rattle.std.proofs.Common.{◌≡◌, ◌+◌, ◌*◌, ◌%◌, ◌^◌, ◌
 use Rattle.std.proofs.Math.Nat.{div-lt_iff_lt-mul, mod-eq_of_lt}
 use Rattle.std.proofs.lemmas.Nat.{pow_pos}
 use Rattle.aug_query.proofs.Nodes.{few_keys}
-use Rattle.aug_query.proofs.descent.pages.Side.reaches.Goals as goal
+use Rattle.aug_query.proofs.descent.pages.Stretch.reaches.Goals as goal
 
 pub returns-in-From : goal.returns-in-From
 returns-in-From g c =

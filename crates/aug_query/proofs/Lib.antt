@@ -6,6 +6,7 @@ pub mod Descents
 pub mod Choosing
 pub mod Passing
 pub mod Beside
+pub mod InOrder
 pub mod Changing
 pub mod Boundaries
 pub mod Merging

@@ -5,10 +5,11 @@ ghost use Rattle.aug_model.specs.Queries.{rank_of, weight_of};
 ghost use Rattle.aug_model.specs.NodeKeys.{first_key, end_key, keys_below};
 ghost use Rattle.aug_query.specs.Yields.{YieldsNext, YieldsPrevious};
 ghost use Rattle.aug_query.specs.Descend.{Descends};
+ghost use Rattle.aug_query.specs.inside.InOrder.{start_of, start_at};
 ghost use Rattle.aug_query.specs.inside.Paths.{IsPath, IsCursor, IsRightOf, IsLeftOf};
 
 use super::members::weight_of_leaf;
-use super::neighbours::{first_child, last_child};
+use super::neighbours::{Order, nearest_child};
 use crate::Descend;
 use crate::toward::{toward, universe};
 use arrayvec::ArrayVec;
@@ -68,7 +69,7 @@ impl<N: Drop> Cursor<N> {
         let mut path = self.path.take();
         path.truncate(path.len() - level as usize);
         let place = (self.key >> level) + 1;
-        let (key, weight) = down_to_least(tree, level, place, node, &mut path);
+        let (key, weight) = down_to(tree, Order::Rising, level, place, node, &mut path);
         *self = Cursor {
             path,
             key,
@@ -96,7 +97,7 @@ impl<N: Drop> Cursor<N> {
         let mut path = self.path.take();
         path.truncate(path.len() - level as usize);
         let place = (self.key >> level) - 1;
-        let (key, weight) = down_to_greatest(tree, level, place, node, &mut path);
+        let (key, weight) = down_to(tree, Order::Falling, level, place, node, &mut path);
         *self = Cursor {
             path,
             key,
@@ -203,33 +204,6 @@ fn right_at<A: Monoid, B: Monoid, D: Descend<A, B>>(
     Some(right)
 }
 
-// The least member that a node covers, with its weight, and the nodes on the way there put on the path.
-fn down_to_least<A: Monoid, B: Monoid, D: Descend<A, B>>(
-    tree: &mut D,
-    mut level: u32,
-    mut place: u32,
-    mut node: D::Name,
-    path: &mut ArrayVec<Option<D::Name>, 16>,
-) -> (u32, u32)
-    requires name { D.Names tree.old level place node }
-    requires some { 0 < length (keys_below (list_of (D.set_of tree.old)) level place) }
-    requires path { IsPath (D.Names tree.old) (D.set_of tree.old).bits level place path.old.items }
-    ensures path { IsPath (D.Names tree.new) (D.set_of tree.old).bits 0 result.0 path.new.items }
-    ensures within { result.0 < 2 ^ (D.set_of tree.old).bits }
-    ensures first { rank_of (list_of (D.set_of tree.old)) result.0 ≡ rank_of (list_of (D.set_of tree.old)) (first_key level place) }
-    ensures weight { Some result.1 ≡ weight_of (D.set_of tree.old).pairs result.0 }
-    ensures descends { Descends D.set_of D.loads_of D.Names D.KeepsRest (2 * level) level 0 0 tree.old tree.new }
-{
-    while level > 0 {
-        level -= 1;
-        let (child, at) = first_child(tree, level, place, &node);
-        path.push(Some(node));
-        node = child;
-        place = at;
-    }
-    (place, tree.weight(place, &node))
-}
-
 // The lowest node to the left of the way to a key that covers members, and its level, if there is one.
 fn left_of<A: Monoid, B: Monoid, D: Descend<A, B>>(
     tree: &mut D,
@@ -281,9 +255,11 @@ fn left_at<A: Monoid, B: Monoid, D: Descend<A, B>>(
     Some(left)
 }
 
-// The greatest member that a node covers, with its weight, and the nodes on the way there put on the path.
-fn down_to_greatest<A: Monoid, B: Monoid, D: Descend<A, B>>(
+// The member that comes first of those that a node covers, with its weight, and the nodes on the way there put on the path.
+#[inline(always)]
+fn down_to<A: Monoid, B: Monoid, D: Descend<A, B>>(
     tree: &mut D,
+    order: Order,
     mut level: u32,
     mut place: u32,
     mut node: D::Name,
@@ -294,13 +270,13 @@ fn down_to_greatest<A: Monoid, B: Monoid, D: Descend<A, B>>(
     requires path { IsPath (D.Names tree.old) (D.set_of tree.old).bits level place path.old.items }
     ensures path { IsPath (D.Names tree.new) (D.set_of tree.old).bits 0 result.0 path.new.items }
     ensures within { result.0 < 2 ^ (D.set_of tree.old).bits }
-    ensures last { rank_of (list_of (D.set_of tree.old)) (result.0 + 1) ≡ rank_of (list_of (D.set_of tree.old)) (end_key level place) }
+    ensures start { rank_of (list_of (D.set_of tree.old)) (start_at order result.0) ≡ rank_of (list_of (D.set_of tree.old)) (start_of order level place) }
     ensures weight { Some result.1 ≡ weight_of (D.set_of tree.old).pairs result.0 }
     ensures descends { Descends D.set_of D.loads_of D.Names D.KeepsRest (2 * level) level 0 0 tree.old tree.new }
 {
     while level > 0 {
         level -= 1;
-        let (child, at) = last_child(tree, level, place, &node);
+        let (child, at) = nearest_child(tree, order, level, place, &node);
         path.push(Some(node));
         node = child;
         place = at;

@@ -1,9 +1,10 @@
 //! The nearest members beside a key.
 ghost use Rattle.std.specs.Prelude.{◌≡◌, ◌+◌, ◌*◌, ◌/◌, ◌<◌, Some, length};
 ghost use Rattle.aug_model.specs.Keys.{list_of};
-ghost use Rattle.aug_model.specs.Queries.{rank_of, before_of, after_of, first_of, last_of};
-ghost use Rattle.aug_model.specs.NodeKeys.{first_key, end_key, keys_below};
+ghost use Rattle.aug_model.specs.Queries.{rank_of, before_of, after_of, last_of};
+ghost use Rattle.aug_model.specs.NodeKeys.{keys_below};
 ghost use Rattle.aug_query.specs.Descend.{Descends, loads};
+ghost use Rattle.aug_query.specs.inside.InOrder.{head_of, start_of};
 
 use crate::toward::{toward_from_left, toward_from_right, universe};
 use crate::{Descend, Query};
@@ -41,7 +42,7 @@ impl<A: Monoid, B: Monoid> Query<A, B> for Before {
         let (level, node) = parent?;
         let place = k >> (level + 1);
         let left = tree.left(level, place, &node);
-        Some(greatest(tree, level, 2 * place, left))
+        Some(nearest(tree, Order::Falling, level, 2 * place, left))
     }
 }
 
@@ -76,7 +77,7 @@ impl<A: Monoid, B: Monoid> Query<A, B> for After {
         let (level, node) = parent?;
         let place = k >> (level + 1);
         let right = tree.right(level, place, &node);
-        Some(least(tree, level, 2 * place + 1, right))
+        Some(nearest(tree, Order::Rising, level, 2 * place + 1, right))
     }
 }
 
@@ -95,35 +96,44 @@ fn last_below<A: Monoid, B: Monoid, D: Descend<A, B>>(
     if tree.count(level, 0, &top) == 0 {
         return None;
     }
-    Some(greatest(tree, level, 0, top))
+    Some(nearest(tree, Order::Falling, level, 0, top))
 }
 
-// The greatest member that the node at a level and a place covers. There is at least one.
+// The order in which members come.
+#[derive(Clone, Copy)]
+pub(super) enum Order {
+    Rising,
+    Falling,
+}
+
+// The member that comes first of those that the node at a level and a place covers. There is at least one.
 #[inline(always)]
-fn greatest<A: Monoid, B: Monoid, D: Descend<A, B>>(
+fn nearest<A: Monoid, B: Monoid, D: Descend<A, B>>(
     tree: &mut D,
+    order: Order,
     mut level: u32,
     mut place: u32,
     mut node: D::Name,
 ) -> u32
     requires name { D.Names tree.old level place node }
     requires some { 0 < length (keys_below (list_of (D.set_of tree.old)) level place) }
-    ensures answer { Some result ≡ last_of (keys_below (list_of (D.set_of tree.old)) level place) }
+    ensures answer { Some result ≡ head_of order (keys_below (list_of (D.set_of tree.old)) level place) }
     ensures descends { Descends D.set_of D.loads_of D.Names D.KeepsRest (2 * level) level 0 0 tree.old tree.new }
 {
     while level > 0 {
         level -= 1;
-        let (child, at) = last_child(tree, level, place, &node);
+        let (child, at) = nearest_child(tree, order, level, place, &node);
         node = child;
         place = at;
     }
     place
 }
 
-// The last child that covers members, and its place.
+// The child with the member that comes first, and its place.
 #[inline(always)]
-pub(super) fn last_child<A: Monoid, B: Monoid, D: Descend<A, B>>(
+pub(super) fn nearest_child<A: Monoid, B: Monoid, D: Descend<A, B>>(
     tree: &mut D,
+    order: Order,
     level: u32,
     place: u32,
     node: &D::Name,
@@ -134,58 +144,23 @@ pub(super) fn last_child<A: Monoid, B: Monoid, D: Descend<A, B>>(
     ensures name { D.Names tree.new level result.1 result.0 }
     ensures some { 0 < length (keys_below (list_of (D.set_of tree.old)) level result.1) }
     ensures child { result.1 / 2 ≡ place }
-    ensures last { rank_of (list_of (D.set_of tree.old)) (end_key level result.1) ≡ rank_of (list_of (D.set_of tree.old)) (end_key (level + 1) place) }
-    ensures same { last_of (keys_below (list_of (D.set_of tree.old)) level result.1) ≡ last_of (keys_below (list_of (D.set_of tree.old)) (level + 1) place) }
+    ensures start { rank_of (list_of (D.set_of tree.old)) (start_of order level result.1) ≡ rank_of (list_of (D.set_of tree.old)) (start_of order (level + 1) place) }
+    ensures same { head_of order (keys_below (list_of (D.set_of tree.old)) level result.1) ≡ head_of order (keys_below (list_of (D.set_of tree.old)) (level + 1) place) }
 {
-    let right = tree.right(level, place, node);
-    if tree.count(level, 2 * place + 1, &right) > 0 {
-        return (right, 2 * place + 1);
+    match order {
+        Order::Rising => {
+            let left = tree.left(level, place, node);
+            if tree.count(level, 2 * place, &left) > 0 {
+                return (left, 2 * place);
+            }
+            (tree.right(level, place, node), 2 * place + 1)
+        }
+        Order::Falling => {
+            let right = tree.right(level, place, node);
+            if tree.count(level, 2 * place + 1, &right) > 0 {
+                return (right, 2 * place + 1);
+            }
+            (tree.left(level, place, node), 2 * place)
+        }
     }
-    (tree.left(level, place, node), 2 * place)
-}
-
-// The least member that the node at a level and a place covers. There is at least one.
-#[inline(always)]
-fn least<A: Monoid, B: Monoid, D: Descend<A, B>>(
-    tree: &mut D,
-    mut level: u32,
-    mut place: u32,
-    mut node: D::Name,
-) -> u32
-    requires name { D.Names tree.old level place node }
-    requires some { 0 < length (keys_below (list_of (D.set_of tree.old)) level place) }
-    ensures answer { Some result ≡ first_of (keys_below (list_of (D.set_of tree.old)) level place) }
-    ensures descends { Descends D.set_of D.loads_of D.Names D.KeepsRest (2 * level) level 0 0 tree.old tree.new }
-{
-    while level > 0 {
-        level -= 1;
-        let (child, at) = first_child(tree, level, place, &node);
-        node = child;
-        place = at;
-    }
-    place
-}
-
-// The first child that covers members, and its place.
-#[inline(always)]
-pub(super) fn first_child<A: Monoid, B: Monoid, D: Descend<A, B>>(
-    tree: &mut D,
-    level: u32,
-    place: u32,
-    node: &D::Name,
-) -> (D::Name, u32)
-    requires name { D.Names tree.old (level + 1) place node.now }
-    requires some { 0 < length (keys_below (list_of (D.set_of tree.old)) (level + 1) place) }
-    ensures descends { Descends D.set_of D.loads_of D.Names D.KeepsRest 2 1 0 0 tree.old tree.new }
-    ensures name { D.Names tree.new level result.1 result.0 }
-    ensures some { 0 < length (keys_below (list_of (D.set_of tree.old)) level result.1) }
-    ensures child { result.1 / 2 ≡ place }
-    ensures first { rank_of (list_of (D.set_of tree.old)) (first_key level result.1) ≡ rank_of (list_of (D.set_of tree.old)) (first_key (level + 1) place) }
-    ensures same { first_of (keys_below (list_of (D.set_of tree.old)) level result.1) ≡ first_of (keys_below (list_of (D.set_of tree.old)) (level + 1) place) }
-{
-    let left = tree.left(level, place, node);
-    if tree.count(level, 2 * place, &left) > 0 {
-        return (left, 2 * place);
-    }
-    (tree.right(level, place, node), 2 * place + 1)
 }

@@ -28,8 +28,8 @@ returns-in_err-level-clause-answer g c =
     let beside = behind_none set gap c.args.self.now.key c.args.self.now.weight of.is_tree_set of.weighs of.beside c.in_default.ensures in
     subst (YieldsNext set gap gap) (sym c.from_residual.ensures) (next_none set gap gap of.is_tree_set (gap_few gap c.args.self.now.key (2 ^ set.bits) of.beside of.within) (c.in_err-level.ensures.none ∙ beside) refl)
 
-pub down_to_least-key-requires : goal.down_to_least-key-requires
-down_to_least-key-requires g c =
+pub down_to-key-requires : goal.down_to-key-requires
+down_to-key-requires g c =
     let of = c.requires.of_tree in
     let level = c.in_ok-level.level in
     let key = c.args.self.now.key in
@@ -47,12 +47,12 @@ pub returns-clause-of_tree : goal.returns-clause-of_tree
 returns-clause-of_tree g c =
     let of = c.requires.of_tree in
     let climb = c.right_of.ensures in
-    let down = c.down_to_least-key.ensures in
-    subst (λ s. IsCursor (g.D.Descend.Names c.down_to_least-key.new.tree) s (record { path = c.down_to_least-key.new.path; key = c.down_to_least-key.result.0; weight = Some c.down_to_least-key.result.1; gap = c.down_to_least-key.result.0 + 1 })) (sym (down.descends.same_set ∙ climb.descends.same_set)) (record {
+    let down = c.down_to-key.ensures in
+    subst (λ s. IsCursor (g.D.Descend.Names c.down_to-key.new.tree) s (record { path = c.down_to-key.new.path; key = c.down_to-key.result.0; weight = Some c.down_to-key.result.1; gap = c.down_to-key.result.0 + 1 })) (sym (down.descends.same_set ∙ climb.descends.same_set)) (record {
       is_tree_set = of.is_tree_set;
       within = omega (arith, down.within, ap (λ s. 2 ^ s.bits) climb.descends.same_set);
-      path = subst (λ s. IsPath (g.D.Descend.Names c.down_to_least-key.new.tree) s.bits 0 c.down_to_least-key.result.0 c.down_to_least-key.new.path.items) climb.descends.same_set down.path;
-      weighs = down.weight ∙ ap (λ s. weight_of s.pairs c.down_to_least-key.result.0) climb.descends.same_set;
+      path = subst (λ s. IsPath (g.D.Descend.Names c.down_to-key.new.tree) s.bits 0 c.down_to-key.result.0 c.down_to-key.new.path.items) climb.descends.same_set down.path;
+      weighs = down.weight ∙ ap (λ s. weight_of s.pairs c.down_to-key.result.0) climb.descends.same_set;
       beside = inr refl;
     })
 
@@ -63,16 +63,16 @@ returns-clause-answer g c =
     let level = c.in_ok-level.level in
     let key = c.args.self.now.key in
     let climb = c.right_of.ensures in
-    let down = c.down_to_least-key.ensures in
+    let down = c.down_to-key.ensures in
     let beside = behind_none set c.args.self.now.gap key c.args.self.now.weight of.is_tree_set of.weighs of.beside c.in_default.ensures in
-    let below = subst (λ s. rank_of (list_of s) c.down_to_least-key.result.0 ≡ rank_of (list_of s) (first_key level (key / 2 ^ level + 1))) climb.descends.same_set down.first in
-    let weighs = down.weight ∙ ap (λ s. weight_of s.pairs c.down_to_least-key.result.0) climb.descends.same_set in
-    next_is set c.args.self.now.gap c.down_to_least-key.result.0 c.down_to_least-key.result.1 (c.down_to_least-key.result.0 + 1) of.is_tree_set (omega (arith, down.within, ap (λ s. 2 ^ s.bits) climb.descends.same_set)) (below ∙ c.in_ok-level.ensures.first ∙ beside) weighs refl
+    let below = subst (λ s. rank_of (list_of s) c.down_to-key.result.0 ≡ rank_of (list_of s) (first_key level (key / 2 ^ level + 1))) climb.descends.same_set down.start in
+    let weighs = down.weight ∙ ap (λ s. weight_of s.pairs c.down_to-key.result.0) climb.descends.same_set in
+    next_is set c.args.self.now.gap c.down_to-key.result.0 c.down_to-key.result.1 (c.down_to-key.result.0 + 1) of.is_tree_set (omega (arith, down.within, ap (λ s. 2 ^ s.bits) climb.descends.same_set)) (below ∙ c.in_ok-level.ensures.first ∙ beside) weighs refl
 
 pub returns-clause-descends : goal.returns-clause-descends
 returns-clause-descends g c =
     let low = c.in_ok-level.ensures.found.low in
-    further {new = c.down_to_least-key.new.tree} g.met.D.Descend.keeps_on c.right_of.ensures.descends c.down_to_least-key.ensures.descends (omega (arith, low)) (omega (arith, low)) (omega arith) (omega arith)
+    further {new = c.down_to-key.new.tree} g.met.D.Descend.keeps_on c.right_of.ensures.descends c.down_to-key.ensures.descends (omega (arith, low)) (omega (arith, low)) (omega arith) (omega arith)
 
 pub overflow_add-self : goal.overflow_add-self
 overflow_add-self g c = let of = c.requires.of_tree in omega (arith, key_few (g.D.Descend.set_of c.args.tree.now) c.args.self.now.key of.is_tree_set of.within)
@@ -113,7 +113,7 @@ pub overflow_add-key : goal.overflow_add-key
 overflow_add-key g c =
     let same = c.right_of.ensures.descends.same_set in
     let is = c.requires.of_tree.is_tree_set in
-    omega (arith, key_few (g.D.Descend.set_of c.right_of.new.tree) c.down_to_least-key.result.0 (subst IsTreeSet (sym same) is) c.down_to_least-key.ensures.within)
+    omega (arith, key_few (g.D.Descend.set_of c.right_of.new.tree) c.down_to-key.result.0 (subst IsTreeSet (sym same) is) c.down_to-key.ensures.within)
 
 pub branch-level-requires : goal.branch-level-requires
 branch-level-requires g c κs = search rules

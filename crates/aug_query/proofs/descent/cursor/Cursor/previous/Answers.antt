@@ -26,8 +26,8 @@ returns-in_err-level-clause-answer g c =
     let beside = before_none set gap c.args.self.now.key c.args.self.now.weight of.is_tree_set of.weighs of.beside c.in_default.ensures in
     subst (YieldsPrevious set gap gap) (sym c.from_residual.ensures) (previous_none set gap gap of.is_tree_set (sym beside ∙ c.in_err-level.ensures.none) refl)
 
-pub down_to_greatest-key-requires : goal.down_to_greatest-key-requires
-down_to_greatest-key-requires g c =
+pub down_to-key-requires : goal.down_to-key-requires
+down_to-key-requires g c =
     let of = c.requires.of_tree in
     let level = c.in_ok-level.level in
     let key = c.args.self.now.key in
@@ -45,12 +45,12 @@ pub returns-clause-of_tree : goal.returns-clause-of_tree
 returns-clause-of_tree g c =
     let of = c.requires.of_tree in
     let climb = c.left_of.ensures in
-    let down = c.down_to_greatest-key.ensures in
-    subst (λ s. IsCursor (g.D.Descend.Names c.down_to_greatest-key.new.tree) s (record { path = c.down_to_greatest-key.new.path; key = c.down_to_greatest-key.result.0; weight = Some c.down_to_greatest-key.result.1; gap = c.down_to_greatest-key.result.0 })) (sym (down.descends.same_set ∙ climb.descends.same_set)) (record {
+    let down = c.down_to-key.ensures in
+    subst (λ s. IsCursor (g.D.Descend.Names c.down_to-key.new.tree) s (record { path = c.down_to-key.new.path; key = c.down_to-key.result.0; weight = Some c.down_to-key.result.1; gap = c.down_to-key.result.0 })) (sym (down.descends.same_set ∙ climb.descends.same_set)) (record {
       is_tree_set = of.is_tree_set;
       within = omega (arith, down.within, ap (λ s. 2 ^ s.bits) climb.descends.same_set);
-      path = subst (λ s. IsPath (g.D.Descend.Names c.down_to_greatest-key.new.tree) s.bits 0 c.down_to_greatest-key.result.0 c.down_to_greatest-key.new.path.items) climb.descends.same_set down.path;
-      weighs = down.weight ∙ ap (λ s. weight_of s.pairs c.down_to_greatest-key.result.0) climb.descends.same_set;
+      path = subst (λ s. IsPath (g.D.Descend.Names c.down_to-key.new.tree) s.bits 0 c.down_to-key.result.0 c.down_to-key.new.path.items) climb.descends.same_set down.path;
+      weighs = down.weight ∙ ap (λ s. weight_of s.pairs c.down_to-key.result.0) climb.descends.same_set;
       beside = inl refl;
     })
 
@@ -61,16 +61,16 @@ returns-clause-answer g c =
     let level = c.in_ok-level.level in
     let key = c.args.self.now.key in
     let climb = c.left_of.ensures in
-    let down = c.down_to_greatest-key.ensures in
+    let down = c.down_to-key.ensures in
     let beside = before_none set c.args.self.now.gap key c.args.self.now.weight of.is_tree_set of.weighs of.beside c.in_default.ensures in
-    let below = subst (λ s. rank_of (list_of s) (c.down_to_greatest-key.result.0 + 1) ≡ rank_of (list_of s) (end_key level (key / 2 ^ level - 1))) climb.descends.same_set down.last in
-    let weighs = down.weight ∙ ap (λ s. weight_of s.pairs c.down_to_greatest-key.result.0) climb.descends.same_set in
-    previous_is set c.args.self.now.gap c.down_to_greatest-key.result.0 c.down_to_greatest-key.result.1 c.down_to_greatest-key.result.0 of.is_tree_set (below ∙ c.in_ok-level.ensures.last ∙ beside) weighs refl
+    let below = subst (λ s. rank_of (list_of s) (c.down_to-key.result.0 + 1) ≡ rank_of (list_of s) (end_key level (key / 2 ^ level - 1))) climb.descends.same_set down.start in
+    let weighs = down.weight ∙ ap (λ s. weight_of s.pairs c.down_to-key.result.0) climb.descends.same_set in
+    previous_is set c.args.self.now.gap c.down_to-key.result.0 c.down_to-key.result.1 c.down_to-key.result.0 of.is_tree_set (below ∙ c.in_ok-level.ensures.last ∙ beside) weighs refl
 
 pub returns-clause-descends : goal.returns-clause-descends
 returns-clause-descends g c =
     let low = c.in_ok-level.ensures.found.low in
-    further {new = c.down_to_greatest-key.new.tree} g.met.D.Descend.keeps_on c.left_of.ensures.descends c.down_to_greatest-key.ensures.descends (omega (arith, low)) (omega (arith, low)) (omega arith) (omega arith)
+    further {new = c.down_to-key.new.tree} g.met.D.Descend.keeps_on c.left_of.ensures.descends c.down_to-key.ensures.descends (omega (arith, low)) (omega (arith, low)) (omega arith) (omega arith)
 
 pub returns-in-Some-clause-descends : goal.returns-in-Some-clause-descends
 returns-in-Some-clause-descends g c = still g.met.D.Descend.keeps_so

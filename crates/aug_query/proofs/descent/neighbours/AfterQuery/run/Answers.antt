@@ -99,8 +99,8 @@ right-right-requires g c =
     let kept = subst (KeepsAfter (g.D.Descend.Names c.loop-level.tree) (list_of (g.D.Descend.set_of c.args.tree.now)) c.args.self.0 (end_key c.loop-level.level (c.args.self.0 / 2 ^ c.loop-level.level))) c.in_ok-level.was c.loop-level.invariant.kept in
     kept.0
 
-pub least-requires-clause-some : goal.least-requires-clause-some
-least-requires-clause-some g c =
+pub nearest-requires-clause-some : goal.nearest-requires-clause-some
+nearest-requires-clause-some g c =
     let inv = c.loop-level.invariant in
     let kept = subst (KeepsAfter (g.D.Descend.Names c.loop-level.tree) (list_of (g.D.Descend.set_of c.args.tree.now)) c.args.self.0 (end_key c.loop-level.level (c.args.self.0 / 2 ^ c.loop-level.level))) c.in_ok-level.was inv.kept in
     let same = ap (λ s. length (keys_below (list_of s) c.in_ok-level.level (2 * (c.args.self.0 / 2 ^ (c.in_ok-level.level + 1)) + 1))) (c.right-right.ensures.descends.same_set ∙ inv.descends.same_set) in
@@ -116,7 +116,7 @@ returns-clause-answer g c =
     let child = of_set (c.right-right.ensures.descends.same_set ∙ inv.descends.same_set) (g.met.D.Descend.name_stands c.right-right.new.self _ _ c.right-right.result c.right-right.ensures.name) in
     let ends = after_ends keys c.args.self.0 _ _ c.in_ok-level.level (2 * (c.args.self.0 / 2 ^ (c.in_ok-level.level + 1)) + 1) (members_rise node) (members_below node) kept.1 leaf child.place_fits in
     let same = c.right-right.ensures.descends.same_set ∙ inv.descends.same_set in
-    told_is first_of (Some c.least.result) (after_of keys c.args.self.0) c.in_ok-level.level (2 * (c.args.self.0 / 2 ^ (c.in_ok-level.level + 1)) + 1) same c.least.ensures.answer ends
+    told_is first_of (Some c.nearest.result) (after_of keys c.args.self.0) c.in_ok-level.level (2 * (c.args.self.0 / 2 ^ (c.in_ok-level.level + 1)) + 1) same c.nearest.ensures.answer ends
 
 pub returns-clause-descends : goal.returns-clause-descends
 returns-clause-descends g c =
@@ -126,7 +126,7 @@ returns-clause-descends g c =
     let fits = node.level_fits in
     let bits = (g.D.Descend.set_of c.args.tree.now).bits in
     let to_right = further {j = bits + 2} {k = 0} {l = 0} {o = bits} g.met.D.Descend.keeps_on inv.descends c.right-right.ensures.descends (omega arith) (omega arith) (omega arith) (omega arith) in
-    further {new = c.least.new.tree} g.met.D.Descend.keeps_on to_right c.least.ensures.descends (omega (arith, fits)) (omega (arith, fits)) (omega arith) (omega arith)
+    further {new = c.nearest.new.tree} g.met.D.Descend.keeps_on to_right c.nearest.ensures.descends (omega (arith, fits)) (omega (arith, fits)) (omega arith) (omega arith)
 
 pub returns-then-universe-k-clause-descends : goal.returns-then-universe-k-clause-descends
 returns-then-universe-k-clause-descends g c = still g.met.D.Descend.keeps_so

@@ -101,8 +101,8 @@ left-left-requires g c =
     let kept = subst (KeepsBefore (g.D.Descend.Names c.loop-level.tree) (list_of (g.D.Descend.set_of c.args.tree.now)) c.args.self.0 (first_key c.loop-level.level (c.args.self.0 / 2 ^ c.loop-level.level))) c.in_ok-level.was c.loop-level.invariant.kept in
     kept.0
 
-pub greatest-requires-clause-some : goal.greatest-requires-clause-some
-greatest-requires-clause-some g c =
+pub nearest-requires-clause-some : goal.nearest-requires-clause-some
+nearest-requires-clause-some g c =
     let inv = c.loop-level.invariant in
     let kept = subst (KeepsBefore (g.D.Descend.Names c.loop-level.tree) (list_of (g.D.Descend.set_of c.args.tree.now)) c.args.self.0 (first_key c.loop-level.level (c.args.self.0 / 2 ^ c.loop-level.level))) c.in_ok-level.was inv.kept in
     let same = ap (λ s. length (keys_below (list_of s) c.in_ok-level.level (2 * (c.args.self.0 / 2 ^ (c.in_ok-level.level + 1))))) (c.left-left.ensures.descends.same_set ∙ inv.descends.same_set) in
@@ -117,7 +117,7 @@ returns-clause-answer g c =
     let leaf = ap (rank_of keys) (at_leaf c.args.self.0 c.loop-level.level (omega (arith, c.loop-level-test.false))) in
     let ends = before_ends keys c.args.self.0 _ c.in_ok-level.level (2 * (c.args.self.0 / 2 ^ (c.in_ok-level.level + 1))) (members_rise node) kept.1 leaf in
     let same = c.left-left.ensures.descends.same_set ∙ inv.descends.same_set in
-    told_is last_of (Some c.greatest.result) (before_of keys c.args.self.0) c.in_ok-level.level (2 * (c.args.self.0 / 2 ^ (c.in_ok-level.level + 1))) same c.greatest.ensures.answer ends
+    told_is last_of (Some c.nearest.result) (before_of keys c.args.self.0) c.in_ok-level.level (2 * (c.args.self.0 / 2 ^ (c.in_ok-level.level + 1))) same c.nearest.ensures.answer ends
 
 pub returns-clause-descends : goal.returns-clause-descends
 returns-clause-descends g c =
@@ -127,7 +127,7 @@ returns-clause-descends g c =
     let fits = node.level_fits in
     let bits = (g.D.Descend.set_of c.args.tree.now).bits in
     let to_left = further {j = bits + 2} {k = 0} {l = 0} {o = bits} g.met.D.Descend.keeps_on inv.descends c.left-left.ensures.descends (omega arith) (omega arith) (omega arith) (omega arith) in
-    further {new = c.greatest.new.tree} g.met.D.Descend.keeps_on to_left c.greatest.ensures.descends (omega (arith, fits)) (omega (arith, fits)) (omega arith) (omega arith)
+    further {new = c.nearest.new.tree} g.met.D.Descend.keeps_on to_left c.nearest.ensures.descends (omega (arith, fits)) (omega (arith, fits)) (omega arith) (omega arith)
 
 pub returns-then-universe-k-clause-descends : goal.returns-then-universe-k-clause-descends
 returns-then-universe-k-clause-descends g c =

@@ -1,22 +1,24 @@
 use Rattle.std.proofs.Common.{rules, ◌≡◌, ◌+◌, ◌-◌, ◌<◌, length, refl, ap, sym, ◌∙◌, subst, arith}
 use Rattle.aug_model.specs.Keys.{list_of}
 use Rattle.aug_model.specs.Queries.{rank_of, weight_in}
-use Rattle.aug_model.specs.NodeKeys.{end_key, keys_below}
+use Rattle.aug_model.specs.NodeKeys.{keys_below}
 use Rattle.aug_query.proofs.Descending.{still, further, within}
-use Rattle.aug_query.proofs.Nodes.{of_set, leaf_end}
+use Rattle.aug_query.specs.inside.InOrder.{start_of}
+use Rattle.aug_query.proofs.InOrder.{leaf_start}
+use Rattle.aug_query.proofs.Nodes.{of_set}
 use Rattle.aug_query.proofs.Paths.{path_leaf, path_stays, path_pushed, leaf_within, leaf_weight}
-use Rattle.aug_query.proofs.descent.cursor.down_to_greatest.Goals as goal
+use Rattle.aug_query.proofs.descent.cursor.down_to.Goals as goal
 
 pub loop-level-init : goal.loop-level-init
-loop-level-init g c = record { most = omega arith; name = c.requires.name; some = c.requires.some; last = refl; path = c.requires.path; descends = still g.met.D.Descend.keeps_so }
+loop-level-init g c = record { most = omega arith; name = c.requires.name; some = c.requires.some; start = refl; path = c.requires.path; descends = still g.met.D.Descend.keeps_so }
 
-pub last_child-child-requires-clause-name : goal.last_child-child-requires-clause-name
-last_child-child-requires-clause-name g c =
+pub nearest_child-child-requires-clause-name : goal.nearest_child-child-requires-clause-name
+nearest_child-child-requires-clause-name g c =
     let above : c.loop-level.level ≡ c.loop-level.level - 1 + 1 = omega (arith, c.loop-level-test.true) in
     subst (λ n. g.D.Descend.Names c.loop-level.tree n c.loop-level.place c.loop-level.node) above c.loop-level.invariant.name
 
-pub last_child-child-requires-clause-some : goal.last_child-child-requires-clause-some
-last_child-child-requires-clause-some g c =
+pub nearest_child-child-requires-clause-some : goal.nearest_child-child-requires-clause-some
+nearest_child-child-requires-clause-some g c =
     let inv = c.loop-level.invariant in
     let above : c.loop-level.level ≡ c.loop-level.level - 1 + 1 = omega (arith, c.loop-level-test.true) in
     let here = ap (λ s. length (keys_below (list_of s) c.loop-level.level c.loop-level.place)) inv.descends.same_set in
@@ -27,16 +29,16 @@ pub loop-level-preserved : goal.loop-level-preserved
 loop-level-preserved g c =
     let inv = c.loop-level.invariant in
     let level = c.loop-level.level in
-    let child = c.last_child-child in
+    let child = c.nearest_child-child in
     let keeps = child.ensures.descends.keeps_names in
     let above : level - 1 + 1 ≡ level = omega (arith, c.loop-level-test.true) in
     let here = ap (λ s. length (keys_below (list_of s) (level - 1) child.result.1)) inv.descends.same_set in
-    let last = subst (λ s. rank_of (list_of s) (end_key (level - 1) child.result.1) ≡ rank_of (list_of s) (end_key (level - 1 + 1) c.loop-level.place)) inv.descends.same_set child.ensures.last in
+    let start = subst (λ s. rank_of (list_of s) (start_of c.args.order (level - 1) child.result.1) ≡ rank_of (list_of s) (start_of c.args.order (level - 1 + 1) c.loop-level.place)) inv.descends.same_set child.ensures.start in
     record {
       most = omega (arith, inv.most);
       name = child.ensures.name;
       some = omega (arith, child.ensures.some, here);
-      last = last ∙ ap (λ n. rank_of (list_of (g.D.Descend.set_of c.args.tree.now)) (end_key n c.loop-level.place)) above ∙ inv.last;
+      start = start ∙ ap (λ n. rank_of (list_of (g.D.Descend.set_of c.args.tree.now)) (start_of c.args.order n c.loop-level.place)) above ∙ inv.start;
       path = path_pushed _ level (level - 1) c.loop-level.place child.result.1 _ _ c.loop-level.node (omega (arith, c.loop-level-test.true)) (path_stays _ _ _ _ keeps inv.path) (keeps _ _ c.loop-level.node inv.name) child.ensures.child c.push.ensures.items;
       descends = further g.met.D.Descend.keeps_on inv.descends child.ensures.descends (omega (arith, inv.most, c.loop-level-test.true)) (omega (arith, inv.most, c.loop-level-test.true)) (omega arith) (omega arith);
     }
@@ -64,10 +66,10 @@ weight-requires g c =
     let leaf : c.loop-level.level ≡ 0 = omega (arith, c.loop-level-test.false) in
     subst (λ l. g.D.Descend.Names c.loop-level.tree l c.loop-level.place c.loop-level.node) leaf c.loop-level.invariant.name
 
-pub returns-clause-last : goal.returns-clause-last
-returns-clause-last g c =
-    let leaf = leaf_end c.loop-level.level c.loop-level.place (omega (arith, c.loop-level-test.false)) in
-    sym (ap (rank_of (list_of (g.D.Descend.set_of c.args.tree.now))) leaf) ∙ c.loop-level.invariant.last
+pub returns-clause-start : goal.returns-clause-start
+returns-clause-start g c =
+    let leaf = leaf_start c.args.order c.loop-level.level c.loop-level.place (omega (arith, c.loop-level-test.false)) in
+    sym (ap (rank_of (list_of (g.D.Descend.set_of c.args.tree.now))) leaf) ∙ c.loop-level.invariant.start
 
 pub push-requires : goal.push-requires
 push-requires g c =

@@ -300,9 +300,6 @@ module _ {A B : Type 0} (parts_a : Parts A) (parts_b : Parts B) (v : SeatView) (
     pub may_try : IsFilled f old q r.from number
     may_try = subst (λ (z : SeatView). IsFilled f z q r.from number) (sym is_full) (may_publish f held.told number r.five room_told q r.from held.says)
 
-    pub inner_old : IsInner old.shape q
-    inner_old = subst (λ (z : Shape). IsInner z q) (sym g_old.shaped) t.inner
-
     -- and the node's word exchanged, or not
     pub try_over : (w : SeatView) (found : ℕ) (done : Bool) → (IsTrue done ↔ (found ≡ r.from)) → TriesNode f old q r.from number found w → TryOver f v q number done w
     try_over w found done decided tried = let l = held.loaded.lefts in let first = l.first in let second = held.loaded.second in

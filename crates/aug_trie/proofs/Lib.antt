@@ -51,7 +51,3 @@ pub mod Raising
 pub mod Staging
 pub mod Turning
 pub mod Chaining
-mod TurnsLeft
-mod Unchanged
-mod PassClauses
-mod RoundClauses

@@ -1,4 +1,5 @@
 -- What a call comes to that takes out a member of its snapshot, from what its parts come to.
+
 use Rattle.std.proofs.Common.{◌≡◌, ℕ, zero, suc, ◌+◌, ◌==◌, Bool, if◌then◌else◌, List, [], ◌∷◌, ◌++◌, All, length, length-append, Option, Some, None, sym, ap, ◌∙◌, subst, inl, inr, arith}
 use Rattle.std.specs.Prelude.{slice_get, unwrap_or}
 use Rattle.std.proofs.lemmas.Bool.{cases_Bool}
@@ -21,7 +22,6 @@ use Rattle.aug_trie.specs.declared.queries.snapshot.Snapshot.{Snapshot}
 use Rattle.aug_trie.specs.declared.rounds.pop.Pop.{Pop}
 use Rattle.aug_trie.specs.declared.rounds.pop.Pop.TheVariants.{Member, Empty, Refused}
 use Rattle.aug_trie.specs.declared.rounds.pop.Side.{Side}
-use Rattle.aug_trie.specs.declared.rounds.pop.Side.TheVariants.{First, Last}
 
 -- a key that stands in the list is as they all are
 pub one_of_all : (P : ℕ → Type 0) (xs : List ℕ) (i k : ℕ) → All P xs → slice_get xs i ≡ Some k → P k
@@ -37,11 +37,6 @@ weighs_some (p ∷ ps) (suc i) k is none = elim (cases_Bool (p.0 == k)) [
   | inl here ↦ grind (arith, here, none)
   | inr other ↦ weighs_some ps i k is (sym (ap (λ (b : Bool). if b then Some p.1 else weight_of ps k) other) ∙ none)
 ]
-
--- both ends of a list are places of it
-pub end_stands : (side : Side) (xs : List ℕ) (k : ℕ) → member_at side xs ≡ Some k → (i : ℕ) × (slice_get xs i ≡ Some k)
-end_stands First xs k is = (_, is)
-end_stands Last xs k is = (_, is)
 
 -- a pass goes on twice
 pub goes_on_both : (a b s t : ℕ) (p q r : PassFacts) → GoesOn a s p q → GoesOn b t q r → GoesOn (a + b) (s + t) p r

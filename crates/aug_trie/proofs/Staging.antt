@@ -1,4 +1,5 @@
 -- An update goes on by one step.
+
 use Rattle.std.proofs.Common.{◌≡◌, ℕ, suc, ◌+◌, ◌-◌, ◌*◌, ◌/◌, ◌^◌, ◌<◌, ◌≤◌, Bool, true, false, if◌then◌else◌, List, [], ◌∷◌, ◌++◌, length, suc-mul, sym, refl, ap, ◌∙◌, subst, ⊎_elim, arith, append_assoc, length-append}
 use Rattle.std.proofs.lemmas.Bool.{cases_eq, false≢true}
 use Rattle.std.proofs.lemmas.List.{append-nil}
@@ -13,14 +14,13 @@ use Rattle.aug_model.specs.declared.outcome.Outcome.{Outcome}
 use Rattle.aug_model.specs.declared.outcome.Outcome.TheVariants.{Refused}
 use Rattle.aug_words.specs.Seats.{MayAdvance, TriedLeaf}
 use Rattle.aug_trie.specs.inside.RoundState.{eras_of}
-use Rattle.aug_trie.specs.Pass.{most_rise_steps}
-use Rattle.aug_trie.specs.inside.Goes.{HasLeaves, HasRoom, Goes, try_steps, level_steps}
+use Rattle.aug_trie.specs.inside.Goes.{HasRoom, Goes}
 use Rattle.aug_trie.specs.inside.Climbing.{Updated, advance_from}
 use Rattle.aug_trie.specs.inside.PassState.{IsPass}
 use Rattle.aug_trie.specs.LeafWords.{serial_in_word}
 use Rattle.aug_trie.specs.inside.Points.{OneStep, QuietStep}
 use Rattle.aug_trie.specs.Requests.{goes_from, word_after, outcome_by, outcome_at_once}
-use Rattle.aug_trie.specs.inside.Stages.{HasRisen, IsOnWay, HasBegun, IsRising, StageAt, ascent_turns}
+use Rattle.aug_trie.specs.inside.Stages.{HasRisen, IsOnWay, HasBegun, IsRising, StageAt}
 use Rattle.aug_trie.specs.declared.updates.request.Request.{Request}
 use Rattle.aug_trie.specs.declared.turns.points.Point.TheVariants.{Node}
 use Rattle.aug_trie.specs.declared.turns.ascents.Ascent.{Ascent}
@@ -31,11 +31,6 @@ use Rattle.aug_trie.proofs.Requesting.{from_word, to_word}
 use Rattle.aug_trie.proofs.Updating.{goes_begun, goes_leaf, advances, serial_few, told, may_rise, refused_at_once, updated}
 use Rattle.aug_trie.proofs.Ascending.{way_begins}
 use Rattle.aug_core.specs.declared.step.StepTaken.{StepTaken}
-
--- the first node above a leaf, tried twice, and two tries at each of the others
-pub first_turns : (bits : ℕ) (a : Ascent) → 1 ≤ bits → a.level ≡ 0 → a.second ≡ false → a.point ≡ Node → ascent_turns bits a ≡ most_rise_steps bits
-first_turns bits a some el es ep = subst (λ (z : Ascent). ascent_turns bits z ≡ most_rise_steps bits) (sym (λ i. record { level = el i; node = a.node; second = es i; point = ep i }))
-    (let e : (bits - 1 - 0) * level_steps + try_steps 0 + try_steps 0 ≡ most_rise_steps bits = omega arith in e)
 
 -- the word that is to be exchanged next
 abbrev pub exchanged_word : Stage → ℕ
@@ -48,17 +43,6 @@ module _ (f : ℕ → ℕ → List (ℕ × ℕ) → List ℕ) where
   pub room_one : (u : SeatView) (leaves bits number left : ℕ) → IsPass f u leaves bits number left → 1 ≤ left → HasRoom u number bits × (number + bits < 2 ^ 60) × (1 ≤ bits)
   room_one u leaves bits number left p some = let e : left ≡ suc (left - 1) = omega arith in let m : left * bits ≡ (left - 1) * bits + bits = ap (λ (z : ℕ). z * bits) e ∙ suc-mul (left - 1) bits in
       let r = p.room.room in let s = p.small in let b = p.knows_table.laid_out.bits.0 in let is = p.bits_are in (record { is_free = p.room.is_free; room = omega arith }, omega arith, omega arith)
-
-  pub begin_step : (v w : SeatView) (key serial : ℕ) → BeginsAtLeaf f v key serial w → OneStep v w
-  begin_step v w key serial l = record {
-    taken = load_leaf key serial;
-    steps = ap (λ (z : SeatView). z.steps) l.stepped;
-    later = l.sees.later;
-    shaped = ap (λ (z : SeatView). z.shape) l.stepped;
-    same_members = ap (λ (z : SeatView). z.members) l.stepped;
-    same_eras = ap eras_of l.stepped;
-    lane = ap (λ (z : SeatView). own_lane z.held) l.stepped;
-  }
 
   module _ {leaves bits number left key : ℕ} {request : Request} {u : SeatView} where
     -- a stage is what it was matched with
@@ -110,9 +94,6 @@ module _ (f : ℕ → ℕ → List (ℕ × ℕ) → List ℕ) where
 
       room_old : HasRoom old number bits
       room_old = room_on f [] u old number bits g_old (room_one u leaves bits number left t.is_pass t.some).0
-
-      pub low_old : key < 2 ^ old.shape.bits
-      low_old = subst (λ (z : Shape). key < 2 ^ z.bits) (sym g_old.shaped) t.low
 
       pub may_advance : MayAdvance old key word (word_after request key word)
       may_advance = advances f u old key word request t.low t.is_pass.knows_table loaded t.fits t.is_stage.lets
@@ -172,9 +153,6 @@ module _ (f : ℕ → ℕ → List (ℕ × ℕ) → List ℕ) where
     module _ {old : SeatView} {done : Outcome} {a : Ascent} (t : StageAt f leaves bits number left key request u (Up done a) old) where
       abbrev r : IsRising f leaves bits number left key request u done a old
       r = t.is_stage
-
-      pub leaves_old : HasLeaves old.shape leaves
-      leaves_old = subst (λ (z : Shape). HasLeaves z leaves) (sym r.has_begun.shaped) t.is_pass.leaves_are
 
       pub rising_on : {w : SeatView} (next : Ascent) → QuietStep old w → IsOnWay f bits number key r.leaf next w → StageAt f leaves bits number left key request u (Up done next) w
       rising_on next quiet way = let b = r.has_begun in let s = quiet.0 in record {

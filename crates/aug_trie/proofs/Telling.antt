@@ -1,9 +1,9 @@
 -- What a child's part says, and what the words of two parts are.
-use Rattle.std.proofs.Common.{◌≡◌, ℕ, ◌+◌, ◌^◌, ◌<◌, ◌≤◌, List, [], ◌∷◌, ◌++◌, All, get_or, length-append, sym, refl, ap, ◌∙◌, subst, arith}
+use Rattle.std.proofs.Common.{◌≡◌, ℕ, ◌+◌, ◌^◌, ◌<◌, ◌≤◌, List, [], ◌∷◌, ◌++◌, All, get_or, length-append, sym, ap, ◌∙◌, subst, arith}
 use Rattle.aug_monoid.specs.Parts.{Parts}
 use Rattle.aug_monoid.specs.inside.Laws.{IsMonoid}
 use Rattle.aug_monoid.specs.Weighted.{FitsPair}
-use Rattle.aug_monoid.proofs.FoldLemmas.{fold_of-append, fold_of-one, of_word-fold_of}
+use Rattle.aug_monoid.proofs.FoldLemmas.{fold_of-append, of_word-fold_of}
 use Rattle.aug_core.specs.Addresses.{IsInner}
 use Rattle.aug_core.specs.Faces.{face}
 use Rattle.aug_core.specs.Book.{At}
@@ -57,10 +57,6 @@ module _ {A B : Type 0} (parts_a : Parts A) (parts_b : Parts B) (laws_a : IsMono
     of = λ i e p is. let serial = kn.book.serials key i e low p in
         subst (IsPart parts_a parts_b n a b) (sym (pairs_of_serial key i e serial ∙ ap (leaf_pairs key) is)) part;
   }
-
-  -- what one key tells, and what none tells
-  pub part_of_one : (key weight : ℕ) → key < 2 ^ 32 → weight < 2 ^ 32 → IsPart parts_a parts_b 1 (parts_a.of_key key weight) (parts_b.of_key key weight) ((key, weight) ∷ [])
-  part_of_one key weight low light = record { count_is = refl; a_is = sym (fold_of-one laws_a (key, weight) (low, light)); b_is = sym (fold_of-one laws_b (key, weight) (low, light)) }
 
   -- the words of two parts
   pub words_are : (l r m k : ℕ) (a a' : A) (b b' : B) (xs ys : List (ℕ × ℕ)) → All FitsPair xs → All FitsPair ys → IsPart parts_a parts_b m a b xs → IsPart parts_a parts_b k a' b' ys

@@ -1,7 +1,6 @@
 use Rattle.aug_core.specs.declared.view.SeatView.{SeatView}
 use Rattle.aug_trie.specs.inside.BothWalk.{top_of}
 use Rattle.aug_trie.proofs.Comparing.{under_seen, right_is_under}
-use Rattle.aug_trie.proofs.Looked.{looks_one}
 use Rattle.aug_trie.proofs.queries.both_walk.right_under.Goals as goal
 
 pub load_word-requires : goal.load_word-requires
@@ -11,9 +10,3 @@ load_word-requires g c = let v : SeatView = (g.W.RecordWords.known c.args.words.
 pub returns-clause-node : goal.returns-clause-node
 returns-clause-node g c = let v : SeatView = (g.W.RecordWords.known c.args.words.now).view in
     right_is_under g.A.Monoid.parts g.B.Monoid.parts v c.requires.knows (top_of v c.args.snapshot) c.args.level c.args.place c.args.word c.requires.node c.load_word.result c.load_word.ensures.view.known
-
-pub returns-clause-looks : goal.returns-clause-looks
-returns-clause-looks g c = looks_one _ _ _ c.load_word.ensures.view.stepped
-
-pub returns-clause-table : goal.returns-clause-table
-returns-clause-table g c = c.load_word.ensures.table

@@ -5,7 +5,7 @@ use Rattle.aug_core.specs.declared.view.SeatView.{SeatView}
 use Rattle.aug_trie.specs.inside.NamedCuts.{cut_named}
 use Rattle.aug_trie.proofs.Telling.{seen_on, says_before}
 use Rattle.aug_trie.proofs.Looking.{leaf_tells, record_seen, count_fits, record_tells}
-use Rattle.aug_trie.proofs.Looked.{looks_one, looks_on, looks_none}
+use Rattle.aug_trie.proofs.Looked.{looks_one, looks_on}
 use Rattle.aug_trie.proofs.queries.nodes.summary_at.Goals as goal
 
 pub returns-then-level-eq0-clause-tells : goal.returns-then-level-eq0-clause-tells
@@ -47,9 +47,3 @@ pub returns-clause-looks : goal.returns-clause-looks
 returns-clause-looks g c = let v : SeatView = (g.W.RecordWords.known c.args.words.now).view in let w1 : SeatView = (g.W.RecordWords.known c.load_word-count.new.self).view in let w2 : SeatView = (g.W.RecordWords.known c.load_word-a.new.self).view in let w3 : SeatView = (g.W.RecordWords.known c.load_word-b.new.self).view in
     let two = looks_on 1 1 2 v w1 w2 (omega arith) (looks_one v w1 _ c.load_word-count.ensures.view.stepped) (looks_one w1 w2 _ c.load_word-a.ensures.view.stepped) in
     looks_on 2 1 3 v w2 w3 (omega arith) two (looks_one w2 w3 _ c.load_word-b.ensures.view.stepped)
-
-pub returns-then-level-eq0-clause-looks : goal.returns-then-level-eq0-clause-looks
-returns-then-level-eq0-clause-looks g c = looks_none 3 _
-
-pub returns-clause-table : goal.returns-clause-table
-returns-clause-table g c = c.load_word-b.ensures.table ∙ c.load_word-a.ensures.table ∙ c.load_word-count.ensures.table

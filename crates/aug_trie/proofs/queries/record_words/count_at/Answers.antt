@@ -7,7 +7,6 @@ use Rattle.aug_trie.specs.LeafWords.{serial_in_word}
 use Rattle.aug_trie.specs.inside.NamedCuts.{cut_named}
 use Rattle.aug_trie.proofs.Looking.{record_seen, count_fits, count_is}
 use Rattle.aug_trie.proofs.Walking.{leaf_count}
-use Rattle.aug_trie.proofs.Looked.{looks_none, looks_one}
 use Rattle.aug_trie.proofs.queries.record_words.count_at.Goals as goal
 
 pub returns-then-level-eq0-clause-value : goal.returns-then-level-eq0-clause-value
@@ -31,12 +30,3 @@ overflow_cast-result-2 g c = let v : SeatView = (g.W.RecordWords.known c.args.wo
 pub returns-clause-value : goal.returns-clause-value
 returns-clause-value g c = let v : SeatView = (g.W.RecordWords.known c.args.words.now).view in let inner : 1 ≤ c.args.level = search rules in
     count_is g.A.Monoid.parts g.B.Monoid.parts v c.requires.knows (cut_named v.shape v.seen c.args.snapshot.number) c.args.level c.args.place c.args.word c.requires.node inner c.load_word.result c.load_word.ensures.view.known
-
-pub returns-then-level-eq0-clause-looks : goal.returns-then-level-eq0-clause-looks
-returns-then-level-eq0-clause-looks g c = looks_none 1 _
-
-pub returns-clause-looks : goal.returns-clause-looks
-returns-clause-looks g c = looks_one _ _ _ c.load_word.ensures.view.stepped
-
-pub returns-clause-table : goal.returns-clause-table
-returns-clause-table g c = c.load_word.ensures.table

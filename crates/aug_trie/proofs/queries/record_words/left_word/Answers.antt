@@ -4,7 +4,6 @@ use Rattle.aug_core.specs.declared.view.SeatView.{SeatView}
 use Rattle.aug_trie.specs.inside.NodeWords.{IsNodeAt}
 use Rattle.aug_trie.specs.inside.NamedCuts.{cut_named}
 use Rattle.aug_trie.proofs.Looking.{record_seen, left_is}
-use Rattle.aug_trie.proofs.Looked.{looks_one}
 use Rattle.aug_trie.proofs.queries.record_words.left_word.Goals as goal
 
 pub load_word-requires : goal.load_word-requires
@@ -16,9 +15,3 @@ returns-clause-node g c = let v : SeatView = (g.W.RecordWords.known c.args.words
     let down : c.args.level + 1 - 1 ≡ c.args.level = omega arith in
     subst (λ (z : ℕ). IsNodeAt v.shape v.seen cut z (2 * c.args.place) c.load_word.result) down
     (left_is g.A.Monoid.parts g.B.Monoid.parts v c.requires.knows cut (c.args.level + 1) c.args.place c.args.word c.requires.node inner c.load_word.result c.load_word.ensures.view.known)
-
-pub returns-clause-looks : goal.returns-clause-looks
-returns-clause-looks g c = looks_one _ _ _ c.load_word.ensures.view.stepped
-
-pub returns-clause-table : goal.returns-clause-table
-returns-clause-table g c = c.load_word.ensures.table

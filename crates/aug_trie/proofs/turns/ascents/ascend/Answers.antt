@@ -1,4 +1,4 @@
-use Rattle.std.proofs.Common.{arith, subst, sym, ◌≡◌, ◌+◌, ℕ}
+use Rattle.std.proofs.Common.{subst, sym, ◌≡◌, ◌+◌, ℕ}
 use Rattle.aug_core.specs.Faces.{face}
 use Rattle.aug_core.specs.Addresses.{left_of}
 use Rattle.aug_core.specs.declared.view.SeatView.{SeatView}
@@ -7,7 +7,6 @@ use Rattle.aug_trie.specs.inside.Points.{TryAt, Advances, Falls}
 use Rattle.aug_trie.specs.inside.Stages.{part_above}
 use Rattle.aug_trie.specs.declared.turns.points.Advanced.{Advanced}
 use Rattle.aug_trie.proofs.Ascending.{leaves_are, part_is, step_on, past_try, point_some, ascent_falls}
-use Rattle.aug_trie.proofs.TurnsLeft.{past_falls, level_low, bits_few, node_few}
 use Rattle.aug_trie.proofs.turns.ascents.ascend.Goals as goal
 
 pub returns-in-To-clause-on : goal.returns-in-To-clause-on
@@ -27,42 +26,3 @@ returns-in-Exchanged-clause-on g c = λ key leaf o. let f = face g.A.Monoid.part
     let told = λ (v : SeatView) (t : TryAt f v a.node (c.args.number + a.level) a.point old). subst (λ (z : ℕ). Advances f v a.node (c.args.number + z) c.advance.result w) (sym at) (c.advance.ensures.on v (subst (λ (z : ℕ). TryAt f v a.node (c.args.number + z) a.point old) at t)) in
     c.after_try.ensures.on f c.args.number key leaf w (leaves_are f c.args.bits c.args.number key leaf a old o c.args.leaves c.requires.leaves.are)
     (past_try f c.args.bits c.args.number key leaf a old o w c.in-Exchanged.done (subst (λ (z : Advanced). Advances f o.begun a.node (c.args.number + a.level) z w) c.in-Exchanged.is (told o.begun o.try_at)))
-
-pub advance-requires-clause-begun : goal.advance-requires-clause-begun
-advance-requires-clause-begun g c = let f = face g.A.Monoid.parts g.B.Monoid.parts in let o = c.requires.on_way.2 in let a = c.args.ascent in
-    let at : a.level ≡ c.from.result = sym c.from.ensures in
-    (o.begun, subst (λ (z : ℕ). TryAt f o.begun a.node (c.args.number + z) a.point c.args.pass.now.view) at o.try_at)
-
-pub after_try-requires-clause-bits : goal.after_try-requires-clause-bits
-after_try-requires-clause-bits g c = bits_few (face g.A.Monoid.parts g.B.Monoid.parts) c.requires.on_way.2
-
-pub after_try-requires-clause-level : goal.after_try-requires-clause-level
-after_try-requires-clause-level g c = level_low (face g.A.Monoid.parts g.B.Monoid.parts) c.requires.on_way.2
-
-pub after_try-requires-clause-node : goal.after_try-requires-clause-node
-after_try-requires-clause-node g c = node_few (face g.A.Monoid.parts g.B.Monoid.parts) c.requires.on_way.2 c.requires.leaves
-
-pub after_try-requires-clause-leaves : goal.after_try-requires-clause-leaves
-after_try-requires-clause-leaves g c = let few = c.requires.leaves.few in omega (arith, few)
-
-pub returns-in-Exchanged-clause-falls : goal.returns-in-Exchanged-clause-falls
-returns-in-Exchanged-clause-falls g c = let key = c.requires.on_way.0 in let leaf : SeatView = c.requires.on_way.1 in
-    let f = face g.A.Monoid.parts g.B.Monoid.parts in let a = c.args.ascent in let old : SeatView = c.args.pass.now.view in
-    let part = part_steps old.shape (left_of old.shape a.node) in let is = part_is f c.args.bits c.args.number key leaf a old c.requires.on_way.2 in
-    past_falls c.args.bits part a c.in-Exchanged.done c.after_try.result is (subst (Falls part a.point) c.in-Exchanged.is c.advance.ensures.falls)
-    c.after_try.ensures.falls
-
-pub returns-in-To-clause-table : goal.returns-in-To-clause-table
-returns-in-To-clause-table g c = c.advance.ensures.table
-
-pub returns-in-To-clause-step : goal.returns-in-To-clause-step
-returns-in-To-clause-step g c = c.advance.ensures.step
-
-pub returns-in-Exchanged-clause-table : goal.returns-in-Exchanged-clause-table
-returns-in-Exchanged-clause-table g c = c.advance.ensures.table
-
-pub returns-in-Exchanged-clause-step : goal.returns-in-Exchanged-clause-step
-returns-in-Exchanged-clause-step g c = c.advance.ensures.step
-
-pub advance-requires-clause-leaves : goal.advance-requires-clause-leaves
-advance-requires-clause-leaves g c = c.requires.leaves

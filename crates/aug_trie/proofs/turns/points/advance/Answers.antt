@@ -4,14 +4,11 @@ use Rattle.aug_core.specs.Places.{Shape}
 use Rattle.aug_core.specs.Addresses.{left_of}
 use Rattle.aug_core.specs.inside.Refreshes.{HasNewest}
 use Rattle.aug_core.specs.declared.view.SeatView.{SeatView}
-use Rattle.aug_trie.specs.inside.Goes.{part_steps}
-use Rattle.aug_trie.specs.inside.Points.{TryAt, Falls}
+use Rattle.aug_trie.specs.inside.Points.{TryAt}
 use Rattle.aug_trie.specs.declared.turns.points.Point.{Point}
 use Rattle.aug_trie.specs.declared.turns.points.Point.TheVariants.{Left}
-use Rattle.aug_trie.specs.declared.turns.points.Advanced.TheVariants.{To}
 use Rattle.aug_trie.proofs.Levels.{child_places}
 use Rattle.aug_trie.proofs.Advancing.{goes_at, node_on, left_on}
-use Rattle.aug_trie.proofs.TurnsLeft.{knows_at, place_at, past_leaves_at, node_falls, left_falls, part_falls, record_falls}
 use Rattle.aug_trie.proofs.turns.points.advance.Goals as goal
 
 pub returns-in-Node-clause-on : goal.returns-in-Node-clause-on
@@ -41,70 +38,3 @@ returns-in-Record-clause-on g c = λ v t. let f = face g.A.Monoid.parts g.B.Mono
 pub look-left-requires-clause-place : goal.look-left-requires-clause-place
 look-left-requires-clause-place g c = let f = face g.A.Monoid.parts g.B.Monoid.parts in let v : SeatView = c.requires.begun.0 in let t = c.requires.begun.1 in
     (child_places c.requires.leaves t.inner (sym (goes_at f v c.args.node c.args.number c.args.point c.args.pass.now.view t).shaped) refl).0
-
-pub look-requires-clause-knows : goal.look-requires-clause-knows
-look-requires-clause-knows g c = knows_at (face g.A.Monoid.parts g.B.Monoid.parts) c.requires.begun.1
-
-pub look-left-requires-clause-knows : goal.look-left-requires-clause-knows
-look-left-requires-clause-knows g c = knows_at (face g.A.Monoid.parts g.B.Monoid.parts) c.requires.begun.1
-
-pub look-requires-clause-place : goal.look-requires-clause-place
-look-requires-clause-place g c = place_at (face g.A.Monoid.parts g.B.Monoid.parts) c.requires.begun.1
-
-pub overflow_sub-node : goal.overflow_sub-node
-overflow_sub-node g c = past_leaves_at (face g.A.Monoid.parts g.B.Monoid.parts) c.requires.begun.1 c.requires.leaves
-
-pub load_part-requires : goal.load_part-requires
-load_part-requires g c = let f = face g.A.Monoid.parts g.B.Monoid.parts in let v : SeatView = c.requires.begun.0 in
-    record { begun = (v, c.args.node, c.args.number, subst (λ (z : Point). TryAt f v c.args.node c.args.number z c.args.pass.now.view) c.in-Part.is c.requires.begun.1) }
-
-pub store_or_try-requires : goal.store_or_try-requires
-store_or_try-requires g c = let f = face g.A.Monoid.parts g.B.Monoid.parts in let v : SeatView = c.requires.begun.0 in
-    record { begun = (v, subst (λ (z : Point). TryAt f v c.args.node c.args.number z c.args.pass.now.view) c.in-Record.is c.requires.begun.1) }
-
-pub returns-in-Node-clause-falls : goal.returns-in-Node-clause-falls
-returns-in-Node-clause-falls g c = node_falls _ c.look.result c.in-Node.is
-
-pub returns-in-Left-clause-falls : goal.returns-in-Left-clause-falls
-returns-in-Left-clause-falls g c = left_falls _ c.in-Left.from c.look-left.result c.in-Left.is
-
-pub returns-in-Right-clause-falls : goal.returns-in-Right-clause-falls
-returns-in-Right-clause-falls g c = let s : Shape = c.args.pass.now.view.shape in
-    subst (λ (z : Point). Falls (part_steps s (left_of s c.args.node)) z (To c.load_right.result)) (sym c.in-Right.is) c.load_right.ensures.falls
-
-pub returns-in-Part-clause-falls : goal.returns-in-Part-clause-falls
-returns-in-Part-clause-falls g c = part_falls _ c.load_part.result c.in-Part.is c.load_part.ensures.falls
-
-pub returns-in-Record-clause-falls : goal.returns-in-Record-clause-falls
-returns-in-Record-clause-falls g c = record_falls _ c.store_or_try.result c.in-Record.is c.store_or_try.ensures.falls
-
-pub returns-in-Node-clause-table : goal.returns-in-Node-clause-table
-returns-in-Node-clause-table g c = c.look.ensures.table
-
-pub returns-in-Left-clause-table : goal.returns-in-Left-clause-table
-returns-in-Left-clause-table g c = c.look-left.ensures.table
-
-pub returns-in-Left-clause-step : goal.returns-in-Left-clause-step
-returns-in-Left-clause-step g c = c.look-left.ensures.step
-
-pub returns-in-Right-clause-table : goal.returns-in-Right-clause-table
-returns-in-Right-clause-table g c = c.load_right.ensures.table
-
-pub returns-in-Right-clause-step : goal.returns-in-Right-clause-step
-returns-in-Right-clause-step g c = c.load_right.ensures.step
-
-pub returns-in-Part-clause-table : goal.returns-in-Part-clause-table
-returns-in-Part-clause-table g c = c.load_part.ensures.table
-
-pub returns-in-Part-clause-step : goal.returns-in-Part-clause-step
-returns-in-Part-clause-step g c = c.load_part.ensures.step
-
-pub returns-in-Record-clause-table : goal.returns-in-Record-clause-table
-returns-in-Record-clause-table g c = c.store_or_try.ensures.table
-
-pub returns-in-Record-clause-step : goal.returns-in-Record-clause-step
-returns-in-Record-clause-step g c = c.store_or_try.ensures.step
-
-pub load_right-requires-clause-begun : goal.load_right-requires-clause-begun
-load_right-requires-clause-begun g c = let f = face g.A.Monoid.parts g.B.Monoid.parts in let v : SeatView = c.requires.begun.0 in
-    (v, c.args.number, subst (λ (z : Point). TryAt f v c.args.node c.args.number z c.args.pass.now.view) c.in-Right.is c.requires.begun.1)

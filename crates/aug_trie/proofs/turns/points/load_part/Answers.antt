@@ -6,8 +6,8 @@ use Rattle.aug_core.specs.declared.view.SeatView.{SeatView}
 use Rattle.aug_trie.specs.inside.Points.{reading_words}
 use Rattle.aug_trie.specs.declared.turns.points.Point.TheVariants.{Part}
 use Rattle.aug_core.proofs.PlaceLemmas.{keys-within}
+use Rattle.aug_trie.proofs.Going.{quiet_stepping}
 use Rattle.aug_trie.proofs.Advancing.{child_seen, counts_fit, part_on, all_on, goes_all, took_all, nodes_told}
-use Rattle.aug_trie.proofs.Unchanged.{quiet_loaded}
 use Rattle.aug_trie.proofs.turns.points.load_part.Goals as goal
 
 pub next_word-number-requires : goal.next_word-number-requires
@@ -34,20 +34,7 @@ returns-else-reading-lt-READING_WORDS-clause-on g c = λ v q number t. let m = g
     number (Part r) c.args.pass.now.view c.load_record_word.new.self.view c.over_nodes.result c.over_nodes.ensures.from c.over_nodes.ensures.five c.over_nodes.ensures.count t (goes_all f t is.field is.record l) (took_all f t is.field is.record l six)
 
 pub returns-then-reading-lt-READING_WORDS-clause-step : goal.returns-then-reading-lt-READING_WORDS-clause-step
-returns-then-reading-lt-READING_WORDS-clause-step g c = quiet_loaded c.load_record_word.ensures.view
+returns-then-reading-lt-READING_WORDS-clause-step g c = quiet_stepping _ _ _ c.load_record_word.ensures.view.stepped
 
 pub returns-else-reading-lt-READING_WORDS-clause-step : goal.returns-else-reading-lt-READING_WORDS-clause-step
-returns-else-reading-lt-READING_WORDS-clause-step g c = quiet_loaded c.load_record_word.ensures.view
-
-pub returns-then-reading-lt-READING_WORDS-clause-table : goal.returns-then-reading-lt-READING_WORDS-clause-table
-returns-then-reading-lt-READING_WORDS-clause-table g c = c.load_record_word.ensures.table
-
-pub returns-else-reading-lt-READING_WORDS-clause-table : goal.returns-else-reading-lt-READING_WORDS-clause-table
-returns-else-reading-lt-READING_WORDS-clause-table g c = c.load_record_word.ensures.table
-
-pub returns-then-reading-lt-READING_WORDS-clause-falls : goal.returns-then-reading-lt-READING_WORDS-clause-falls
-returns-then-reading-lt-READING_WORDS-clause-falls g c = let few = c.requires.begun.3.is_at.few in omega (arith, few)
-
-pub returns-else-reading-lt-READING_WORDS-clause-falls : goal.returns-else-reading-lt-READING_WORDS-clause-falls
-returns-else-reading-lt-READING_WORDS-clause-falls g c = let few = c.requires.begun.3.is_at.few in let none = c.over_nodes.ensures.count in
-    let full = c.if-reading-lt-READING_WORDS.false in omega (arith, few, none, full)
+returns-else-reading-lt-READING_WORDS-clause-step g c = quiet_stepping _ _ _ c.load_record_word.ensures.view.stepped

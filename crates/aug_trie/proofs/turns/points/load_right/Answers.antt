@@ -9,7 +9,6 @@ use Rattle.aug_trie.specs.inside.Points.{IsOverLeaves}
 use Rattle.aug_trie.specs.declared.turns.points.Point.TheVariants.{Right}
 use Rattle.aug_trie.proofs.Levels.{child_places}
 use Rattle.aug_trie.proofs.Advancing.{goes_at, right_on, to_words, leaves_told}
-use Rattle.aug_trie.proofs.TurnsLeft.{past_leaves_at, leaves_fall, words_fall, knows_at}
 use Rattle.aug_trie.proofs.turns.points.load_right.Goals as goal
 
 pub returns-then-child-leaves-clause-on : goal.returns-then-child-leaves-clause-on
@@ -34,32 +33,3 @@ returns-clause-on g c = λ v number t. let m = g.A.Monoid in let n = g.B.Monoid 
 pub look-right-requires-clause-place : goal.look-right-requires-clause-place
 look-right-requires-clause-place g c = let f = face g.A.Monoid.parts g.B.Monoid.parts in let b = c.requires.begun in let v : SeatView = b.0 in let t = b.2 in
     (child_places c.requires.leaves t.inner (sym (goes_at f v c.args.node b.1 (Right c.args.from c.args.left) c.args.pass.now.view t).shaped) refl).1
-
-pub overflow_sub-child : goal.overflow_sub-child
-overflow_sub-child g c = past_leaves_at (face g.A.Monoid.parts g.B.Monoid.parts) c.requires.begun.2 c.requires.leaves
-
-pub returns-then-child-leaves-clause-falls : goal.returns-then-child-leaves-clause-falls
-returns-then-child-leaves-clause-falls g c = leaves_fall c.args.pass.now.view.shape c.args.node c.requires.leaves.are c.args.from c.args.left
-    c.over_leaves.result c.over_leaves.ensures.count c.if-child-leaves.true
-
-pub returns-clause-falls : goal.returns-clause-falls
-returns-clause-falls g c = words_fall c.args.pass.now.view.shape c.args.node c.requires.leaves.are c.args.from c.args.left c.look-right.result
-    (let high = c.if-child-leaves.false in omega (arith, high))
-
-pub returns-then-child-leaves-clause-table : goal.returns-then-child-leaves-clause-table
-returns-then-child-leaves-clause-table g c = c.look-right.ensures.table
-
-pub returns-clause-table : goal.returns-clause-table
-returns-clause-table g c = c.look-right.ensures.table
-
-pub returns-then-child-leaves-clause-step : goal.returns-then-child-leaves-clause-step
-returns-then-child-leaves-clause-step g c = c.look-right.ensures.step
-
-pub returns-clause-step : goal.returns-clause-step
-returns-clause-step g c = c.look-right.ensures.step
-
-pub look-right-requires-clause-knows : goal.look-right-requires-clause-knows
-look-right-requires-clause-knows g c = knows_at (face g.A.Monoid.parts g.B.Monoid.parts) c.requires.begun.2
-
-pub over_leaves-requires : goal.over_leaves-requires
-over_leaves-requires g c = let low = c.if-child-leaves.true in let few = c.requires.leaves.few in omega (arith, low, few)

@@ -1,8 +1,6 @@
 use Rattle.std.proofs.Common.{arith, refl}
-use Rattle.aug_core.specs.Faces.{face}
 use Rattle.aug_trie.proofs.Going.{quiet_storing}
-use Rattle.aug_trie.proofs.Advancing.{may_store_word, may_try, inner_old, try_over, record_on}
-use Rattle.aug_trie.proofs.TurnsLeft.{knows_at, quiet_tried}
+use Rattle.aug_trie.proofs.Advancing.{may_store_word, may_try, try_over, record_on}
 use Rattle.aug_trie.proofs.turns.points.store_or_try.Goals as goal
 
 pub store_record_word-requires : goal.store_record_word-requires
@@ -23,24 +21,4 @@ returns-clause-on g c = λ v t. let few = t.is_at.few in let not = c.if-count-eq
     record_on g.A.Monoid.parts g.B.Monoid.parts v c.args.node c.args.number c.args.filling c.args.pass.now.view t c.store_record_word.new.self.view _ _ refl c.field_at.ensures (omega arith) c.store_record_word.ensures.view
 
 pub returns-clause-step : goal.returns-clause-step
-returns-clause-step g c = quiet_storing c.args.pass.now.view c.store_record_word.new.self.view _ _ c.store_record_word.ensures.view
-
-pub try_node-requires-clause-inner : goal.try_node-requires-clause-inner
-try_node-requires-clause-inner g c = inner_old g.A.Monoid.parts g.B.Monoid.parts c.requires.begun.0 c.args.node c.args.number c.args.filling
-    c.args.pass.now.view c.requires.begun.1 c.if-count-eq-RECORD_WORDS.true
-
-pub returns-then-count-eq-RECORD_WORDS-clause-step : goal.returns-then-count-eq-RECORD_WORDS-clause-step
-returns-then-count-eq-RECORD_WORDS-clause-step g c = let f = face g.A.Monoid.parts g.B.Monoid.parts in
-    quiet_tried f c.try_node.ensures.view (knows_at f c.requires.begun.1)
-
-pub returns-then-count-eq-RECORD_WORDS-clause-table : goal.returns-then-count-eq-RECORD_WORDS-clause-table
-returns-then-count-eq-RECORD_WORDS-clause-table g c = c.try_node.ensures.table
-
-pub returns-clause-table : goal.returns-clause-table
-returns-clause-table g c = c.store_record_word.ensures.table
-
-pub returns-then-count-eq-RECORD_WORDS-clause-falls : goal.returns-then-count-eq-RECORD_WORDS-clause-falls
-returns-then-count-eq-RECORD_WORDS-clause-falls g c = let full = c.if-count-eq-RECORD_WORDS.true in omega (arith, full)
-
-pub returns-clause-falls : goal.returns-clause-falls
-returns-clause-falls g c = let few = c.requires.begun.1.is_at.few in let not = c.if-count-eq-RECORD_WORDS.false in omega (arith, few, not)
+returns-clause-step g c = quiet_storing _ _ _ _ c.store_record_word.ensures.view

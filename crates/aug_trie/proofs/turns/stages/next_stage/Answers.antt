@@ -1,4 +1,4 @@
-use Rattle.std.proofs.Common.{◌≡◌, ◌∙◌, [], ◌∷◌, ◌++◌, sym, ap, subst, ℕ, Option, arith}
+use Rattle.std.proofs.Common.{◌≡◌, ◌∙◌, [], ◌∷◌, ◌++◌, sym, ap, subst, ℕ, Option}
 use Rattle.aug_core.specs.Faces.{face}
 use Rattle.aug_core.specs.Kinds.{try_leaf}
 use Rattle.aug_core.specs.declared.view.SeatView.{SeatView}
@@ -6,8 +6,7 @@ use Rattle.aug_words.specs.Seats.{MayAdvance, TriedLeaf}
 use Rattle.aug_trie.specs.Requests.{word_after}
 use Rattle.aug_trie.specs.inside.Stages.{Ascends}
 use Rattle.aug_trie.specs.declared.turns.ascents.Ascent.{Ascent}
-use Rattle.aug_trie.proofs.Staging.{room_one, stage_is, begun_change, begun_up, low_serial, may_advance, begin_step, leaves_old, low_old, may_try, exchanged_word, tried_steps, try_step, tried_up, rising_on, risen_up}
-use Rattle.aug_trie.proofs.TurnsLeft.{leaf_no_change, change_no_leaf, up_no_leaf, up_no_change, leaf_low, leaf_falls, at_once_falls, change_falls, up_falls, last_falls, leaf_loads}
+use Rattle.aug_trie.proofs.Staging.{room_one, stage_is, begun_change, begun_up, low_serial, may_advance, exchanged_word, tried_steps, try_step, tried_up, rising_on, risen_up}
 use Rattle.aug_trie.proofs.turns.stages.next_stage.Goals as goal
 
 pub ascend-requires-clause-small : goal.ascend-requires-clause-small
@@ -56,101 +55,3 @@ returns-then-goes_on-clause-on g c = λ left u t. let f = face g.A.Monoid.parts 
 
 pub word_after-requires-clause-lets : goal.word_after-requires-clause-lets
 word_after-requires-clause-lets g c = let f = face g.A.Monoid.parts g.B.Monoid.parts in (stage_is f c.in-Change.is c.requires.at.2).is_stage.lets
-
-pub begin_at_leaf-word-requires : goal.begin_at_leaf-word-requires
-begin_at_leaf-word-requires g c = leaf_low (face g.A.Monoid.parts g.B.Monoid.parts) c.requires.at.2 c.in-Leaf.is
-
-pub try_leaf-done-requires-clause-leaf : goal.try_leaf-done-requires-clause-leaf
-try_leaf-done-requires-clause-leaf g c = let f = face g.A.Monoid.parts g.B.Monoid.parts in low_old f (stage_is f c.in-Change.is c.requires.at.2)
-
-pub try_leaf-done-requires-clause-change : goal.try_leaf-done-requires-clause-change
-try_leaf-done-requires-clause-change g c = let f = face g.A.Monoid.parts g.B.Monoid.parts in may_try f (stage_is f c.in-Change.is c.requires.at.2)
-
-pub ascend-requires-clause-leaves : goal.ascend-requires-clause-leaves
-ascend-requires-clause-leaves g c = let f = face g.A.Monoid.parts g.B.Monoid.parts in leaves_old f (stage_is f c.in-Up.is c.requires.at.2)
-
-pub returns-then-goes_on-clause-first : goal.returns-then-goes_on-clause-first
-returns-then-goes_on-clause-first g c = λ is. leaf_loads (face g.A.Monoid.parts g.B.Monoid.parts) c.begin_at_leaf-word.ensures.view
-
-pub returns-then-goes_on-clause-second : goal.returns-then-goes_on-clause-second
-returns-then-goes_on-clause-second g c = λ word is. absurd (leaf_no_change c.in-Leaf.is is)
-
-pub returns-then-goes_on-clause-step : goal.returns-then-goes_on-clause-step
-returns-then-goes_on-clause-step g c = begin_step (face g.A.Monoid.parts g.B.Monoid.parts) c.args.pass.now.view c.begin_at_leaf-word.new.self.view
-    c.args.key c.begin_at_leaf-word.result c.begin_at_leaf-word.ensures.view
-
-pub returns-then-goes_on-clause-table : goal.returns-then-goes_on-clause-table
-returns-then-goes_on-clause-table g c = c.begin_at_leaf-word.ensures.table
-
-pub returns-else-goes_on-clause-first : goal.returns-else-goes_on-clause-first
-returns-else-goes_on-clause-first g c = λ is. leaf_loads (face g.A.Monoid.parts g.B.Monoid.parts) c.begin_at_leaf-word.ensures.view
-
-pub returns-else-goes_on-clause-second : goal.returns-else-goes_on-clause-second
-returns-else-goes_on-clause-second g c = λ word is. absurd (leaf_no_change c.in-Leaf.is is)
-
-pub returns-else-goes_on-clause-step : goal.returns-else-goes_on-clause-step
-returns-else-goes_on-clause-step g c = begin_step (face g.A.Monoid.parts g.B.Monoid.parts) c.args.pass.now.view c.begin_at_leaf-word.new.self.view
-    c.args.key c.begin_at_leaf-word.result c.begin_at_leaf-word.ensures.view
-
-pub returns-else-goes_on-clause-table : goal.returns-else-goes_on-clause-table
-returns-else-goes_on-clause-table g c = c.begin_at_leaf-word.ensures.table
-
-pub returns-then-goes_on-clause-falls : goal.returns-then-goes_on-clause-falls
-returns-then-goes_on-clause-falls g c = leaf_falls (face g.A.Monoid.parts g.B.Monoid.parts) c.requires.at.2 c.begin_at_leaf-word.result c.in-Leaf.is
-
-pub returns-else-goes_on-clause-falls : goal.returns-else-goes_on-clause-falls
-returns-else-goes_on-clause-falls g c = let is = c.from_leaf.ensures in
-    at_once_falls (face g.A.Monoid.parts g.B.Monoid.parts) c.requires.at.2 c.at_once.result c.from_leaf.result is.level is.second is.point c.in-Leaf.is
-
-pub returns-in-Change-clause-falls : goal.returns-in-Change-clause-falls
-returns-in-Change-clause-falls g c = let is = c.from_leaf-in-Change.ensures in
-    change_falls (face g.A.Monoid.parts g.B.Monoid.parts) c.requires.at.2 c.outcome_of-outcome.result c.from_leaf-in-Change.result is.level is.second
-    is.point c.in-Change.word c.in-Change.is
-
-pub returns-in-Change-clause-first : goal.returns-in-Change-clause-first
-returns-in-Change-clause-first g c = λ is. absurd (change_no_leaf c.in-Change.is is)
-
-pub returns-in-Change-clause-table : goal.returns-in-Change-clause-table
-returns-in-Change-clause-table g c = c.try_leaf-done.ensures.table
-
-pub returns-in-Some-clause-first : goal.returns-in-Some-clause-first
-returns-in-Some-clause-first g c = λ is. absurd (up_no_leaf c.in-Up.is is)
-
-pub returns-in-Some-clause-second : goal.returns-in-Some-clause-second
-returns-in-Some-clause-second g c = λ word is. absurd (up_no_change c.in-Up.is is)
-
-pub returns-in-Some-clause-table : goal.returns-in-Some-clause-table
-returns-in-Some-clause-table g c = c.ascend.ensures.table
-
-pub returns-in-Some-clause-step : goal.returns-in-Some-clause-step
-returns-in-Some-clause-step g c = c.ascend.ensures.step.0
-
-pub returns-in-None-clause-first : goal.returns-in-None-clause-first
-returns-in-None-clause-first g c = λ is. absurd (up_no_leaf c.in-Up.is is)
-
-pub returns-in-None-clause-second : goal.returns-in-None-clause-second
-returns-in-None-clause-second g c = λ word is. absurd (up_no_change c.in-Up.is is)
-
-pub returns-in-None-clause-table : goal.returns-in-None-clause-table
-returns-in-None-clause-table g c = c.ascend.ensures.table
-
-pub returns-in-None-clause-step : goal.returns-in-None-clause-step
-returns-in-None-clause-step g c = c.ascend.ensures.step.0
-
-pub returns-in-Some-clause-falls : goal.returns-in-Some-clause-falls
-returns-in-Some-clause-falls g c = up_falls c.args.bits c.in-Some.ascent c.in-Up.is c.in-Some.is c.ascend.ensures.falls
-
-pub returns-in-None-clause-falls : goal.returns-in-None-clause-falls
-returns-in-None-clause-falls g c = last_falls c.args.bits c.in-Up.is c.in-None.is c.ascend.ensures.falls
-
-pub from_leaf-requires-clause-leaf : goal.from_leaf-requires-clause-leaf
-from_leaf-requires-clause-leaf g c = let low = c.ranges.key.fits in omega (arith, low)
-
-pub from_leaf-requires-clause-leaves : goal.from_leaf-requires-clause-leaves
-from_leaf-requires-clause-leaves g c = let few = c.requires.at.2.is_pass.leaves_are.few in omega (arith, few)
-
-pub from_leaf-requires-in-Change-clause-leaf : goal.from_leaf-requires-in-Change-clause-leaf
-from_leaf-requires-in-Change-clause-leaf g c = let low = c.ranges.key.fits in omega (arith, low)
-
-pub from_leaf-requires-in-Change-clause-leaves : goal.from_leaf-requires-in-Change-clause-leaves
-from_leaf-requires-in-Change-clause-leaves g c = let few = c.requires.at.2.is_pass.leaves_are.few in omega (arith, few)

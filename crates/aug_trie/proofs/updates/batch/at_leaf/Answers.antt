@@ -4,7 +4,6 @@ use Rattle.aug_core.specs.declared.view.SeatView.{SeatView}
 use Rattle.aug_words.specs.Seats.{MayAdvance}
 use Rattle.aug_trie.proofs.Leaving.{left_at_once, left_tried}
 use Rattle.aug_trie.proofs.Updating.{advances, serial_few}
-use Rattle.aug_trie.proofs.Unchanged.{low_begun, may_begun}
 use Rattle.aug_trie.proofs.updates.batch.at_leaf.Goals as goal
 
 pub returns-then-not-goes_on-clause-left : goal.returns-then-not-goes_on-clause-left
@@ -24,18 +23,3 @@ pub returns-clause-left : goal.returns-clause-left
 returns-clause-left g c = let lane = c.requires.may.lane in
     left_tried c.args.request c.requires.key c.requires.knows c.begin_at_leaf-word.ensures.view c.amount_in-amount.ensures (sym c.goes_on.ensures ∙ c.if-not-goes_on.false) c.word_after.ensures lane
     (ap (λ (z : SeatView). z.held) c.begin_at_leaf-word.ensures.view.stepped ∙ c.requires.may.only) c.try_leaf-done.ensures.view c.outcome_of.ensures
-
-pub try_leaf-done-requires-clause-leaf : goal.try_leaf-done-requires-clause-leaf
-try_leaf-done-requires-clause-leaf g c = low_begun (face g.A.Monoid.parts g.B.Monoid.parts) c.begin_at_leaf-word.ensures.view c.requires.key
-
-pub try_leaf-done-requires-clause-change : goal.try_leaf-done-requires-clause-change
-try_leaf-done-requires-clause-change g c = may_begun (face g.A.Monoid.parts g.B.Monoid.parts) c.begin_at_leaf-word.ensures.view c.requires.may
-
-pub returns-clause-table : goal.returns-clause-table
-returns-clause-table g c = c.try_leaf-done.ensures.table ∙ c.begin_at_leaf-word.ensures.table
-
-pub returns-then-not-goes_on-clause-table : goal.returns-then-not-goes_on-clause-table
-returns-then-not-goes_on-clause-table g c = c.begin_at_leaf-word.ensures.table
-
-pub begin_at_leaf-word-requires : goal.begin_at_leaf-word-requires
-begin_at_leaf-word-requires g c = c.requires.key

@@ -1,8 +1,7 @@
-use Rattle.std.proofs.Common.{◌≡◌, ◌∙◌, ℕ, length, refl, subst, arith, sym, ◌<◌}
+use Rattle.std.proofs.Common.{◌≡◌, ◌∙◌, ℕ, length, refl, subst, arith}
 use Rattle.aug_core.specs.Faces.{face}
 use Rattle.aug_trie.specs.inside.Batching.{LeftAll, IsAccountAfter}
 use Rattle.aug_trie.proofs.LeavingAll.{left_none, may_leave, left_more}
-use Rattle.aug_trie.proofs.Unchanged.{below_more}
 use Rattle.aug_trie.proofs.updates.batch.at_leaves.Goals as goal
 
 pub loop-place-init : goal.loop-place-init
@@ -51,12 +50,3 @@ returns-clause-account g c = let test = c.loop-place-test.false in let end = c.l
 
 pub returns-clause-counts : goal.returns-clause-counts
 returns-clause-counts g c = c.loop-place.invariant.left.counts
-
-pub bounds-keys-place : goal.bounds-keys-place
-bounds-keys-place g c = c.loop-place-test.true
-
-pub bounds-requests-place : goal.bounds-requests-place
-bounds-requests-place g c = below_more c.loop-place-test.true c.requires.requests
-
-pub bounds-outcomes-place : goal.bounds-outcomes-place
-bounds-outcomes-place g c = subst (λ (z : ℕ). c.loop-place.place < z) (sym c.loop-place.auto.outcomes) (below_more c.loop-place-test.true c.requires.outcomes)

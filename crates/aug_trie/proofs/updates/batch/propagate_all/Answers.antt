@@ -1,11 +1,10 @@
-use Rattle.std.proofs.Common.{◌+◌, ◌∙◌, ℕ, length, refl, sym, ap, subst, arith}
-use Rattle.std.proofs.lemmas.Bool.{eqb-true}
+use Rattle.std.proofs.Common.{◌≡◌, ◌+◌, ◌-◌, ◌<◌, ◌∙◌, ℕ, length, get_or, refl, sym, ap, subst, arith}
+use Rattle.std.proofs.lemmas.Bool.{eqb-true, eqb-false}
 use Rattle.aug_core.specs.Faces.{face}
 use Rattle.aug_core.specs.Places.{Shape}
 use Rattle.aug_trie.specs.inside.Goes.{HasLeaves}
-use Rattle.aug_trie.proofs.Raising.{goes_up, raised_start, raised_nothing}
+use Rattle.aug_trie.proofs.Raising.{GoesUp, goes_up, raised_start, raised_nothing}
 use Rattle.aug_trie.proofs.Parting.{few_levels}
-use Rattle.aug_trie.proofs.Unchanged.{next_fits, all_levels, some_keys, last_low, before_last, next_low, goes_last}
 use Rattle.aug_trie.proofs.updates.batch.propagate_all.Goals as goal
 
 pub returns-then-is_empty-clause-raised : goal.returns-then-is_empty-clause-raised
@@ -18,66 +17,44 @@ pub propagate-pass-requires-clause-leaves : goal.propagate-pass-requires-clause-
 propagate-pass-requires-clause-leaves g c = subst (λ (z : Shape). HasLeaves z c.args.leaves) (sym c.loop-place.invariant.raised.goes.shaped) c.requires.leaves
 
 pub propagate-pass-requires-clause-rises : goal.propagate-pass-requires-clause-rises
-propagate-pass-requires-clause-rises g c = let within = before_last c.loop-place-test.true in
-    let up = goes_up c.requires.bits c.requires.keys c.requires.room c.requires.small within c.loop-place.invariant.number c.loop-place.invariant.raised in
-    up.rises
+propagate-pass-requires-clause-rises g c = let within : c.loop-place.place < length c.args.keys.now = (let test = c.loop-place-test.true in omega arith) in let up = goes_up c.requires.bits c.requires.keys c.requires.room c.requires.small within c.loop-place.invariant.number c.loop-place.invariant.raised in up.rises
 
 pub propagate-pass-requires-clause-levels : goal.propagate-pass-requires-clause-levels
-propagate-pass-requires-clause-levels g c = let within = before_last c.loop-place-test.true in
-    let up = goes_up c.requires.bits c.requires.keys c.requires.room c.requires.small within c.loop-place.invariant.number c.loop-place.invariant.raised in
-    (up.low c.levels_apart-levels.result (few_levels c.args.bits _ _ _ c.levels_apart-levels.ensures)).0
+propagate-pass-requires-clause-levels g c = let within : c.loop-place.place < length c.args.keys.now = (let test = c.loop-place-test.true in omega arith) in let up = goes_up c.requires.bits c.requires.keys c.requires.room c.requires.small within c.loop-place.invariant.number c.loop-place.invariant.raised in (up.low c.levels_apart-levels.result (few_levels c.args.bits _ _ _ c.levels_apart-levels.ensures)).0
 
 pub propagate-pass-requires-clause-small : goal.propagate-pass-requires-clause-small
-propagate-pass-requires-clause-small g c = let within = before_last c.loop-place-test.true in
-    let up = goes_up c.requires.bits c.requires.keys c.requires.room c.requires.small within c.loop-place.invariant.number c.loop-place.invariant.raised in
-    (up.low c.levels_apart-levels.result (few_levels c.args.bits _ _ _ c.levels_apart-levels.ensures)).1
+propagate-pass-requires-clause-small g c = let within : c.loop-place.place < length c.args.keys.now = (let test = c.loop-place-test.true in omega arith) in let up = goes_up c.requires.bits c.requires.keys c.requires.room c.requires.small within c.loop-place.invariant.number c.loop-place.invariant.raised in (up.low c.levels_apart-levels.result (few_levels c.args.bits _ _ _ c.levels_apart-levels.ensures)).1
 
 pub overflow_add-number : goal.overflow_add-number
-overflow_add-number g c = let within = before_last c.loop-place-test.true in
-    record { fits = next_fits (goes_up c.requires.bits c.requires.keys c.requires.room c.requires.small within c.loop-place.invariant.number c.loop-place.invariant.raised) c.from-number.ensures }
+overflow_add-number g c = let within : c.loop-place.place < length c.args.keys.now = (let test = c.loop-place-test.true in omega arith) in let up = goes_up c.requires.bits c.requires.keys c.requires.room c.requires.small within c.loop-place.invariant.number c.loop-place.invariant.raised in let is = c.from-number.ensures in let low = (up.low c.args.bits (omega arith)).1 in omega (arith, is, low)
 
 pub loop-place-preserved : goal.loop-place-preserved
-loop-place-preserved g c = let within = before_last c.loop-place-test.true in let up = goes_up c.requires.bits c.requires.keys c.requires.room
-    c.requires.small within c.loop-place.invariant.number c.loop-place.invariant.raised in let step = c.propagate-pass.ensures in
-    let next = up.more c.levels_apart-levels.result (c.loop-place.number + c.from-number.result) c.propagate-pass.result.view c.levels_apart-levels.ensures
-    (ap (λ (z : ℕ). c.loop-place.number + z) c.from-number.ensures) (next_low c.loop-place-test.true) step.risen step.raises in
+loop-place-preserved g c = let within : c.loop-place.place < length c.args.keys.now = (let test = c.loop-place-test.true in omega arith) in let up = goes_up c.requires.bits c.requires.keys c.requires.room c.requires.small within c.loop-place.invariant.number c.loop-place.invariant.raised in let step = c.propagate-pass.ensures in
+    let next = up.more c.levels_apart-levels.result (c.loop-place.number + c.from-number.result) c.propagate-pass.result.view c.levels_apart-levels.ensures (ap (λ (z : ℕ). c.loop-place.number + z) c.from-number.ensures) (let test = c.loop-place-test.true in omega arith) step.risen step.raises in
     record { table = step.table ∙ c.loop-place.invariant.table; number = next.0; raised = next.1 }
 
 pub propagate-requires-clause-leaves : goal.propagate-requires-clause-leaves
 propagate-requires-clause-leaves g c = subst (λ (z : Shape). HasLeaves z c.args.leaves) (sym c.loop-place.invariant.raised.goes.shaped) c.requires.leaves
 
 pub propagate-requires-clause-rises : goal.propagate-requires-clause-rises
-propagate-requires-clause-rises g c = let up = goes_last c.requires.bits c.requires.keys c.requires.room c.requires.small
-    (some_keys c.is_empty.ensures c.if-is_empty.false) c.loop-place-test.false
-    c.loop-place.auto.place-end c.loop-place.invariant.number c.loop-place.invariant.raised in up.0.rises
+propagate-requires-clause-rises g c = let some = eqb-false (length c.args.keys.now) 0 (sym c.is_empty.ensures ∙ c.if-is_empty.false) in let test = c.loop-place-test.false in let end = c.loop-place.auto.place-end in
+    let here : c.loop-place.place ≡ length c.args.keys.now - 1 = omega (arith, some, test, end) in let within : c.loop-place.place < length c.args.keys.now = omega (arith, some, here) in
+    let up = subst (λ (z : ℕ). GoesUp (face g.A.Monoid.parts g.B.Monoid.parts) c.args.keys.now c.args.number c.args.pass.view c.args.bits c.loop-place.place c.loop-place.number (get_or c.args.keys.now z 0) c.loop-place.pass.view) here (goes_up c.requires.bits c.requires.keys c.requires.room c.requires.small within c.loop-place.invariant.number c.loop-place.invariant.raised) in up.rises
 
 pub propagate-requires-clause-levels : goal.propagate-requires-clause-levels
-propagate-requires-clause-levels g c = let up = goes_last c.requires.bits c.requires.keys c.requires.room c.requires.small
-    (some_keys c.is_empty.ensures c.if-is_empty.false) c.loop-place-test.false
-    c.loop-place.auto.place-end c.loop-place.invariant.number c.loop-place.invariant.raised in (all_levels up.0).0
+propagate-requires-clause-levels g c = let some = eqb-false (length c.args.keys.now) 0 (sym c.is_empty.ensures ∙ c.if-is_empty.false) in let test = c.loop-place-test.false in let end = c.loop-place.auto.place-end in
+    let here : c.loop-place.place ≡ length c.args.keys.now - 1 = omega (arith, some, test, end) in let within : c.loop-place.place < length c.args.keys.now = omega (arith, some, here) in
+    let up = subst (λ (z : ℕ). GoesUp (face g.A.Monoid.parts g.B.Monoid.parts) c.args.keys.now c.args.number c.args.pass.view c.args.bits c.loop-place.place c.loop-place.number (get_or c.args.keys.now z 0) c.loop-place.pass.view) here (goes_up c.requires.bits c.requires.keys c.requires.room c.requires.small within c.loop-place.invariant.number c.loop-place.invariant.raised) in (up.low c.args.bits (omega arith)).0
 
 pub propagate-requires-clause-small : goal.propagate-requires-clause-small
-propagate-requires-clause-small g c = let up = goes_last c.requires.bits c.requires.keys c.requires.room c.requires.small
-    (some_keys c.is_empty.ensures c.if-is_empty.false) c.loop-place-test.false
-    c.loop-place.auto.place-end c.loop-place.invariant.number c.loop-place.invariant.raised in (all_levels up.0).1
+propagate-requires-clause-small g c = let some = eqb-false (length c.args.keys.now) 0 (sym c.is_empty.ensures ∙ c.if-is_empty.false) in let test = c.loop-place-test.false in let end = c.loop-place.auto.place-end in
+    let here : c.loop-place.place ≡ length c.args.keys.now - 1 = omega (arith, some, test, end) in let within : c.loop-place.place < length c.args.keys.now = omega (arith, some, here) in
+    let up = subst (λ (z : ℕ). GoesUp (face g.A.Monoid.parts g.B.Monoid.parts) c.args.keys.now c.args.number c.args.pass.view c.args.bits c.loop-place.place c.loop-place.number (get_or c.args.keys.now z 0) c.loop-place.pass.view) here (goes_up c.requires.bits c.requires.keys c.requires.room c.requires.small within c.loop-place.invariant.number c.loop-place.invariant.raised) in (up.low c.args.bits (omega arith)).1
 
 pub returns-clause-table : goal.returns-clause-table
 returns-clause-table g c = c.propagate.ensures.table ∙ c.loop-place.invariant.table
 
 pub returns-clause-raised : goal.returns-clause-raised
-returns-clause-raised g c = let up = goes_last c.requires.bits c.requires.keys c.requires.room c.requires.small
-    (some_keys c.is_empty.ensures c.if-is_empty.false) c.loop-place-test.false
-    c.loop-place.auto.place-end c.loop-place.invariant.number c.loop-place.invariant.raised in
-    up.0.last c.propagate.result.view up.1 c.propagate.ensures.risen c.propagate.ensures.raises
-
-pub bounds-keys-last : goal.bounds-keys-last
-bounds-keys-last g c = last_low (some_keys c.is_empty.ensures c.if-is_empty.false)
-
-pub overflow_sub-last : goal.overflow_sub-last
-overflow_sub-last g c = some_keys c.is_empty.ensures c.if-is_empty.false
-
-pub bounds-keys-place : goal.bounds-keys-place
-bounds-keys-place g c = before_last c.loop-place-test.true
-
-pub bounds-keys-place-in-loop-place : goal.bounds-keys-place-in-loop-place
-bounds-keys-place-in-loop-place g c = next_low c.loop-place-test.true
+returns-clause-raised g c = let some = eqb-false (length c.args.keys.now) 0 (sym c.is_empty.ensures ∙ c.if-is_empty.false) in let test = c.loop-place-test.false in let end = c.loop-place.auto.place-end in
+    let here : c.loop-place.place ≡ length c.args.keys.now - 1 = omega (arith, some, test, end) in let within : c.loop-place.place < length c.args.keys.now = omega (arith, some, here) in
+    let up = subst (λ (z : ℕ). GoesUp (face g.A.Monoid.parts g.B.Monoid.parts) c.args.keys.now c.args.number c.args.pass.view c.args.bits c.loop-place.place c.loop-place.number (get_or c.args.keys.now z 0) c.loop-place.pass.view) here (goes_up c.requires.bits c.requires.keys c.requires.room c.requires.small within c.loop-place.invariant.number c.loop-place.invariant.raised) in up.last c.propagate.result.view (omega (arith, some, here)) c.propagate.ensures.risen c.propagate.ensures.raises

@@ -3,7 +3,6 @@ use Rattle.aug_monoid.proofs.BoundLaws.{laws_of}
 use Rattle.aug_core.specs.Faces.{face}
 use Rattle.aug_core.specs.declared.view.SeatView.{SeatView}
 use Rattle.aug_trie.proofs.Telling.{has_seen, seen_on, says_before, goes_three, part_of_node}
-use Rattle.aug_trie.proofs.Unchanged.{took_words}
 use Rattle.aug_trie.proofs.updates.parts.node_part.Goals as goal
 
 pub load_record_word-count-requires : goal.load_record_word-count-requires
@@ -29,9 +28,3 @@ returns-clause-part g c = let m = g.A.Monoid in let n = g.B.Monoid in let v : Se
     let told = part_of_node m.parts n.parts (laws_of g.met.A.Monoid) (laws_of g.met.B.Monoid) v c.args.node c.args.number _ _ _ (omega arith) c.requires.knows c.requires.inner l1.known
     (says_before v w1 _ c.args.number 3 _ l1.stepped l2.known) (says_before v w1 _ c.args.number 4 _ l1.stepped (says_before w1 w2 _ c.args.number 4 _ l2.stepped l3.known)) in
     record { of = λ i e p is. let t = told.of i e p is in record { count_is = c.part_of_words.ensures.count ∙ t.count_is; a_is = c.part_of_words.ensures.a ∙ t.a_is; b_is = c.part_of_words.ensures.b ∙ t.b_is } }
-
-pub returns-clause-took : goal.returns-clause-took
-returns-clause-took g c = took_words c.load_record_word-count.ensures.view c.load_record_word-a.ensures.view c.load_record_word-b.ensures.view
-
-pub returns-clause-table : goal.returns-clause-table
-returns-clause-table g c = c.load_record_word-b.ensures.table ∙ c.load_record_word-a.ensures.table ∙ c.load_record_word-count.ensures.table

@@ -1,10 +1,9 @@
-use Rattle.std.proofs.Common.{Bool, subst, ◌+◌, ◌∙◌}
+use Rattle.std.proofs.Common.{Bool, subst, ◌+◌}
 use Rattle.aug_core.specs.Faces.{face}
 use Rattle.aug_core.specs.declared.view.SeatView.{SeatView}
 use Rattle.aug_trie.specs.inside.Points.{TryOver}
 use Rattle.aug_trie.proofs.Ascending.{missed, covered_once, covered_twice}
 use Rattle.aug_trie.proofs.Going.{room_again}
-use Rattle.aug_trie.proofs.Unchanged.{leaves_on, inner_on}
 use Rattle.aug_trie.proofs.updates.propagate.refresh_twice.Goals as goal
 
 pub refresh-requires-2-clause-room : goal.refresh-requires-2-clause-room
@@ -19,18 +18,3 @@ returns-clause-covered g c = let f = face g.A.Monoid.parts g.B.Monoid.parts in l
 pub returns-then-refresh-clause-covered : goal.returns-then-refresh-clause-covered
 returns-then-refresh-clause-covered g c = let f = face g.A.Monoid.parts g.B.Monoid.parts in let v : SeatView = c.args.pass.now.view in let w : SeatView = c.refresh.new.pass.view in
     covered_once f v w c.args.node c.args.number (subst (λ (z : Bool). TryOver f v c.args.node c.args.number z w) c.if-refresh.true c.refresh.ensures.over)
-
-pub refresh-requires-2-clause-inner : goal.refresh-requires-2-clause-inner
-refresh-requires-2-clause-inner g c = inner_on c.refresh.ensures.over.goes.shaped c.requires.inner
-
-pub refresh-requires-2-clause-leaves : goal.refresh-requires-2-clause-leaves
-refresh-requires-2-clause-leaves g c = leaves_on c.refresh.ensures.over.goes.shaped c.requires.leaves
-
-pub returns-clause-table : goal.returns-clause-table
-returns-clause-table g c = c.refresh-2.ensures.table ∙ c.refresh.ensures.table
-
-pub returns-then-refresh-clause-table : goal.returns-then-refresh-clause-table
-returns-then-refresh-clause-table g c = c.refresh.ensures.table
-
-pub refresh-requires-2-clause-knows : goal.refresh-requires-2-clause-knows
-refresh-requires-2-clause-knows g c = c.refresh.ensures.over.goes.knows_table

@@ -37,9 +37,3 @@ returns-then-place-leaves-clause-step g c = let l = c.load_leaf.ensures.view in 
 
 pub returns-else-place-leaves-clause-step : goal.returns-else-place-leaves-clause-step
 returns-else-place-leaves-clause-step g c = let l = c.load_node.ensures.view in quiet_seeing c.args.pass.now.view c.load_node.new.self.view _ l.stepped l.sees.later
-
-pub returns-then-place-leaves-clause-table : goal.returns-then-place-leaves-clause-table
-returns-then-place-leaves-clause-table g c = c.load_leaf.ensures.table
-
-pub returns-else-place-leaves-clause-table : goal.returns-else-place-leaves-clause-table
-returns-else-place-leaves-clause-table g c = c.load_node.ensures.table

@@ -4,7 +4,6 @@ use Rattle.aug_core.specs.Faces.{face}
 use Rattle.aug_core.proofs.Refreshing.{has_entry}
 use Rattle.aug_trie.proofs.Levels.{child_places}
 use Rattle.aug_trie.proofs.Whole.{try_loaded}
-use Rattle.aug_trie.proofs.Unchanged.{leaves_on, inner_on, children_fit}
 use Rattle.aug_trie.proofs.updates.refreshing.refresh.Goals as goal
 
 pub any_part-l-requires-clause-named : goal.any_part-l-requires-clause-named
@@ -44,52 +43,3 @@ any_part-l-requires-clause-place g c = (child_places c.requires.leaves c.require
 
 pub any_part-r-requires-clause-place : goal.any_part-r-requires-clause-place
 any_part-r-requires-clause-place g c = (child_places c.requires.leaves c.requires.inner refl (c.any_part-l.ensures.goes.shaped ∙ c.look-right.ensures.goes.shaped ∙ c.look-left.ensures.goes.shaped ∙ c.look-from.ensures.goes.shaped)).1
-
-pub look-left-requires-clause-leaves : goal.look-left-requires-clause-leaves
-look-left-requires-clause-leaves g c = leaves_on c.look-from.ensures.goes.shaped c.requires.leaves
-
-pub look-right-requires-clause-leaves : goal.look-right-requires-clause-leaves
-look-right-requires-clause-leaves g c = leaves_on (c.look-left.ensures.goes.shaped ∙ c.look-from.ensures.goes.shaped) c.requires.leaves
-
-pub any_part-l-requires-clause-leaves : goal.any_part-l-requires-clause-leaves
-any_part-l-requires-clause-leaves g c = leaves_on (c.look-right.ensures.goes.shaped ∙ c.look-left.ensures.goes.shaped
-    ∙ c.look-from.ensures.goes.shaped) c.requires.leaves
-
-pub any_part-r-requires-clause-leaves : goal.any_part-r-requires-clause-leaves
-any_part-r-requires-clause-leaves g c = leaves_on (c.any_part-l.ensures.goes.shaped ∙ c.look-right.ensures.goes.shaped ∙ c.look-left.ensures.goes.shaped
-    ∙ c.look-from.ensures.goes.shaped) c.requires.leaves
-
-pub publish-requires-clause-inner : goal.publish-requires-clause-inner
-publish-requires-clause-inner g c = inner_on (c.any_part-r.ensures.goes.shaped ∙ c.any_part-l.ensures.goes.shaped ∙ c.look-right.ensures.goes.shaped
-    ∙ c.look-left.ensures.goes.shaped ∙ c.look-from.ensures.goes.shaped) c.requires.inner
-
-pub returns-clause-table : goal.returns-clause-table
-returns-clause-table g c = c.publish.ensures.table ∙ c.any_part-r.ensures.table ∙ c.any_part-l.ensures.table ∙ c.look-right.ensures.table
-    ∙ c.look-left.ensures.table ∙ c.look-from.ensures.table
-
-pub publish-requires-clause-knows : goal.publish-requires-clause-knows
-publish-requires-clause-knows g c = c.any_part-r.ensures.goes.knows_table
-
-pub any_part-r-requires-clause-knows : goal.any_part-r-requires-clause-knows
-any_part-r-requires-clause-knows g c = c.any_part-l.ensures.goes.knows_table
-
-pub any_part-l-requires-clause-knows : goal.any_part-l-requires-clause-knows
-any_part-l-requires-clause-knows g c = c.look-right.ensures.goes.knows_table
-
-pub look-right-requires-clause-knows : goal.look-right-requires-clause-knows
-look-right-requires-clause-knows g c = c.look-left.ensures.goes.knows_table
-
-pub look-left-requires-clause-knows : goal.look-left-requires-clause-knows
-look-left-requires-clause-knows g c = c.look-from.ensures.goes.knows_table
-
-pub look-from-requires-clause-place : goal.look-from-requires-clause-place
-look-from-requires-clause-place g c = c.requires.inner.inside
-
-pub overflow_mul-child : goal.overflow_mul-child
-overflow_mul-child g c = record { fits = (children_fit c.requires.leaves c.requires.inner).0 }
-
-pub overflow_add-child : goal.overflow_add-child
-overflow_add-child g c = record { fits = (children_fit c.requires.leaves c.requires.inner).1 }
-
-pub overflow_add-child-2 : goal.overflow_add-child-2
-overflow_add-child-2 g c = record { fits = (children_fit c.requires.leaves c.requires.inner).1 }

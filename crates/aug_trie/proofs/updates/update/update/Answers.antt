@@ -1,14 +1,13 @@
-use Rattle.std.proofs.Common.{arith, subst, sym, ◌+◌, ◌∙◌, []}
+use Rattle.std.proofs.Common.{arith, ap, subst, sym, ◌+◌, ◌∙◌, []}
 use Rattle.aug_core.specs.Faces.{face}
+use Rattle.aug_core.specs.Places.{Shape}
 use Rattle.aug_core.specs.declared.view.SeatView.{SeatView}
 use Rattle.aug_words.specs.Seats.{MayAdvance}
 use Rattle.aug_trie.specs.inside.Climbing.{UpdatedFrom}
+use Rattle.aug_trie.specs.inside.Goes.{HasLeaves}
 use Rattle.aug_trie.specs.inside.Stages.{MayRise, HasRisen}
-use Rattle.aug_trie.proofs.Going.{may_change}
 use Rattle.aug_trie.proofs.Updating.{bits_in, bits_out, goes_begun, advances, serial_few, may_rise, refused_at_once, leaf_tried}
-use Rattle.aug_trie.proofs.Unchanged.{leaves_on, low_begun, may_begun, bits_within, shape_begun, shape_tried, left_at_once_is, left_stored, left_stays}
 use Rattle.aug_trie.proofs.updates.update.update.Goals as goal
-use Rattle.aug_trie.proofs.updates.update.update.Goals.{then-done, else-done}
 
 pub propagate-requires-clause-rises : goal.propagate-requires-clause-rises
 propagate-requires-clause-rises g c = let f = face g.A.Monoid.parts g.B.Monoid.parts in let v : SeatView = c.args.pass.view in let w0 : SeatView = c.begin_at_leaf-word.new.self.view in
@@ -38,51 +37,15 @@ returns-clause-updated g c = let f = face g.A.Monoid.parts g.B.Monoid.parts in l
     t.updated c.propagate-2.result.view c.outcome_of-outcome.result (bits_out (λ z. HasRisen f z c.args.number c.args.key w1 c.args.bits c.propagate-2.result.view) c.requires.bits t.same_shape c.propagate-2.ensures.risen) c.outcome_of-outcome.ensures
 
 pub propagate-requires-2-clause-leaves : goal.propagate-requires-2-clause-leaves
-propagate-requires-2-clause-leaves g c = leaves_on (shape_tried (face g.A.Monoid.parts g.B.Monoid.parts) c.begin_at_leaf-word.ensures.view c.args.request
-    c.requires.key c.requires.knows c.requires.fits
-    (sym c.goes_on.ensures ∙ c.if-not-goes_on.false) c.word_after-next.ensures c.try_leaf-done.ensures.view) c.requires.leaves
+propagate-requires-2-clause-leaves g c = subst (λ (z : Shape). HasLeaves z c.args.leaves) (sym (leaf_tried (face g.A.Monoid.parts g.B.Monoid.parts) c.args.request c.requires.key c.requires.bits c.requires.knows c.requires.room c.begin_at_leaf-word.ensures.view
+    c.requires.fits (sym c.goes_on.ensures ∙ c.if-not-goes_on.false) c.word_after-next.ensures c.try_leaf-done.ensures.view).same_shape) c.requires.leaves
 
 pub word_after-next-requires-clause-lets : goal.word_after-next-requires-clause-lets
 word_after-next-requires-clause-lets g c = sym c.goes_on.ensures ∙ c.if-not-goes_on.false
 
 pub propagate-requires-clause-levels : goal.propagate-requires-clause-levels
-propagate-requires-clause-levels g c = bits_within c.requires.bits (shape_begun (face g.A.Monoid.parts g.B.Monoid.parts) c.begin_at_leaf-word.ensures.view)
+propagate-requires-clause-levels g c = let is = c.requires.bits in let same = ap (λ (z : Shape). z.bits) (goes_begun (face g.A.Monoid.parts g.B.Monoid.parts) c.args.pass.view c.begin_at_leaf-word.new.self.view c.args.key c.begin_at_leaf-word.result c.requires.knows c.begin_at_leaf-word.ensures.view).shaped in omega (arith, is, same)
 
 pub propagate-requires-2-clause-levels : goal.propagate-requires-2-clause-levels
-propagate-requires-2-clause-levels g c = bits_within c.requires.bits (shape_tried (face g.A.Monoid.parts g.B.Monoid.parts)
-    c.begin_at_leaf-word.ensures.view c.args.request c.requires.key c.requires.knows c.requires.fits
-    (sym c.goes_on.ensures ∙ c.if-not-goes_on.false) c.word_after-next.ensures c.try_leaf-done.ensures.view)
-
-pub try_leaf-done-requires-clause-leaf : goal.try_leaf-done-requires-clause-leaf
-try_leaf-done-requires-clause-leaf g c = low_begun (face g.A.Monoid.parts g.B.Monoid.parts) c.begin_at_leaf-word.ensures.view c.requires.key
-
-pub try_leaf-done-requires-clause-change : goal.try_leaf-done-requires-clause-change
-try_leaf-done-requires-clause-change g c = may_begun (face g.A.Monoid.parts g.B.Monoid.parts) c.begin_at_leaf-word.ensures.view
-    (may_change c.args.pass.view c.args.number c.args.bits c.requires.room c.requires.budget)
-
-pub propagate-requires-clause-leaves : goal.propagate-requires-clause-leaves
-propagate-requires-clause-leaves g c = leaves_on (shape_begun (face g.A.Monoid.parts g.B.Monoid.parts) c.begin_at_leaf-word.ensures.view) c.requires.leaves
-
-pub returns-then-not-goes_on-clause-left : goal.returns-then-not-goes_on-clause-left
-returns-then-not-goes_on-clause-left g c = left_at_once_is c.args.request c.args.key c.begin_at_leaf-word.result c.at_once-outcome.ensures
-
-pub returns-clause-left : goal.returns-clause-left
-returns-clause-left g c = let word = c.begin_at_leaf-word.result in elim c.if-done.branch [
-  | then-done w ↦ left_stored c.args.request c.args.key word c.outcome_of-outcome.ensures c.word_after-next.ensures w.if-done.true w.left-is
-  | else-done w ↦ left_stays c.args.request c.args.key word c.outcome_of-outcome.ensures w.if-done.false w.left-is
-]
-
-pub returns-clause-table : goal.returns-clause-table
-returns-clause-table g c = c.propagate-2.ensures.table ∙ c.try_leaf-done.ensures.table ∙ c.begin_at_leaf-word.ensures.table
-
-pub returns-then-not-goes_on-clause-table : goal.returns-then-not-goes_on-clause-table
-returns-then-not-goes_on-clause-table g c = c.propagate.ensures.table ∙ c.begin_at_leaf-word.ensures.table
-
-pub propagate-requires-clause-small : goal.propagate-requires-clause-small
-propagate-requires-clause-small g c = c.requires.small
-
-pub propagate-requires-2-clause-small : goal.propagate-requires-2-clause-small
-propagate-requires-2-clause-small g c = c.requires.small
-
-pub begin_at_leaf-word-requires : goal.begin_at_leaf-word-requires
-begin_at_leaf-word-requires g c = c.requires.key
+propagate-requires-2-clause-levels g c = let is = c.requires.bits in let same = ap (λ (z : Shape). z.bits) (leaf_tried (face g.A.Monoid.parts g.B.Monoid.parts) c.args.request c.requires.key c.requires.bits c.requires.knows c.requires.room c.begin_at_leaf-word.ensures.view
+    c.requires.fits (sym c.goes_on.ensures ∙ c.if-not-goes_on.false) c.word_after-next.ensures c.try_leaf-done.ensures.view).same_shape in omega (arith, is, same)

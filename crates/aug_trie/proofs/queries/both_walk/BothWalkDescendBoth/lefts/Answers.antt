@@ -1,4 +1,4 @@
-use Rattle.std.proofs.Common.{◌+◌, ◌*◌, ◌∙◌, sym, ap, subst, arith}
+use Rattle.std.proofs.Common.{◌+◌, ◌*◌, ◌∙◌, sym, subst, arith}
 use Rattle.aug_core.specs.Faces.{face}
 use Rattle.aug_trie.specs.inside.BothWalk.{top_of, WalkingBoth}
 use Rattle.aug_trie.specs.inside.NodesUnder.{IsNodeUnder}
@@ -27,14 +27,3 @@ pub returns-clause-name : goal.returns-clause-name
 returns-clause-name g c = let f = face g.A.Monoid.parts g.B.Monoid.parts in let i = c.self.inside in
     both_named_then f 2 _ _ i.earlier i.later i.bits c.args.level (2 * c.args.place) (c.left_under-earlier.result, c.left_under-later.result) (looks_on 1 1 2 _ _ _ (omega arith) c.left_under-earlier.ensures.looks c.left_under-later.ensures.looks) c.self.invariant
     c.left_under-earlier.ensures.node (node_under_back f 1 _ _ i.later c.args.level (2 * c.args.place) c.left_under-later.result c.left_under-earlier.ensures.looks c.left_under-later.ensures.node)
-
-pub returns-clause-notes : goal.returns-clause-notes
-returns-clause-notes g c = c.one_more-self-inside.ensures ∙ ap (λ (z : WalkingBoth). z.loaded.made + 1) c.self.view_is
-
-pub left_under-earlier-requires-clause-node : goal.left_under-earlier-requires-clause-node
-left_under-earlier-requires-clause-node g c = subst (λ (z : WalkingBoth). IsNodeUnder z.words.view.shape z.words.view.seen (top_of z.words.view z.earlier)
-    (c.args.level + 1) c.args.place c.args.nodes.now.0)
-    (sym c.self.view_is) c.requires.in_earlier.node
-
-pub left_under-earlier-requires-clause-knows : goal.left_under-earlier-requires-clause-knows
-left_under-earlier-requires-clause-knows g c = c.self.invariant.tops.in_earlier.knows_table

@@ -8,8 +8,6 @@ use Rattle.aug_trie.specs.inside.NamedCuts.{cut_named}
 use Rattle.aug_trie.specs.inside.SnapshotWalk.{set_seen, IsNamed, Walking}
 use Rattle.aug_trie.proofs.Looked.{looks_on}
 use Rattle.aug_trie.proofs.SnapshotWalks.{knows_on, walk_on, named_then, node_on, node_back, descends_past, counted_before}
-use Rattle.aug_trie.proofs.Unchanged.{children_small}
-use Rattle.aug_query.specs.Descend.{one_more_past}
 use Rattle.aug_trie.proofs.queries.snapshot_walk.SnapshotWalkDescend.child_past.Goals as goal
 use Rattle.aug_trie.proofs.queries.snapshot_walk.SnapshotWalkDescend.child_past.Goals.{Joined-right, then-right, else-right}
 
@@ -62,17 +60,3 @@ returns-clause-count g c =
       | then-right w ↦ ap (λ (r : ℕ × ℕ). r.1) w.result-is ∙ counted_before f 1 first c.args.self.now (g.W.RecordWords.known c.left_word-low.new.words).view c.args.level (2 * c.args.place) c.count_at-passed.result c.self.view_is c.left_word-low.ensures.looks c.count_at-passed.ensures.value ∙ sym (ap (λ b. if b then all else 0) w.if-right.true)
       | else-right w ↦ ap (λ (r : ℕ × ℕ). r.1) w.result-is ∙ sym (ap (λ b. if b then all else 0) w.if-right.false)
     ]
-
-pub left_word-low-requires-clause-node : goal.left_word-low-requires-clause-node
-left_word-low-requires-clause-node g c = subst (λ (z : Walking). IsNodeAt z.words.view.shape z.words.view.seen
-    (cut_named z.words.view.shape z.words.view.seen z.snapshot.number) (c.args.level + 1) c.args.place c.args.node.now)
-    (sym c.self.view_is) c.requires.node
-
-pub overflow_mul-place : goal.overflow_mul-place
-overflow_mul-place g c = record { fits = (children_small c.requires.node c.requires.knows_table.laid_out.bits.1).0 }
-
-pub returns-clause-notes : goal.returns-clause-notes
-returns-clause-notes g c = c.one_past.ensures ∙ ap (λ (z : Walking). one_more_past z.loaded) c.self.view_is
-
-pub left_word-low-requires-clause-knows : goal.left_word-low-requires-clause-knows
-left_word-low-requires-clause-knows g c = c.self.invariant.top.knows_table

@@ -1,11 +1,7 @@
-use Rattle.std.proofs.Common.{sym, subst, ap, ◌∙◌}
 use Rattle.aug_core.specs.Faces.{face}
 use Rattle.aug_trie.specs.inside.SnapshotWalk.{Walking}
 use Rattle.aug_trie.proofs.Looked.{looks_none}
 use Rattle.aug_trie.proofs.SnapshotWalks.{walk_on, descends_count, counted_before}
-use Rattle.aug_trie.specs.inside.NodeWords.{IsNodeAt}
-use Rattle.aug_trie.specs.inside.NamedCuts.{cut_named}
-use Rattle.aug_query.specs.Descend.{one_more_count}
 use Rattle.aug_trie.proofs.queries.snapshot_walk.SnapshotWalkDescend.count.Goals as goal
 
 pub invariant_of-self : goal.invariant_of-self
@@ -20,14 +16,3 @@ returns-clause-descends g c = let f = face g.A.Monoid.parts g.B.Monoid.parts in 
 pub returns-clause-value : goal.returns-clause-value
 returns-clause-value g c = let f = face g.A.Monoid.parts g.B.Monoid.parts in let i = c.self.inside in let first : Walking = record { words = g.W.RecordWords.known i.words; snapshot = i.snapshot; bits = i.bits; loaded = i.loaded } in
     counted_before f 0 first c.args.self.now (g.W.RecordWords.known i.words).view c.args.level c.args.place c.count_at.result c.self.view_is (looks_none 0 (g.W.RecordWords.known i.words).view) c.count_at.ensures.value
-
-pub count_at-requires-clause-node : goal.count_at-requires-clause-node
-count_at-requires-clause-node g c = subst (λ (z : Walking). IsNodeAt z.words.view.shape z.words.view.seen
-    (cut_named z.words.view.shape z.words.view.seen z.snapshot.number) c.args.level c.args.place c.args.node.now)
-    (sym c.self.view_is) c.requires.node
-
-pub returns-clause-notes : goal.returns-clause-notes
-returns-clause-notes g c = c.one_count.ensures ∙ ap (λ (z : Walking). one_more_count z.loaded) c.self.view_is
-
-pub count_at-requires-clause-knows : goal.count_at-requires-clause-knows
-count_at-requires-clause-knows g c = c.self.invariant.top.knows_table

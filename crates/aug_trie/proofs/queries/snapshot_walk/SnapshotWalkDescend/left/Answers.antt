@@ -1,10 +1,7 @@
-use Rattle.std.proofs.Common.{◌*◌, sym, subst, ◌+◌, ap, ◌∙◌}
+use Rattle.std.proofs.Common.{◌*◌}
 use Rattle.aug_core.specs.Faces.{face}
 use Rattle.aug_trie.specs.inside.SnapshotWalk.{Walking}
 use Rattle.aug_trie.proofs.SnapshotWalks.{walk_on, named_then, descends_node}
-use Rattle.aug_trie.specs.inside.NodeWords.{IsNodeAt}
-use Rattle.aug_trie.specs.inside.NamedCuts.{cut_named}
-use Rattle.aug_query.specs.Descend.{one_more_node}
 use Rattle.aug_trie.proofs.queries.snapshot_walk.SnapshotWalkDescend.left.Goals as goal
 
 pub invariant_of-self : goal.invariant_of-self
@@ -19,14 +16,3 @@ returns-clause-descends g c = let f = face g.A.Monoid.parts g.B.Monoid.parts in 
 pub returns-clause-name : goal.returns-clause-name
 returns-clause-name g c = let f = face g.A.Monoid.parts g.B.Monoid.parts in let i = c.self.inside in
     named_then f 1 c.args.level (2 * c.args.place) c.left_word.result (g.W.RecordWords.known i.words).view (g.W.RecordWords.known c.left_word.new.words).view i.snapshot i.bits c.left_word.ensures.looks c.self.invariant c.left_word.ensures.node
-
-pub left_word-requires-clause-node : goal.left_word-requires-clause-node
-left_word-requires-clause-node g c = subst (λ (z : Walking). IsNodeAt z.words.view.shape z.words.view.seen
-    (cut_named z.words.view.shape z.words.view.seen z.snapshot.number) (c.args.level + 1) c.args.place c.args.node.now)
-    (sym c.self.view_is) c.requires.node
-
-pub returns-clause-notes : goal.returns-clause-notes
-returns-clause-notes g c = c.one_node.ensures ∙ ap (λ (z : Walking). one_more_node z.loaded) c.self.view_is
-
-pub left_word-requires-clause-knows : goal.left_word-requires-clause-knows
-left_word-requires-clause-knows g c = c.self.invariant.top.knows_table

@@ -1,4 +1,4 @@
-use Rattle.std.proofs.Common.{◌+◌, ◌*◌, ◌∙◌, sym, subst, arith, ap}
+use Rattle.std.proofs.Common.{◌+◌, ◌*◌, ◌∙◌, sym, subst, arith}
 use Rattle.aug_core.specs.Faces.{face}
 use Rattle.aug_trie.specs.inside.NodeWords.{IsNodeAt}
 use Rattle.aug_trie.specs.inside.Goes.{Looks}
@@ -6,8 +6,6 @@ use Rattle.aug_trie.specs.inside.NamedCuts.{cut_named}
 use Rattle.aug_trie.specs.inside.SnapshotWalk.{Walking}
 use Rattle.aug_trie.proofs.Looked.{looks_on}
 use Rattle.aug_trie.proofs.SnapshotWalks.{knows_on, walk_on, named_then, node_on, node_back, descends_past, counted_before}
-use Rattle.aug_trie.proofs.Unchanged.{children_small}
-use Rattle.aug_query.specs.Descend.{one_more_past}
 use Rattle.aug_trie.proofs.queries.snapshot_walk.SnapshotWalkDescend.past_right.Goals as goal
 
 -- what the three loads leave
@@ -42,20 +40,3 @@ returns-clause-name g c = let f = face g.A.Monoid.parts g.B.Monoid.parts in let 
 pub returns-clause-count : goal.returns-clause-count
 returns-clause-count g c = let f = face g.A.Monoid.parts g.B.Monoid.parts in let i = c.self.inside in let first : Walking = record { words = g.W.RecordWords.known i.words; snapshot = i.snapshot; bits = i.bits; loaded = i.loaded } in
     counted_before f 1 first c.args.self.now (g.W.RecordWords.known c.right_word-right.new.words).view c.args.level (2 * c.args.place + 1) c.count_at-passed.result c.self.view_is c.right_word-right.ensures.looks c.count_at-passed.ensures.value
-
-pub right_word-right-requires-clause-node : goal.right_word-right-requires-clause-node
-right_word-right-requires-clause-node g c = subst (λ (z : Walking). IsNodeAt z.words.view.shape z.words.view.seen
-    (cut_named z.words.view.shape z.words.view.seen z.snapshot.number) (c.args.level + 1) c.args.place c.args.node.now)
-    (sym c.self.view_is) c.requires.node
-
-pub overflow_mul-place : goal.overflow_mul-place
-overflow_mul-place g c = record { fits = (children_small c.requires.node c.requires.knows_table.laid_out.bits.1).0 }
-
-pub overflow_add-place : goal.overflow_add-place
-overflow_add-place g c = record { fits = (children_small c.requires.node c.requires.knows_table.laid_out.bits.1).1 }
-
-pub returns-clause-notes : goal.returns-clause-notes
-returns-clause-notes g c = c.one_past.ensures ∙ ap (λ (z : Walking). one_more_past z.loaded) c.self.view_is
-
-pub right_word-right-requires-clause-knows : goal.right_word-right-requires-clause-knows
-right_word-right-requires-clause-knows g c = c.self.invariant.top.knows_table

@@ -1,4 +1,4 @@
-use Rattle.std.proofs.Common.{◌∙◌, ap, subst, ◌≡◌, sym}
+use Rattle.std.proofs.Common.{◌∙◌, ap, subst, ◌≡◌}
 use Rattle.aug_model.specs.Folds.{summary_of}
 use Rattle.aug_model.specs.Keys.{list_of}
 use Rattle.aug_model.proofs.Pairs.{range-again}
@@ -8,9 +8,6 @@ use Rattle.aug_model.specs.NodeKeys.{keys_below, first_key, end_key}
 use Rattle.aug_trie.specs.inside.SnapshotWalk.{Walking, set_seen}
 use Rattle.aug_core.specs.Faces.{face}
 use Rattle.aug_trie.proofs.SnapshotWalks.{walk_on, descends_summary}
-use Rattle.aug_trie.specs.inside.NodeWords.{IsNodeAt}
-use Rattle.aug_trie.specs.inside.NamedCuts.{cut_named}
-use Rattle.aug_query.specs.Descend.{one_more_summary}
 use Rattle.aug_trie.proofs.queries.snapshot_walk.SnapshotWalkDescend.summary.Goals as goal
 
 pub invariant_of-self : goal.invariant_of-self
@@ -26,14 +23,3 @@ pub returns-clause-value : goal.returns-clause-value
 returns-clause-value g c = let sum = summary_of g.A.Monoid.parts g.B.Monoid.parts in let i = c.self.inside in let set = set_seen (g.W.RecordWords.known i.words).view i.snapshot in
     subst (λ (z : Walking). c.summary_at.result ≡ sum_of sum (set_seen z.words.view z.snapshot).pairs (keys_below (list_of (set_seen z.words.view z.snapshot)) c.args.level c.args.place)) c.self.view_is
     (c.summary_at.ensures.tells.tells ∙ ap sum (range-again set.pairs (first_key c.args.level c.args.place) (end_key c.args.level c.args.place) (rises_from (list_of set) c.self.invariant.top.is_tree_set.is_key_set.rising)))
-
-pub summary_at-requires-clause-node : goal.summary_at-requires-clause-node
-summary_at-requires-clause-node g c = subst (λ (z : Walking). IsNodeAt z.words.view.shape z.words.view.seen
-    (cut_named z.words.view.shape z.words.view.seen z.snapshot.number) c.args.level c.args.place c.args.node.now)
-    (sym c.self.view_is) c.requires.node
-
-pub returns-clause-notes : goal.returns-clause-notes
-returns-clause-notes g c = c.one_summary.ensures ∙ ap (λ (z : Walking). one_more_summary z.loaded) c.self.view_is
-
-pub summary_at-requires-clause-knows : goal.summary_at-requires-clause-knows
-summary_at-requires-clause-knows g c = c.self.invariant.top.knows_table

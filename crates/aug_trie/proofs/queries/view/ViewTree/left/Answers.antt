@@ -1,4 +1,4 @@
-use Rattle.std.proofs.Common.{refl, arith, ◌∙◌}
+use Rattle.std.proofs.Common.{refl, arith}
 use Rattle.aug_trie.proofs.queries.view.ViewTree.left.Goals as goal
 
 pub returns-clause-walks : goal.returns-clause-walks
@@ -8,18 +8,3 @@ returns-clause-walks g c = let v = c.args.self.now in let r = c.left.ensures.rea
   keeps_nodes = λ n has. (has.0, r.stays.keeps.nodes n has.1);
   keeps_rest = record { same_reference = refl; same_snapshot = refl; stays = r.stays; few_steps = omega (arith, r.few_steps, one) };
 }
-
-pub invariant_of-self : goal.invariant_of-self
-invariant_of-self g c = let v = c.args.self.now in record { of_pass = c.left.ensures.reads.stays.keeps.snapshots v.snapshot v.of_pass }
-
-pub returns-clause-node : goal.returns-clause-node
-returns-clause-node g c = (c.left.ensures.snapshot ∙ c.requires.node.0, c.left.ensures.node)
-
-pub returns-clause-place : goal.returns-clause-place
-returns-clause-place g c = c.left.ensures.place
-
-pub returns-clause-level : goal.returns-clause-level
-returns-clause-level g c = c.left.ensures.level
-
-pub left-requires-clause-inner : goal.left-requires-clause-inner
-left-requires-clause-inner g c = c.requires.inner

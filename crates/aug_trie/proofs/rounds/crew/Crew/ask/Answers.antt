@@ -7,7 +7,6 @@ use Rattle.aug_trie.specs.Node.{steps_for}
 use Rattle.aug_trie.specs.inside.SnapshotWalk.{set_seen}
 use Rattle.aug_trie.proofs.CrewWalks.{walked_set, walked}
 use Rattle.aug_trie.proofs.RoundLemmas.{of_round, crew_told}
-use Rattle.aug_trie.proofs.PassClauses.{not_none}
 use Rattle.aug_trie.proofs.rounds.crew.Crew.ask.Goals as goal
 
 pub of_crew-walk-requires-clause-together : goal.of_crew-walk-requires-clause-together
@@ -30,6 +29,3 @@ returns-clause-reads g c = let i = c.self.inside in let e = c.of_crew-walk.ensur
     let all : ℕ = steps_for (g.Q.Query.most c.args.query (set_of_crew c.args.self.now)) in
     (walked g.A.Monoid.parts g.B.Monoid.parts i.lead c.in-Some.lead c.args.self.now i.back i.inserts i.removals c.self.invariant (sym c.take.ensures.value ∙ c.in-Some.is) c.self.view_is c.of_crew-walk.result e.words e.newest e.knows c.run-answer.new.tree c.into_lead.result most.nodes most.counts most.summaries most.passed all c.into_lead.ensures c.run-answer.ensures.descends
     (le_of_eq (ap (λ (z : SetFacts). steps_for (g.Q.Query.most c.args.query z)) (walked_set g.A.Monoid.parts g.B.Monoid.parts i.lead c.in-Some.lead c.args.self.now i.back i.inserts i.removals c.self.invariant (sym c.take.ensures.value ∙ c.in-Some.is) c.self.view_is c.of_crew-walk.result e.words e.newest e.knows)))).1
-
-pub unreachable-requires : goal.unreachable-requires
-unreachable-requires g c = let h = c.self.invariant in not_none c.self.inside.lead h.known h.there (sym c.take.ensures.value ∙ c.in_default.is)

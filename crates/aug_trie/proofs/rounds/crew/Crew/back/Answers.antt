@@ -17,7 +17,6 @@ use Rattle.aug_trie.proofs.Passing.{pass_told}
 use Rattle.aug_trie.proofs.Crews.{back_crew, takes_back_is}
 use Rattle.aug_trie.proofs.Freeing.{places_of, back_opens}
 use Rattle.aug_trie.proofs.RoundLemmas.{crew_told}
-use Rattle.aug_trie.proofs.PassClauses.{not_none}
 use Rattle.aug_trie.proofs.rounds.crew.Crew.back.Goals as goal
 
 pub invariant_of-self : goal.invariant_of-self
@@ -45,9 +44,3 @@ returns g c = let f = face g.A.Monoid.parts g.B.Monoid.parts in let i = c.self.i
     let back = takes_back_is f v p w place h.found i.back i.inserts i.removals j.account.inserts j.account.removals holds free.lane free.only shape is.knows_table is.knowledge counts h.loaded k.table pk.table i.free j.account.left in
     let joined : TakesBack (crew_facts k i.free) (crew_facts new i.free) (pass_facts pk j.account.left) = subst (λ (z : TableId). TakesBack (crew_facts k i.free) (crew_facts (record { table = z; view = w }) i.free) (pass_facts pk j.account.left)) (sym c.join.ensures.table) back in
     subst (λ (z : CrewFacts). TakesBack z (crew_facts new i.free) c.args.pass) crew.1 (subst (λ (z : PassFacts). TakesBack (crew_facts k i.free) (crew_facts new i.free) z) facts joined)
-
-pub unreachable-requires : goal.unreachable-requires
-unreachable-requires g c = let h = c.pass.invariant.0 in not_none c.pass.inside.words h.known h.there c.in_default.is
-
-pub unreachable-requires-in_default-lead : goal.unreachable-requires-in_default-lead
-unreachable-requires-in_default-lead g c = let h = c.self.invariant in not_none c.self.inside.lead h.known h.there c.in_default-lead.is

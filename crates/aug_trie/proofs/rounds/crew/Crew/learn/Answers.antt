@@ -1,11 +1,8 @@
-use Rattle.std.proofs.Common.{refl, ap, sym, ◌∙◌}
+use Rattle.std.proofs.Common.{refl, ap}
 use Rattle.aug_core.specs.Faces.{face}
 use Rattle.aug_trie.proofs.Freeing.{places_of, same_opens}
 use Rattle.aug_trie.proofs.Noting.{crew_learnt, crew_learns}
-use Rattle.aug_trie.proofs.RoundLemmas.{crew_told, of_round}
-use Rattle.aug_trie.proofs.PassClauses.{not_none}
-use Rattle.aug_trie.specs.Crew.{CrewFacts}
-use Rattle.aug_trie.specs.Note.{NoteFacts}
+use Rattle.aug_trie.proofs.RoundLemmas.{crew_told}
 use Rattle.aug_trie.proofs.rounds.crew.Crew.learn.Goals as goal
 
 pub invariant_of-self : goal.invariant_of-self
@@ -15,14 +12,3 @@ invariant_of-self g c = let i = c.self.inside in let crew = crew_told c.self.inv
 pub returns : goal.returns
 returns g c = let i = c.self.inside in let crew = crew_told c.self.invariant c.in-Some.is c.self.view_is in let told = c.learn.ensures.learns in
     crew_learns (face g.A.Monoid.parts g.B.Monoid.parts) c.in-Some.lead c.note.inside.words c.learn.new.self c.args.self.now c.args.note told.0 i.back i.inserts i.removals crew.0 crew.1 c.note.view_is c.note.invariant told.1 c.learn.ensures.table
-
-pub unreachable-requires : goal.unreachable-requires
-unreachable-requires g c = let h = c.self.invariant in not_none c.self.inside.lead h.known h.there c.in_default.is
-
-pub learn-requires-clause-table : goal.learn-requires-clause-table
-learn-requires-clause-table g c = let told = crew_told c.self.invariant c.in-Some.is c.self.view_is in
-    ap (λ (z : NoteFacts). z.round.table) c.note.view_is ∙ c.requires.table ∙ ap (λ (z : CrewFacts). z.round.table) (sym told.1)
-
-pub learn-requires-clause-together : goal.learn-requires-clause-together
-learn-requires-clause-together g c = let told = crew_told c.self.invariant c.in-Some.is c.self.view_is in
-    of_round c.round.inside.words c.in-Some.lead c.args.self.now c.args.round.now told.1 c.requires.together c.round.view_is

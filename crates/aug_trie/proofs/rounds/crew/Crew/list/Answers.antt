@@ -4,7 +4,6 @@ use Rattle.aug_model.specs.Keys.{SetFacts}
 use Rattle.aug_trie.specs.inside.SnapshotWalk.{set_seen}
 use Rattle.aug_trie.proofs.CrewWalks.{walked_set, walked_tree_set, walked_few, walked}
 use Rattle.aug_trie.proofs.RoundLemmas.{of_round, crew_told}
-use Rattle.aug_trie.proofs.PassClauses.{not_none}
 use Rattle.aug_trie.proofs.rounds.crew.Crew.list.Goals as goal
 
 pub of_crew-walk-requires-clause-together : goal.of_crew-walk-requires-clause-together
@@ -32,9 +31,3 @@ returns-clause-set g c = let i = c.self.inside in let e = c.of_crew-walk.ensures
 
 pub returns-clause-is_set : goal.returns-clause-is_set
 returns-clause-is_set g c = let i = c.self.inside in let e = c.of_crew-walk.ensures in walked_tree_set g.A.Monoid.parts g.B.Monoid.parts i.lead c.in-Some.lead c.args.self.now i.back i.inserts i.removals c.self.invariant (sym c.take.ensures.value ∙ c.in-Some.is) c.self.view_is c.of_crew-walk.result e.words e.newest e.knows
-
-pub unreachable-requires : goal.unreachable-requires
-unreachable-requires g c = let h = c.self.invariant in not_none c.self.inside.lead h.known h.there (sym c.take.ensures.value ∙ c.in_default.is)
-
-pub returns-clause-room : goal.returns-clause-room
-returns-clause-room g c = c.put_pairs.ensures.room

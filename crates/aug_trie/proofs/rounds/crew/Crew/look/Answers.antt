@@ -7,7 +7,6 @@ use Rattle.aug_trie.specs.inside.CrewState.{crew_facts}
 use Rattle.aug_trie.proofs.Freeing.{places_of, same_opens}
 use Rattle.aug_trie.proofs.RollingOver.{last_crew, last_looks}
 use Rattle.aug_trie.proofs.RoundLemmas.{of_round, crew_told}
-use Rattle.aug_trie.proofs.PassClauses.{not_none}
 use Rattle.aug_trie.proofs.rounds.crew.Crew.look.Goals as goal
 
 pub survey-requires : goal.survey-requires
@@ -21,6 +20,3 @@ pub returns : goal.returns
 returns g c = let i = c.self.inside in let told = crew_told c.self.invariant c.in-Some.is c.self.view_is in let last : SeatView = c.survey.new.self.view in
     subst (λ (z : TableId). CrewLooks c.args.self.now (crew_facts (record { table = z; view = last }) i.free)) (sym c.survey.ensures.table)
     (last_looks (face g.A.Monoid.parts g.B.Monoid.parts) c.in-Some.lead c.args.self.now i.back i.inserts i.removals c.survey.result last told.1 told.0 c.survey.ensures.surveys.loaded)
-
-pub unreachable-requires : goal.unreachable-requires
-unreachable-requires g c = let h = c.self.invariant in not_none c.self.inside.lead h.known h.there c.in_default.is

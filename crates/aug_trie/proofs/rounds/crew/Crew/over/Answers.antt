@@ -8,7 +8,6 @@ use Rattle.aug_trie.specs.inside.CrewState.{crew_facts}
 use Rattle.aug_trie.proofs.Freeing.{places_of, same_opens}
 use Rattle.aug_trie.proofs.RoundLemmas.{of_round, crew_told}
 use Rattle.aug_trie.proofs.RollingOver.{last_crew, closes_account}
-use Rattle.aug_trie.proofs.PassClauses.{not_none}
 use Rattle.aug_trie.proofs.rounds.crew.Crew.over.Goals as goal
 
 pub survey-requires : goal.survey-requires
@@ -22,6 +21,3 @@ pub returns : goal.returns
 returns g c = let i = c.self.inside in let lead : Known = c.in-Some.lead in let told = crew_told c.self.invariant c.in-Some.is c.self.view_is in let s = c.survey.ensures.surveys in let last : SeatView = c.survey.new.self.view in
     let closed = closes_account (face g.A.Monoid.parts g.B.Monoid.parts) lead c.args.self.now i.back i.inserts i.removals c.survey.result last told.1 told.0 s.loaded s.words s.ends c.requires.all_back in
     subst (λ (z : TableId). IsOver c.args.self.now (crew_facts (record { table = z; view = last }) i.free) i.inserts i.removals) (sym c.survey.ensures.table) closed
-
-pub unreachable-requires : goal.unreachable-requires
-unreachable-requires g c = let h = c.self.invariant in not_none c.self.inside.lead h.known h.there c.in_default.is

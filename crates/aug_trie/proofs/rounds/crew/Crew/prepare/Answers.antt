@@ -8,7 +8,6 @@ use Rattle.aug_trie.specs.inside.CrewState.{crew_facts}
 use Rattle.aug_trie.proofs.Freeing.{places_of, same_opens}
 use Rattle.aug_trie.proofs.RollingOver.{last_crew, last_looks, prepared_facts, prepared_holds, prepares}
 use Rattle.aug_trie.proofs.RoundLemmas.{of_round, crew_told}
-use Rattle.aug_trie.proofs.PassClauses.{not_none}
 use Rattle.aug_trie.proofs.rounds.crew.Crew.prepare.Goals as goal
 
 pub prepare-requires : goal.prepare-requires
@@ -31,6 +30,3 @@ returns g c = let f = face g.A.Monoid.parts g.B.Monoid.parts in let i = c.self.i
     subst (λ (z : TableId). CrewPrepares c.args.self.now (crew_facts (record { table = z; view = last }) i.free)) (sym c.prepare.ensures.table)
     (prepares c.args.self.now (crew_facts between i.free) (crew_facts (record { table = c.in-Some.lead.table; view = last }) i.free) (last_looks f c.in-Some.lead c.args.self.now i.back i.inserts i.removals p.found p.between told.1 told.0 p.loaded)
     (prepared_facts f between (crew_facts between i.free) i.back i.inserts i.removals refl (last_crew f c.in-Some.lead c.args.self.now i.back i.inserts i.removals p.found p.between told.1 told.0 p.loaded) last p.lead_is) p.steps)
-
-pub unreachable-requires : goal.unreachable-requires
-unreachable-requires g c = let h = c.self.invariant in not_none c.self.inside.lead h.known h.there c.in_default.is

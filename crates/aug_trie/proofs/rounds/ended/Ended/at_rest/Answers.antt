@@ -1,4 +1,4 @@
-use Rattle.std.proofs.Common.{◌∙◌, ℕ, ap, sym, subst, refl}
+use Rattle.std.proofs.Common.{◌∙◌, ℕ, ap, sym, subst}
 use Rattle.aug_core.specs.Faces.{face}
 use Rattle.aug_core.specs.declared.view.SeatView.{SeatView}
 use Rattle.aug_words.specs.Rests.{AtRest}
@@ -18,21 +18,3 @@ returns-clause-members g c = let m = g.A.Monoid.parts in let n = g.B.Monoid.part
     let shaped = c.close-rest.ensures.shape ∙ sym c.requires.together.one_shape in
     ap (λ (z : ℕ). pairs_at_rest rest z 0 c.root-root.result) c.requires.bits
     ∙ members_are m n v root.knows c.root-root.result root.value rest shaped (shows_seen (face m n) v rest shaped c.close-rest.ensures.words)
-
-pub returns-clause-rule : goal.returns-clause-rule
-returns-clause-rule g c = c.close-rest.ensures.rule
-
-pub returns-clause-no_calls : goal.returns-clause-no_calls
-returns-clause-no_calls g c = c.new.ensures
-
-pub returns-clause-no_inserts : goal.returns-clause-no_inserts
-returns-clause-no_inserts g c = refl
-
-pub returns-clause-no_removals : goal.returns-clause-no_removals
-returns-clause-no_removals g c = refl
-
-pub returns-clause-none_missing : goal.returns-clause-none_missing
-returns-clause-none_missing g c = refl
-
-pub returns-clause-bits : goal.returns-clause-bits
-returns-clause-bits g c = refl

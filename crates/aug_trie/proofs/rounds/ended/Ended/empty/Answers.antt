@@ -1,17 +1,16 @@
-use Rattle.std.proofs.Common.{◌≡◌, ◌<◌, ◌≤◌, ◌∙◌, inl, inr, List, [], ap, sym, subst, arith, refl, ⊎_elim}
+use Rattle.std.proofs.Common.{◌≡◌, ◌<◌, ◌≤◌, ◌∙◌, inl, inr, List, [], ap, sym, subst, arith, rules, refl, ⊎_elim}
 use Rattle.std.proofs.lemmas.Bool.{cases_lt, false≢true}
 use Rattle.aug_core.specs.Cuts.{Cut, pairs_of_cut}
 use Rattle.aug_core.specs.Faces.{face}
 use Rattle.aug_core.specs.Layout.{IsLayout}
 use Rattle.aug_core.specs.Opening.{Opening}
-use Rattle.aug_core.specs.Places.{shape_of, Shape}
+use Rattle.aug_core.specs.Places.{shape_of}
 use Rattle.aug_core.specs.declared.view.SeatView.{SeatView}
 use Rattle.aug_trie.specs.Ended.{EndedFacts}
 use Rattle.aug_trie.specs.History.{last_cut}
 use Rattle.aug_trie.specs.inside.Knows.{knows}
 use Rattle.aug_trie.proofs.Crews.{begins_history}
 use Rattle.aug_trie.proofs.Endings.{smallest, none_shown, no_keys, none_fit}
-use Rattle.aug_trie.proofs.RoundClauses.{made_well, no_memory}
 use Rattle.aug_trie.proofs.rounds.ended.Ended.empty.Goals as goal
 
 pub returns-in_default-clause-bad_bits : goal.returns-in_default-clause-bad_bits
@@ -23,36 +22,9 @@ returns-in_default-clause-bad_bits g c = (
 
 pub returns-in-Ok-open-clause-empty : goal.returns-in-Ok-open-clause-empty
 returns-in-Ok-open-clause-empty g c = let f = face g.A.Monoid.parts g.B.Monoid.parts in let o : Opening = record { shape = c.in-Ok.layout; members = [] } in let made = c.at_rest.ensures in
-    let laid : IsLayout (shape_of c.args.bits 1 1 0) = c.in-Ok.ensures.ok.0 refl in
+    let laid : IsLayout (shape_of c.args.bits 1 1 0) = search rules in
     let first = begins_history f o (subst IsLayout (sym c.in-Ok.ensures.layout) laid) (no_keys o.shape.bits) none_fit (omega arith) in
     let no_members : c.at_rest.result.members ≡ [] = made.members ∙ ap (λ (z : SeatView). pairs_of_cut (last_cut (knows z).history)) c.in-Ok-open.ensures.lead ∙ ap (λ (z : List Cut). pairs_of_cut (last_cut z)) first
     ∙ none_shown o.shape.bits in
     let ended : EndedFacts = c.at_rest.result in
     λ j. record ended { bits = made.bits j; members = no_members j; inserts = made.no_inserts j; removals = made.no_removals j; missing = made.none_missing j; calls = made.no_calls j }
-
-pub returns-in-Ok-open-clause-bad_bits : goal.returns-in-Ok-open-clause-bad_bits
-returns-in-Ok-open-clause-bad_bits g c = made_well c.at_rest.result c.args.bits (c.in-Ok.ensures.ok.0 refl).bits
-
-pub at_rest-requires-clause-bits : goal.at_rest-requires-clause-bits
-at_rest-requires-clause-bits g c = sym (ap (λ (z : SeatView). z.shape.bits) c.in-Ok-open.ensures.lead ∙ ap (λ (z : Shape). z.bits) c.in-Ok.ensures.layout)
-
-pub returns-in-Err-clause-bad_bits : goal.returns-in-Err-clause-bad_bits
-returns-in-Err-clause-bad_bits g c = no_memory c.args.bits (c.in-Ok.ensures.ok.0 refl).bits
-
-pub returns-in-Err-clause-others : goal.returns-in-Err-clause-others
-returns-in-Err-clause-others g c = inr refl
-
-pub returns-in_default-clause-others : goal.returns-in_default-clause-others
-returns-in_default-clause-others g c = inl refl
-
-pub returns-in-Ok-open-clause-others : goal.returns-in-Ok-open-clause-others
-returns-in-Ok-open-clause-others g c = tt
-
-pub returns-in-Err-clause-empty : goal.returns-in-Err-clause-empty
-returns-in-Err-clause-empty g c = tt
-
-pub returns-in_default-clause-empty : goal.returns-in_default-clause-empty
-returns-in_default-clause-empty g c = tt
-
-pub at_rest-requires-clause-together : goal.at_rest-requires-clause-together
-at_rest-requires-clause-together g c = c.in-Ok-open.ensures.together

@@ -4,7 +4,6 @@ use Rattle.aug_core.specs.Faces.{face}
 use Rattle.aug_words.specs.Seats.{Known}
 use Rattle.aug_trie.specs.inside.PassState.{IsPass, known_in}
 use Rattle.aug_trie.proofs.PassCalls.{root_inside, snapshot_taken}
-use Rattle.aug_trie.proofs.PassClauses.{leaves_some}
 use Rattle.aug_trie.proofs.rounds.half.PassHalf.snapshot.Goals as goal
 
 pub load_node-number-requires-clause-inner : goal.load_node-number-requires-clause-inner
@@ -31,12 +30,3 @@ returns-clause-goes_on g c = let i = c.self.inside in (snapshot_taken g.A.Monoid
 pub returns-clause-keeps : goal.returns-clause-keeps
 returns-clause-keeps g c = let i = c.self.inside in (snapshot_taken g.A.Monoid.parts g.B.Monoid.parts (Some i.words) i.account c.args.self.now i.words (record { known = i.words; there = refl; is_pass = c.self.invariant.0 }, c.self.invariant.1) c.self.view_is refl
     c.load_node-number.result c.load_node-number.new.self c.load_node-number.ensures.view c.load_node-number.ensures.table).keeps
-
-pub returns-clause-step : goal.returns-clause-step
-returns-clause-step g c = let i = c.self.inside in (snapshot_taken g.A.Monoid.parts g.B.Monoid.parts (Some i.words) i.account c.args.self.now i.words
-    (record { known = i.words; there = refl; is_pass = c.self.invariant.0 }, c.self.invariant.1) c.self.view_is refl
-    c.load_node-number.result c.load_node-number.new.self c.load_node-number.ensures.view c.load_node-number.ensures.table).step
-
-pub overflow_sub-root : goal.overflow_sub-root
-overflow_sub-root g c = let i = c.self.inside in leaves_some (face g.A.Monoid.parts g.B.Monoid.parts) (Some i.words) i.words i.account.leaves i.account.bits
-    i.account.next i.account.left c.args.self.now (record { known = i.words; there = refl; is_pass = c.self.invariant.0 }) refl c.self.view_is

@@ -9,7 +9,6 @@ use Rattle.aug_trie.specs.inside.Counted.{HasCounts}
 use Rattle.aug_trie.specs.inside.PassState.{pass_facts, HoldsPass}
 use Rattle.aug_trie.proofs.Comparing.{walks_both, same_both, still_pass_both, compared, none_read}
 use Rattle.aug_trie.proofs.Passing.{pass_told}
-use Rattle.aug_trie.proofs.PassClauses.{not_none}
 use Rattle.aug_trie.proofs.rounds.pass.Pass.changes.Goals as goal
 
 pub over-walk-requires : goal.over-walk-requires
@@ -42,6 +41,3 @@ returns-clause-none g c = λ same. let i = c.self.inside in let w = c.over-walk.
     none_read g.A.Monoid.parts g.B.Monoid.parts c.args.self.now (pass_facts c.into_words.result i.account.left) c.args.earlier c.args.later c.args.from
     (compared g.A.Monoid.parts g.B.Monoid.parts i.words (Some c.into_words.result) w c.next_changes-page.new.trees c.args.earlier c.args.later c.args.from i.account.left c.args.self.now there c.over-walk.ensures.earlier c.over-walk.ensures.later c.self.view_is
     c.next_changes-page.ensures.descends (ap (λ (z : Known). Some z) c.into_words.ensures)) same
-
-pub unreachable-requires : goal.unreachable-requires
-unreachable-requires g c = let h = c.self.invariant.0 in not_none c.self.inside.words h.known h.there (sym c.take.ensures.value ∙ c.in_default.is)

@@ -1,4 +1,4 @@
-use Rattle.std.proofs.Common.{ℕ, ◌+◌, ◌^◌, min, Option, sym, ap, ◌∙◌, subst, arith, Some, refl}
+use Rattle.std.proofs.Common.{ℕ, ◌+◌, ◌^◌, min, Option, sym, ap, ◌∙◌, subst, arith, Some}
 use Rattle.aug_model.specs.Folds.{summary_of}
 use Rattle.aug_model.specs.Keys.{SetFacts}
 use Rattle.aug_core.specs.Counts.{changes_of}
@@ -44,6 +44,3 @@ returns-clause-reads g c = let i = c.self.inside in let w = c.of_pass-walk.resul
     subst (λ (z : Known). Reads (summary_of g.A.Monoid.parts g.B.Monoid.parts) most c.args.self.now (pass_facts z i.account.left)) (sym c.into_words.ensures)
     (reads_of g.A.Monoid.parts g.B.Monoid.parts i.words w c.from-cursor.new.tree i.account.left (bits + 1) 1 0 0 most c.args.self.now there c.self.view_is c.from-cursor.ensures.descends
     (omega (arith, ap (λ (z : SetFacts). z.bits) same)))
-
-pub returns-clause-snapshot : goal.returns-clause-snapshot
-returns-clause-snapshot g c = refl

@@ -1,6 +1,5 @@
 use Rattle.std.proofs.Common.{sym, ◌∙◌}
 use Rattle.aug_trie.proofs.Noting.{note_here, note_learnt}
-use Rattle.aug_trie.proofs.PassClauses.{not_none}
 use Rattle.aug_trie.proofs.rounds.pass.Pass.learn.Goals as goal
 
 pub learn-number-requires : goal.learn-number-requires
@@ -33,6 +32,3 @@ returns-clause-step g c = let i = c.self.inside in (note_learnt g.A.Monoid.parts
 pub returns-clause-keeps : goal.returns-clause-keeps
 returns-clause-keeps g c = let i = c.self.inside in (note_learnt g.A.Monoid.parts g.B.Monoid.parts i.words i.account c.args.self.now c.in-Some.words c.self.invariant c.self.view_is (sym c.take.ensures.value ∙ c.in-Some.is)
     c.note.inside.words c.learn-number.new.self c.args.note c.learn-number.result c.note.view_is c.note.invariant c.learn-number.ensures.learns c.learn-number.ensures.table).taken.keeps
-
-pub unreachable-requires : goal.unreachable-requires
-unreachable-requires g c = let h = c.self.invariant.0 in not_none c.self.inside.words h.known h.there (sym c.take.ensures.value ∙ c.in_default.is)

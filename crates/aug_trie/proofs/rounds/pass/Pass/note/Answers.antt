@@ -1,6 +1,5 @@
 use Rattle.std.proofs.Common.{sym, ◌∙◌}
 use Rattle.aug_trie.proofs.Noting.{note_made}
-use Rattle.aug_trie.proofs.PassClauses.{not_none}
 use Rattle.aug_trie.proofs.rounds.pass.Pass.note.Goals as goal
 
 pub invariant_of-self : goal.invariant_of-self
@@ -18,6 +17,3 @@ returns-clause-same g c = let i = c.self.inside in (note_made g.A.Monoid.parts g
 pub returns-clause-note : goal.returns-clause-note
 returns-clause-note g c = let i = c.self.inside in (note_made g.A.Monoid.parts g.B.Monoid.parts i.words i.account c.args.self.now c.in-Some.words c.self.invariant c.self.view_is (sym c.take.ensures.value ∙ c.in-Some.is)
     c.note-made.result c.note-made.new.self c.note-made.ensures.same c.note-made.ensures.table c.note-made.ensures.note).note_is
-
-pub unreachable-requires : goal.unreachable-requires
-unreachable-requires g c = let h = c.self.invariant.0 in not_none c.self.inside.words h.known h.there (sym c.take.ensures.value ∙ c.in_default.is)

@@ -1,7 +1,5 @@
 use Rattle.std.proofs.Common.{sym, ◌∙◌}
 use Rattle.aug_trie.proofs.PassCalls.{root_inside, snapshot_taken}
-use Rattle.aug_trie.proofs.PassClauses.{not_none, leaves_some}
-use Rattle.aug_core.specs.Faces.{face}
 use Rattle.aug_trie.proofs.rounds.pass.Pass.snapshot.Goals as goal
 
 pub load_node-number-requires : goal.load_node-number-requires
@@ -30,11 +28,3 @@ returns-clause-step g c = let i = c.self.inside in (snapshot_taken g.A.Monoid.pa
 pub returns-clause-keeps : goal.returns-clause-keeps
 returns-clause-keeps g c = let i = c.self.inside in (snapshot_taken g.A.Monoid.parts g.B.Monoid.parts i.words i.account c.args.self.now c.in-Some.words c.self.invariant c.self.view_is (sym c.take.ensures.value ∙ c.in-Some.is)
     c.load_node-number.result c.load_node-number.new.self c.load_node-number.ensures.view c.load_node-number.ensures.table).keeps
-
-pub unreachable-requires : goal.unreachable-requires
-unreachable-requires g c = let h = c.self.invariant.0 in not_none c.self.inside.words h.known h.there (sym c.take.ensures.value ∙ c.in_default.is)
-
-pub overflow_sub-self-inside : goal.overflow_sub-self-inside
-overflow_sub-self-inside g c = let i = c.self.inside in let h = c.self.invariant.0 in
-    leaves_some (face g.A.Monoid.parts g.B.Monoid.parts) i.words h.known i.account.leaves i.account.bits i.account.next i.account.left c.args.self.now h
-    h.there c.self.view_is

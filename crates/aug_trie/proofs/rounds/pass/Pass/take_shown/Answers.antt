@@ -1,4 +1,4 @@
-use Rattle.std.proofs.Common.{◌≡◌, ℕ, ◌+◌, ◌^◌, ◌<◌, Option, Some, IfSome, slice_get, sym, refl, subst, ◌∙◌, arith}
+use Rattle.std.proofs.Common.{◌≡◌, ℕ, ◌+◌, ◌^◌, ◌<◌, Option, Some, IfSome, slice_get, sym, refl, subst, ◌∙◌}
 use Rattle.aug_model.specs.Folds.{summary_of}
 use Rattle.aug_model.specs.Keys.{list_of}
 use Rattle.aug_trie.specs.Pass.{PassFacts}
@@ -6,7 +6,6 @@ use Rattle.aug_trie.specs.Pops.{PopsTo}
 use Rattle.aug_trie.specs.Snapshot.{set_at}
 use Rattle.aug_trie.specs.declared.rounds.pop.Pop.TheVariants.{Empty}
 use Rattle.aug_trie.proofs.Popping.{one_of_all, weighs_some, reads_none}
-use Rattle.aug_trie.proofs.PassClauses.{budget_stays, shown_taken, shown_refused}
 use Rattle.aug_trie.proofs.rounds.pass.Pass.take_shown.Goals as goal
 
 pub returns-in_default : goal.returns-in_default
@@ -26,19 +25,3 @@ take-requires-clause-key g c = let now : PassFacts = c.args.self.now in let set 
     let stands = subst (λ (z : Option ℕ). IfSome z (λ k. (i : ℕ) × (slice_get (list_of set) i ≡ Some k))) c.in-Some.is c.requires.member in
     subst (λ (z : PassFacts). c.in-Some.k < 2 ^ z.round.bits) (sym c.ask.ensures.reads.stays.same)
     (one_of_all (λ k. k < 2 ^ now.round.bits) (list_of set) stands.0 c.in-Some.k (c.bits-bits.ensures.sets c.args.s c.requires.snapshot).is_key_set.below stands.1)
-
-pub returns-then-take : goal.returns-then-take
-returns-then-take g c = let now = c.args.self.now in let asked = c.ask.new.self in let e = c.if-take.ensures in
-    shown_taken (summary_of g.A.Monoid.parts g.B.Monoid.parts) (set_at now c.args.s) c.args.found c.in-Some.k c.in-Some-ask.weight now asked c.take.new.self
-    c.in-Some.is c.in-Some-ask.ensures.answer c.ask.ensures.reads (omega arith)
-    (record { comes_to = e.accepted; goes_on = e.goes_on; keeps = e.keeps; steps = e.steps })
-
-pub returns-else-take : goal.returns-else-take
-returns-else-take g c = let now = c.args.self.now in let asked = c.ask.new.self in let e = c.if-take.ensures in
-    shown_refused (summary_of g.A.Monoid.parts g.B.Monoid.parts) (set_at now c.args.s) c.args.found c.in-Some.k c.in-Some-ask.weight now asked c.take.new.self
-    c.in-Some.is c.in-Some-ask.ensures.answer c.ask.ensures.reads (omega arith)
-    (record { comes_to = e.refused; goes_on = e.goes_on; keeps = e.keeps; steps = e.steps })
-
-pub take-requires-clause-budget : goal.take-requires-clause-budget
-take-requires-clause-budget g c = budget_stays (summary_of g.A.Monoid.parts g.B.Monoid.parts) c.args.self.now c.ask.new.self c.ask.ensures.reads.stays
-    c.requires.budget

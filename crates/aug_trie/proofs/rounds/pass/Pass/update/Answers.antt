@@ -3,8 +3,6 @@ use Rattle.aug_trie.specs.Knowledge.{Knowledge}
 use Rattle.aug_trie.specs.Updates.{Tells}
 use Rattle.aug_trie.specs.inside.Knows.{knows}
 use Rattle.aug_trie.proofs.PassCalls.{has_count, has_records, update_made}
-use Rattle.aug_core.specs.Faces.{face}
-use Rattle.aug_trie.proofs.PassClauses.{is_pass, may_update, not_none}
 use Rattle.aug_trie.proofs.rounds.pass.Pass.update.Goals as goal
 
 pub after-self-inside-requires-clause-inserts : goal.after-self-inside-requires-clause-inserts
@@ -43,44 +41,3 @@ pub returns-clause-tells : goal.returns-clause-tells
 returns-clause-tells g c = let i = c.self.inside in let made = c.update-words.result.1 in let before : Knowledge = c.args.self.now.knows in let after : Knowledge = knows c.update-words.result.0.view in
     subst (λ (z : Option ℕ × Option ℕ). Tells c.args.request c.args.k (record { outcome = made.outcome; before = z.0; now = z.1 }) before after) (λ i. (sym c.weight_in-before.ensures i, sym c.weight_in-now.ensures i)) (update_made g.A.Monoid.parts g.B.Monoid.parts i.words i.account c.args.self.now c.in-Some.words c.self.invariant c.self.view_is (sym c.take.ensures.value ∙ c.in-Some.is)
     c.args.k c.args.request c.update-words.result.1 c.update-words.result.0 c.after-self-inside.result c.requires.key c.requires.budget c.update-words.ensures.updated c.update-words.ensures.left c.update-words.ensures.table c.after-self-inside.ensures).tells
-
-pub update-words-requires-clause-knows : goal.update-words-requires-clause-knows
-update-words-requires-clause-knows g c = let i = c.self.inside in
-    (is_pass (face g.A.Monoid.parts g.B.Monoid.parts) i.words c.in-Some.words i.account.leaves i.account.bits i.account.next i.account.left c.args.self.now
-    c.self.invariant.0 (sym c.take.ensures.value ∙ c.in-Some.is) c.self.view_is).knows_table
-
-pub update-words-requires-clause-room : goal.update-words-requires-clause-room
-update-words-requires-clause-room g c = let i = c.self.inside in
-    (may_update (face g.A.Monoid.parts g.B.Monoid.parts) i.words c.in-Some.words i.account.leaves i.account.bits i.account.next i.account.left c.args.self.now
-    c.self.invariant.0 (sym c.take.ensures.value ∙ c.in-Some.is) c.self.view_is c.args.k c.requires.key c.requires.budget).room
-
-pub after-self-inside-requires-clause-some : goal.after-self-inside-requires-clause-some
-after-self-inside-requires-clause-some g c = let i = c.self.inside in
-    (may_update (face g.A.Monoid.parts g.B.Monoid.parts) i.words c.in-Some.words i.account.leaves i.account.bits i.account.next i.account.left c.args.self.now
-    c.self.invariant.0 (sym c.take.ensures.value ∙ c.in-Some.is) c.self.view_is c.args.k c.requires.key c.requires.budget).some
-
-pub update-words-requires-clause-key : goal.update-words-requires-clause-key
-update-words-requires-clause-key g c = let i = c.self.inside in
-    (may_update (face g.A.Monoid.parts g.B.Monoid.parts) i.words c.in-Some.words i.account.leaves i.account.bits i.account.next i.account.left c.args.self.now
-    c.self.invariant.0 (sym c.take.ensures.value ∙ c.in-Some.is) c.self.view_is c.args.k c.requires.key c.requires.budget).low
-
-pub update-words-requires-clause-leaves : goal.update-words-requires-clause-leaves
-update-words-requires-clause-leaves g c = let i = c.self.inside in
-    (is_pass (face g.A.Monoid.parts g.B.Monoid.parts) i.words c.in-Some.words i.account.leaves i.account.bits i.account.next i.account.left c.args.self.now
-    c.self.invariant.0 (sym c.take.ensures.value ∙ c.in-Some.is) c.self.view_is).leaves_are
-
-pub update-words-requires-clause-bits : goal.update-words-requires-clause-bits
-update-words-requires-clause-bits g c = let i = c.self.inside in
-    (is_pass (face g.A.Monoid.parts g.B.Monoid.parts) i.words c.in-Some.words i.account.leaves i.account.bits i.account.next i.account.left c.args.self.now
-    c.self.invariant.0 (sym c.take.ensures.value ∙ c.in-Some.is) c.self.view_is).bits_are
-
-pub update-words-requires-clause-budget : goal.update-words-requires-clause-budget
-update-words-requires-clause-budget g c = let i = c.self.inside in
-    (may_update (face g.A.Monoid.parts g.B.Monoid.parts) i.words c.in-Some.words i.account.leaves i.account.bits i.account.next i.account.left c.args.self.now
-    c.self.invariant.0 (sym c.take.ensures.value ∙ c.in-Some.is) c.self.view_is c.args.k c.requires.key c.requires.budget).budget
-
-pub unreachable-requires : goal.unreachable-requires
-unreachable-requires g c = let h = c.self.invariant.0 in not_none c.self.inside.words h.known h.there (sym c.take.ensures.value ∙ c.in_default.is)
-
-pub update-words-requires-clause-fits : goal.update-words-requires-clause-fits
-update-words-requires-clause-fits g c = c.amount_in-amount.ensures

@@ -12,7 +12,6 @@ use Rattle.aug_trie.specs.inside.ReaderState.{HoldsReader}
 use Rattle.aug_trie.specs.inside.SnapshotWalk.{set_seen}
 use Rattle.aug_trie.proofs.Asking.{walks_by, same_set, looks_of, reads_of}
 use Rattle.aug_trie.proofs.Lending.{reader_told, reader_together, still_reader}
-use Rattle.aug_trie.proofs.PassClauses.{not_none}
 use Rattle.aug_trie.proofs.rounds.reader.Reader.ask.Goals as goal
 
 pub of_reader-walk-requires-clause-together : goal.of_reader-walk-requires-clause-together
@@ -44,6 +43,3 @@ returns-clause-reads g c = let i = c.self.inside in let w = c.of_reader-walk.res
     subst (λ (z : Known). Reads (summary_of g.A.Monoid.parts g.B.Monoid.parts) all c.args.self.now (pass_facts z 0)) (sym c.into_reader.ensures)
     (reads_of g.A.Monoid.parts g.B.Monoid.parts i.words w c.run-answer.new.tree 0 most.nodes most.counts most.summaries most.passed all c.args.self.now there c.self.view_is c.run-answer.ensures.descends
     (le_of_eq (ap (λ (z : SetFacts). steps_for (g.Q.Query.most c.args.query z)) same)))
-
-pub unreachable-requires : goal.unreachable-requires
-unreachable-requires g c = let h = c.self.invariant in not_none c.self.inside.words h.known h.there (sym c.take.ensures.value ∙ c.in_default.is)

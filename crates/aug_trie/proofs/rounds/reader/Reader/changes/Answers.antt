@@ -8,7 +8,6 @@ use Rattle.aug_trie.specs.inside.PassState.{pass_facts}
 use Rattle.aug_trie.specs.inside.ReaderState.{HoldsReader}
 use Rattle.aug_trie.proofs.Comparing.{walks_both, same_both, looks_of_both, compared, none_read}
 use Rattle.aug_trie.proofs.Lending.{reader_told, still_reader}
-use Rattle.aug_trie.proofs.PassClauses.{not_none}
 use Rattle.aug_trie.proofs.rounds.reader.Reader.changes.Goals as goal
 
 pub over-walk-requires : goal.over-walk-requires
@@ -40,6 +39,3 @@ returns-clause-none g c = λ same. let i = c.self.inside in let w = c.over-walk.
     none_read g.A.Monoid.parts g.B.Monoid.parts c.args.self.now (pass_facts c.reader.inside.reader 0) c.args.earlier c.args.later c.args.from
     (compared g.A.Monoid.parts g.B.Monoid.parts i.words (Some c.reader.inside.reader) w c.next_changes-page.new.trees c.args.earlier c.args.later c.args.from 0 c.args.self.now there c.over-walk.ensures.earlier c.over-walk.ensures.later c.self.view_is
     c.next_changes-page.ensures.descends (ap (λ (z : Known). Some z) (c.reader.view_is ∙ c.into_words.ensures))) same
-
-pub unreachable-requires : goal.unreachable-requires
-unreachable-requires g c = let h = c.self.invariant in not_none c.self.inside.words h.known h.there (sym c.take.ensures.value ∙ c.in_default.is)

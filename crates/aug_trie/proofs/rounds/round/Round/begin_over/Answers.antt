@@ -1,17 +1,15 @@
-use Rattle.std.proofs.Common.{subst, sym, refl, ap, ◌≡◌, ◌∙◌, ℕ, ◌≤◌, List, length, Ok, Err, All}
+use Rattle.std.proofs.Common.{rules, subst, sym, refl, ap, ◌≡◌, ◌∙◌, ℕ, ◌≤◌, List, length, Ok, Err}
 use Rattle.aug_model.specs.Keys.{SetFacts, IsKeySet, keys_of}
 use Rattle.aug_model.proofs.Rising.{is_wider}
 use Rattle.aug_core.specs.Places.{Shape, shape_of}
 use Rattle.aug_core.specs.Layout.{IsLayout}
 use Rattle.aug_trie.specs.Crew.{BeginsIn}
 use Rattle.aug_trie.proofs.Refusals.{are_fewer, not_fewer, says_narrower, says_cause, says_no_memory, says_begun}
-use Rattle.aug_monoid.specs.Weighted.{FitsPair}
-use Rattle.aug_trie.proofs.RoundClauses.{fits_in}
 use Rattle.aug_trie.proofs.rounds.round.Round.begin_over.Goals as goal
 
 pub over-requires-clause-keys : goal.over-requires-clause-keys
 over-requires-clause-keys g c = let list : List (ℕ × ℕ) = c.args.members.pairs in
-    let laid : IsLayout (shape_of c.args.bits c.args.workers c.args.updates c.size.result) = c.in-Ok.ensures.ok.0 refl in
+    let laid : IsLayout (shape_of c.args.bits c.args.workers c.args.updates c.size.result) = search rules in
     let wide : c.args.members.bits ≤ c.args.bits = not_fewer c.bits.ensures c.if-contains.ensures.cases laid.bits.0 in
     let set : IsKeySet c.args.members.bits (keys_of list) = subst (λ (z : SetFacts). IsKeySet z.bits (keys_of z.pairs)) c.members.view_is c.members.invariant.1 in
     let wider : IsKeySet c.args.bits (keys_of list) = is_wider c.args.members.bits c.args.bits (keys_of list) wide set in
@@ -44,19 +42,3 @@ returns-in-Ok-over g c = let m = c.args.members in let are = c.in-Ok.ensures in 
       bad_updates = says.bad_updates;
       too_large = says.too_large;
     }
-
-pub over-requires-clause-few : goal.over-requires-clause-few
-over-requires-clause-few g c = fits_in (ap (λ (z : List (ℕ × ℕ)). length z) c.as_slice.ensures) (ap (λ (z : Shape). z.members) c.in-Ok.ensures.layout)
-    c.size.ensures
-
-pub over-requires-clause-fit : goal.over-requires-clause-fit
-over-requires-clause-fit g c = subst (All FitsPair) (ap (λ (z : SetFacts). z.pairs) c.members.view_is ∙ sym c.as_slice.ensures) c.members.invariant.2
-
-pub same-members-in-Err-over : goal.same-members-in-Err-over
-same-members-in-Err-over g c = refl
-
-pub same-members-in-Err : goal.same-members-in-Err
-same-members-in-Err g c = refl
-
-pub same-members : goal.same-members
-same-members g c = refl

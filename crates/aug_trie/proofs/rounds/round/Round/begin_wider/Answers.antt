@@ -1,4 +1,4 @@
-use Rattle.std.proofs.Common.{arith, ap, subst, sym, refl, ◌∙◌, ◌≡◌, ℕ, ◌≤◌, List, length, All, Ok, Err}
+use Rattle.std.proofs.Common.{arith, rules, ap, subst, sym, refl, ◌∙◌, ◌≡◌, ℕ, ◌≤◌, List, length, All, Ok, Err}
 use Rattle.aug_monoid.specs.Weighted.{FitsPair}
 use Rattle.aug_model.specs.Keys.{IsKeySet, keys_of}
 use Rattle.aug_model.proofs.Rising.{is_wider}
@@ -8,12 +8,11 @@ use Rattle.aug_trie.specs.inside.EndedState.{pairs_at_rest}
 use Rattle.aug_trie.specs.Crew.{BeginsIn}
 use Rattle.aug_trie.specs.Ended.{EndedFacts}
 use Rattle.aug_trie.proofs.Refusals.{are_fewer, not_fewer, says_narrower, says_cause, says_no_memory, says_begun}
-use Rattle.aug_trie.proofs.RoundClauses.{fits_in}
 use Rattle.aug_trie.proofs.rounds.round.Round.begin_wider.Goals as goal
 
 pub over-requires-clause-keys : goal.over-requires-clause-keys
 over-requires-clause-keys g c = let e = c.ended.inside in let list : List (ℕ × ℕ) = pairs_at_rest e.rest e.bits 0 e.root in
-    let laid : IsLayout (shape_of c.args.bits c.args.workers c.args.updates c.size.result) = c.in-Ok.ensures.ok.0 refl in
+    let laid : IsLayout (shape_of c.args.bits c.args.workers c.args.updates c.size.result) = search rules in
     let wide : e.bits ≤ c.args.bits = not_fewer refl c.if-contains.ensures.cases laid.bits.0 in let set : IsKeySet c.args.bits (keys_of list) = is_wider e.bits c.args.bits (keys_of list) wide c.ended.invariant.is_key_set in
     let members : c.as_slice.result.now ≡ list = c.as_slice.ensures.value ∙ c.in-Ok-pairs.ensures.answer ∙ sym (ap (λ (z : EndedFacts). z.members) c.ended.view_is) in
     subst (λ (z : Shape × List (ℕ × ℕ)). IsKeySet z.0.bits (keys_of z.1)) (λ j. (sym c.in-Ok.ensures.layout j, sym members j)) set
@@ -104,11 +103,6 @@ returns-in-Ok-over g c = let e = c.args.ended in let are = c.in-Ok.ensures in
     }
 
 pub over-requires-clause-few : goal.over-requires-clause-few
-over-requires-clause-few g c = fits_in (ap (λ (z : List (ℕ × ℕ)). length z) (c.as_slice.ensures.value ∙ c.in-Ok-pairs.ensures.answer))
-    (ap (λ (z : Shape). z.members) c.in-Ok.ensures.layout) c.size.ensures
-
-pub same-ended : goal.same-ended
-same-ended g c = refl
-
-pub same-ended-2 : goal.same-ended-2
-same-ended-2 g c = refl
+over-requires-clause-few g c =
+    let room : c.in-Ok.layout.members ≡ c.size.result = ap (λ (z : Shape). z.members) c.in-Ok.ensures.layout in let all = c.size.ensures in
+    let same = ap (λ (z : List (ℕ × ℕ)). length z) (c.as_slice.ensures.value ∙ c.in-Ok-pairs.ensures.answer) in omega (arith, room, all, same)

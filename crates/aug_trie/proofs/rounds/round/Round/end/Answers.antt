@@ -8,7 +8,6 @@ use Rattle.aug_trie.specs.Ended.{EndedFacts}
 use Rattle.aug_trie.specs.inside.EndedState.{pairs_at_rest}
 use Rattle.aug_trie.proofs.Endings.{no_more_back, round_ended}
 use Rattle.aug_trie.proofs.RoundLemmas.{of_round, crew_told}
-use Rattle.aug_trie.proofs.PassClauses.{not_none}
 use Rattle.aug_trie.proofs.rounds.round.Round.end.Goals as goal
 
 pub overflow_sub-ended : goal.overflow_sub-ended
@@ -29,15 +28,3 @@ returns-clause-sizes g c = let i = c.crew.inside in let lead = c.in-Some.lead in
 pub returns-clause-few : goal.returns-clause-few
 returns-clause-few g c = let r = c.ended.inside in let list : List (ℕ × ℕ) = pairs_at_rest r.rest r.bits 0 r.root in
     subst (λ (n : ℕ). n ≤ 2 ^ r.bits) (length-keys_of list) (IsKeySet-few r.bits (keys_of list) c.ended.invariant.is_key_set)
-
-pub at_rest-ended-requires-clause-bits : goal.at_rest-ended-requires-clause-bits
-at_rest-ended-requires-clause-bits g c = let lead = c.in-Some.lead in let told = crew_told c.crew.invariant c.in-Some.is c.crew.view_is in
-    c.bits.ensures ∙ ap (λ (z : Shape). z.bits) (c.self.invariant
-    ∙ sym (of_round c.self.inside.words lead c.args.crew c.args.self told.1 c.requires.together c.self.view_is).one_shape)
-
-pub unreachable-requires : goal.unreachable-requires
-unreachable-requires g c = let h = c.crew.invariant in not_none c.crew.inside.lead h.known h.there c.in_default.is
-
-pub at_rest-ended-requires-clause-together : goal.at_rest-ended-requires-clause-together
-at_rest-ended-requires-clause-together g c = let told = crew_told c.crew.invariant c.in-Some.is c.crew.view_is in
-    of_round c.self.inside.words c.in-Some.lead c.args.crew c.args.self told.1 c.requires.together c.self.view_is

@@ -1,4 +1,4 @@
-use Rattle.std.proofs.Common.{false, ◌≡◌, ℕ, ◌+◌, ◌∙◌, List, ◌∷◌, [], All, refl, sym, ap, subst, ◌^◌, ◌≤◌}
+use Rattle.std.proofs.Common.{false, ◌≡◌, ℕ, ◌+◌, ◌∙◌, List, ◌∷◌, [], All, refl, sym, ap, subst}
 use Rattle.aug_monoid.specs.Weighted.{FitsPair}
 use Rattle.aug_model.specs.Keys.{IsKeySet, keys_of}
 use Rattle.aug_core.specs.Cuts.{opening_cut}
@@ -6,8 +6,7 @@ use Rattle.aug_core.specs.Layout.{IsWithin}
 use Rattle.aug_core.specs.Places.{Shape}
 use Rattle.aug_trie.specs.Chains.{chapters}
 use Rattle.aug_trie.specs.Crew.{CrewFacts, crew_chain}
-use Rattle.aug_trie.specs.Round.{TableFacts, RoundFacts, table_of}
-use Rattle.std.specs.Vec.{vec_capacity}
+use Rattle.aug_trie.specs.Round.{TableFacts, RoundFacts}
 use Rattle.aug_trie.proofs.rounds.round.Round.finish.Goals as goal
 
 pub returns-clause-rolls : goal.returns-clause-rolls
@@ -39,20 +38,3 @@ invariant_of-result g c =
     let tree = c.list.ensures.is_set in
     let bits : c.over-inserts.new.self.round.bits ≡ c.bits-bits.result = ap (λ (z : CrewFacts). z.round.bits) c.over-inserts.ensures.last_is ∙ ap (λ (z : TableFacts). z.bits) (c.requires.together ∙ sym c.self.view_is) ∙ ap (λ (z : Shape). z.bits) (sym c.self.invariant) ∙ sym c.bits-bits.ensures in
     subst (λ (z : ℕ × List (ℕ × ℕ)). IsWithin 1 16 z.0 × IsKeySet z.0 (keys_of z.1) × All FitsPair z.1) (λ j. (bits j, sym c.list.ensures.set j)) ((tree.some_bits, tree.few_bits), tree.is_key_set, tree.fit)
-
-pub returns-clause-bits : goal.returns-clause-bits
-returns-clause-bits g c = c.bits-bits.ensures ∙ ap (λ (z : Shape). z.bits) c.self.invariant ∙ ap (λ (z : TableFacts). z.bits)
-    (c.self.view_is ∙ sym c.requires.together)
-
-pub list-requires-clause-room : goal.list-requires-clause-room
-list-requires-clause-room g c = subst (λ (z : CrewFacts). 2 ^ z.round.bits ≤ vec_capacity c.args.list) (sym c.over-inserts.ensures.last_is)
-    c.requires.list_room
-
-pub list-requires-clause-together : goal.list-requires-clause-together
-list-requires-clause-together g c = ap (λ (z : CrewFacts). table_of z.round) c.over-inserts.ensures.last_is ∙ c.requires.together
-
-pub list-requires-clause-empty : goal.list-requires-clause-empty
-list-requires-clause-empty g c = c.requires.empty
-
-pub over-inserts-requires-clause-together : goal.over-inserts-requires-clause-together
-over-inserts-requires-clause-together g c = c.requires.together

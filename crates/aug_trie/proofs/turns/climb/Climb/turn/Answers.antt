@@ -1,4 +1,4 @@
-use Rattle.std.proofs.Common.{refl, subst, ◌≡◌}
+use Rattle.std.proofs.Common.{rules, subst, ◌≡◌}
 use Rattle.aug_model.specs.Folds.{summary_of}
 use Rattle.aug_model.specs.declared.outcome.Outcome.{Outcome}
 use Rattle.aug_trie.specs.declared.turns.stages.Next.TheVariants.{More}
@@ -8,7 +8,6 @@ use Rattle.aug_trie.specs.Pass.{PassFacts}
 use Rattle.aug_trie.specs.inside.ClimbState.{climb_facts}
 use Rattle.aug_trie.specs.inside.PassState.{pass_facts}
 use Rattle.aug_trie.proofs.Turning.{has_room, climbs, climb_on, climb_done}
-use Rattle.aug_trie.proofs.TurnsLeft.{more_no_done, done_no_more, same_climb, same_done}
 use Rattle.aug_trie.proofs.turns.climb.Climb.turn.Goals as goal
 
 pub after-requires-clause-inserts : goal.after-requires-clause-inserts
@@ -23,23 +22,18 @@ invariant_of-pass g c = let i = c.self.inside in let n = c.next_stage-next.ensur
 
 pub returns-in-More-clause-more : goal.returns-in-More-clause-more
 returns-in-More-clause-more g c = λ climb is. let i = c.self.inside in let n = c.next_stage-next.ensures in
-    let same : climb_facts c.next_stage-next.new.pass i.account.bits i.account.left i.key i.request c.in-More.stage ≡ climb = same_climb climb is in
+    let same : climb_facts c.next_stage-next.new.pass i.account.bits i.account.left i.key i.request c.in-More.stage ≡ climb = search rules in
     subst (TurnsOn c.args.self) same (climb_on g.A.Monoid.parts g.B.Monoid.parts i.words i.account i.key i.request i.stage c.args.self c.self.invariant c.self.view_is c.next_stage-next.new.pass c.next_stage-next.result n.table n.step n.falls n.on c.in-More.stage c.in-More.is n.first n.second)
 
 pub returns-in-Done-clause-done : goal.returns-in-Done-clause-done
-returns-in-Done-clause-done g c = λ pass outcome is. let i = c.self.inside in let n = c.next_stage-next.ensures in
-    let same : (c.in-Done.outcome, pass_facts c.next_stage-next.new.pass c.after.result.left) ≡ (outcome, pass) = same_done pass outcome is in
-    subst (λ (z : Outcome × PassFacts). Finishes z.0 c.args.self z.1) same (climb_done g.A.Monoid.parts g.B.Monoid.parts i.words i.account i.key i.request
-    i.stage c.args.self c.self.invariant c.self.view_is
-    c.next_stage-next.new.pass c.next_stage-next.result n.table n.step n.falls n.on c.in-Done.outcome c.after.result c.in-Done.is c.after.ensures).finish
+returns-in-Done-clause-done g c = λ pass outcome is. let i = c.self.inside in let n = c.next_stage-next.ensures in let made : pass_facts c.next_stage-next.new.pass c.after.result.left ≡ pass = search rules in
+    let same : c.in-Done.outcome ≡ outcome = search rules in subst (λ (z : Outcome × PassFacts). Finishes z.0 c.args.self z.1) (λ j. (same j, made j)) (climb_done g.A.Monoid.parts g.B.Monoid.parts i.words i.account i.key i.request i.stage c.args.self c.self.invariant c.self.view_is c.next_stage-next.new.pass c.next_stage-next.result n.table n.step n.falls n.on
+    c.in-Done.outcome c.after.result c.in-Done.is c.after.ensures).finish
 
 pub returns-in-Done-clause-keeps : goal.returns-in-Done-clause-keeps
-returns-in-Done-clause-keeps g c = λ pass outcome is. let i = c.self.inside in let n = c.next_stage-next.ensures in
-    let same : (c.in-Done.outcome, pass_facts c.next_stage-next.new.pass c.after.result.left) ≡ (outcome, pass) = same_done pass outcome is in
-    subst (λ (z : Outcome × PassFacts). Keeps (summary_of g.A.Monoid.parts g.B.Monoid.parts) c.args.self.start z.1) same
-    (climb_done g.A.Monoid.parts g.B.Monoid.parts i.words i.account i.key i.request i.stage c.args.self
-    c.self.invariant c.self.view_is c.next_stage-next.new.pass c.next_stage-next.result n.table n.step n.falls n.on c.in-Done.outcome c.after.result
-    c.in-Done.is c.after.ensures).keeps
+returns-in-Done-clause-keeps g c = λ pass outcome is. let i = c.self.inside in let n = c.next_stage-next.ensures in let made : pass_facts c.next_stage-next.new.pass c.after.result.left ≡ pass = search rules in
+    subst (Keeps (summary_of g.A.Monoid.parts g.B.Monoid.parts) c.args.self.start) made (climb_done g.A.Monoid.parts g.B.Monoid.parts i.words i.account i.key i.request i.stage c.args.self c.self.invariant c.self.view_is c.next_stage-next.new.pass c.next_stage-next.result n.table n.step n.falls n.on
+    c.in-Done.outcome c.after.result c.in-Done.is c.after.ensures).keeps
 
 pub invariant_of-result : goal.invariant_of-result
 invariant_of-result g c = let i = c.self.inside in let h = c.self.invariant in let n = c.next_stage-next.ensures in record {
@@ -50,18 +44,3 @@ invariant_of-result g c = let i = c.self.inside in let h = c.self.invariant in l
 
 pub after-requires-clause-records : goal.after-requires-clause-records
 after-requires-clause-records g c = let i = c.self.inside in (has_room g.A.Monoid.parts g.B.Monoid.parts i.words i.account i.key i.request i.stage c.args.self c.self.invariant c.self.view_is).2
-
-pub returns-in-More-clause-keeps : goal.returns-in-More-clause-keeps
-returns-in-More-clause-keeps g c = λ pass outcome is. absurd (more_no_done refl is)
-
-pub returns-in-More-clause-done : goal.returns-in-More-clause-done
-returns-in-More-clause-done g c = λ pass outcome is. absurd (more_no_done refl is)
-
-pub returns-in-Done-clause-more : goal.returns-in-Done-clause-more
-returns-in-Done-clause-more g c = λ climb is. absurd (done_no_more refl is)
-
-pub next_stage-next-requires : goal.next_stage-next-requires
-next_stage-next-requires g c = record { at = (c.self.inside.account.left, c.self.invariant.began, c.self.invariant.stage_at) }
-
-pub after-requires-clause-some : goal.after-requires-clause-some
-after-requires-clause-some g c = c.self.invariant.stage_at.some

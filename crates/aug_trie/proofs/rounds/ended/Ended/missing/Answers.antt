@@ -1,6 +1,0 @@
-use Rattle.std.proofs.Common.{ap}
-use Rattle.aug_trie.specs.Ended.{EndedFacts}
-use Rattle.aug_trie.proofs.rounds.ended.Ended.missing.Goals as goal
-
-pub returns : goal.returns
-returns g c = ap (λ (z : EndedFacts). z.missing) c.self.view_is

@@ -1,4 +1,2 @@
 -- The proofs of the tests of `aug_trie`.
 mod Lents
-mod Steps
-mod Crewing

@@ -1,10 +1,9 @@
 use Rattle.std.proofs.Common.{rules, ◌≡◌, ◌∙◌, ◌<◌, ℕ, ap, sym, subst, length, vec_len}
 use Rattle.std.specs.Prelude.{All}
 use Rattle.aug_trie.specs.Crew.{CrewFacts}
-use Rattle.aug_trie.specs.Round.{RoundFacts, table_of}
+use Rattle.aug_trie.specs.Round.{table_of}
 use Rattle.aug_trie_tests.specs.declared.reading.Lent.{Lent}
 use Rattle.aug_trie_tests.proofs.Lents.{all_but_one}
-use Rattle.aug_trie_tests.proofs.Crewing.{taken_through, has_room}
 use Rattle.aug_trie_tests.proofs.reading.filled_up.Goals as goal
 
 pub taken-requires-clause-reader : goal.taken-requires-clause-reader
@@ -21,34 +20,3 @@ invariant_of-rolled-clause-of_table g c =
     let rest : All (λ (z : Lent). table_of z.reader.round ≡ table_of out.crew.round) c.remove-lent.new.self.items =
     subst (All (λ (z : Lent). table_of z.reader.round ≡ table_of out.crew.round)) (sym c.remove-lent.ensures.items) (all_but_one (λ (z : Lent). table_of z.reader.round ≡ table_of out.crew.round) out.lents.items c.args.back out.of_table) in
     λ k d low. rest k d low ∙ sym here
-
-pub invariant_of-rolled-clause-bits : goal.invariant_of-rolled-clause-bits
-invariant_of-rolled-clause-bits g c =
-    ap (λ (z : RoundFacts). z.bits) (taken_through c.filled-crew.result.crew c.may_renew.new.self c.prepare.new.self c.taken.new.crew c.may_renew.result
-    c.may_renew.ensures.crew
-    c.prepare.ensures c.taken.ensures.crew).0
-    ∙ c.filled-crew.result.bits
-
-pub invariant_of-rolled-clause-room : goal.invariant_of-rolled-clause-room
-invariant_of-rolled-clause-room g c =
-    has_room c.filled-crew.result.crew.round c.taken.new.crew.round c.filled-crew.result.room
-    (taken_through c.filled-crew.result.crew c.may_renew.new.self c.prepare.new.self c.taken.new.crew c.may_renew.result c.may_renew.ensures.crew
-    c.prepare.ensures c.taken.ensures.crew).0
-
-pub invariant_of-rolled-clause-none_out : goal.invariant_of-rolled-clause-none_out
-invariant_of-rolled-clause-none_out g c =
-    (taken_through c.filled-crew.result.crew c.may_renew.new.self c.prepare.new.self c.taken.new.crew c.may_renew.result c.may_renew.ensures.crew
-    c.prepare.ensures c.taken.ensures.crew).1
-    c.filled-crew.result.none_out
-
-pub rolled-out-requires : goal.rolled-out-requires
-rolled-out-requires g c =
-    ap table_of (taken_through c.filled-crew.result.crew c.may_renew.new.self c.prepare.new.self c.taken.new.crew c.may_renew.result
-    c.may_renew.ensures.crew
-    c.prepare.ensures c.taken.ensures.crew).0
-    ∙ c.filled-crew.ensures
-
-pub taken-requires-clause-together : goal.taken-requires-clause-together
-taken-requires-clause-together g c =
-    ap (λ (z : CrewFacts). table_of z.round) c.prepare.ensures.crew_is ∙ ap (λ (z : CrewFacts). table_of z.round) c.may_renew.ensures.crew
-    ∙ c.filled-crew.ensures

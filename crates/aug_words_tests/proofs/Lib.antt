@@ -1,3 +1,2 @@
 mod StepTests
-mod OpeningTests
 mod LaneTests

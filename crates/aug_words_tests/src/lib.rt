@@ -6,10 +6,6 @@ mod assertions;
 #[cfg(test)]
 mod opening;
 #[cfg(test)]
-mod reading;
-#[cfg(test)]
-mod reopening;
-#[cfg(test)]
 mod replacing;
 #[cfg(test)]
 mod requests;

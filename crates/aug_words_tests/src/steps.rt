@@ -1,5 +1,5 @@
 //! The steps of two passes on one node, driven one by one.
-ghost use Rattle.std.specs.Prelude.{◌≡◌, ◌<◌, ◌/◌, ◌%◌, ◌^◌, ◌==◌, if◌then◌else◌, ◌++◌, ◌∷◌, [], ℕ, List, IfOk, false, length};
+ghost use Rattle.std.specs.Prelude.{◌≡◌, ◌<◌, ◌/◌, ◌%◌, ◌^◌, ◌==◌, if◌then◌else◌, ◌++◌, ◌∷◌, [], ℕ, List, IfOk, false};
 ghost use Rattle.aug_core.specs.Faces.{face};
 ghost use Rattle.aug_core.specs.Places.{shape_of};
 ghost use Rattle.aug_core.specs.Effects.{MayStore, MayChange, IsFilled};
@@ -12,14 +12,14 @@ use aug_words::{Rest, WordPass};
 use std::alloc::{AllocError, Global};
 
 // The word of the one node of a table of 1 bit.
-pub(super) const NODE: usize = 2;
+const NODE: usize = 2;
 
 // What one serial adds to a leaf's word.
 const SERIAL: u64 = 1 << 32;
 
 // The first two steps of an insertion: the leaf is loaded, and if its key is not there, its serial goes up by one, if it is
 // still what was loaded. The key weighs its own number.
-pub(super) fn insert<A: Monoid, B: Monoid>(pass: &mut WordPass<'_, A, B>, leaf: usize) -> bool
+fn insert<A: Monoid, B: Monoid>(pass: &mut WordPass<'_, A, B>, leaf: usize) -> bool
     requires bits { pass.old.view.shape.bits ≡ 1 }
     requires leaf { leaf < 2 }
     requires room { MayChange pass.old.view }
@@ -56,7 +56,7 @@ fn words_of<A: Monoid, B: Monoid>(left: u64, right: u64, pairs: &[(u32, u32)]) -
 }
 
 // Loads the node and then its two leaves, and fills the own record from them. Answers the number that was loaded.
-pub(super) fn refill<A: Monoid, B: Monoid>(pass: &mut WordPass<'_, A, B>, number: u64) -> u64
+fn refill<A: Monoid, B: Monoid>(pass: &mut WordPass<'_, A, B>, number: u64) -> u64
     requires bits { pass.old.view.shape.bits ≡ 1 }
     requires own { MayStore pass.old.view number }
     ensures same { (pass.new.table ≡ pass.old.table) × (pass.new.view.shape ≡ pass.old.view.shape) }
@@ -77,17 +77,12 @@ pub(super) fn refill<A: Monoid, B: Monoid>(pass: &mut WordPass<'_, A, B>, number
 }
 
 // An exchange of the node's word to the own record, which was filled for it.
-pub(super) fn publish<A: Monoid, B: Monoid>(
-    pass: &mut WordPass<'_, A, B>,
-    from: u64,
-    number: u64,
-) -> bool
+fn publish<A: Monoid, B: Monoid>(pass: &mut WordPass<'_, A, B>, from: u64, number: u64) -> bool
     requires bits { pass.old.view.shape.bits ≡ 1 }
     requires own { MayStore pass.old.view number }
     requires filled { IsFilled (face A.parts B.parts) pass.old.view 2 from number }
     ensures same { (pass.new.table ≡ pass.old.table) × (pass.new.view.shape ≡ pass.old.view.shape) }
     ensures own { result ≡ false → MayStore pass.new.view number }
-    ensures held { length pass.new.view.held ≡ length pass.old.view.held }
 {
     pass.try_node(NODE, from, number)
 }

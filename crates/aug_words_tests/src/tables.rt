@@ -1,5 +1,5 @@
 //! A small table, and what a table holds at rest.
-ghost use Rattle.std.specs.Prelude.{◌≡◌, ◌≤◌, ◌<◌, ◌+◌, ◌^◌, [], All, Some, IfOk, length};
+ghost use Rattle.std.specs.Prelude.{◌≡◌, ◌≤◌, ◌<◌, ◌+◌, All, Some, IfOk, length};
 ghost use Rattle.aug_core.specs.Lanes.{IsOfLane};
 ghost use Rattle.aug_core.specs.Places.{shape_of, record_count};
 ghost use Rattle.aug_core.specs.Effects.{MayStore, MayChange};
@@ -31,7 +31,6 @@ pub(super) fn table_of(
     ensures together { IfOk result (λ t. AreTogether t.0 t.1) }
     ensures shape { IfOk result (λ t. t.0.shape ≡ shape_of bits workers updates room) }
     ensures spare { IfOk result (λ t. t.1.view.spare ≡ Some 0) }
-    ensures none { IfOk result (λ t. t.1.view.held ≡ []) }
 {
     let Ok(layout) = Layout::new(bits, workers, updates, room) else {
         return Err(AllocError)
@@ -64,8 +63,6 @@ pub(super) fn next_pass<'r, A: Monoid, B: Monoid>(
     ensures pass { AreTogether words.now result }
     ensures own { MayStore result.view number }
     ensures change { MayChange result.view }
-    ensures held { lead.new.view.held ≡ lead.old.view.held }
-    ensures one { length result.view.held ≡ 1 }
 {
     lead.split(words)
 }
@@ -79,36 +76,13 @@ pub(super) fn join<A: Monoid, B: Monoid>(
     requires together { AreTogether words.now lead.old }
     requires pass { (pass.table ≡ words.now.table) × (pass.view.shape ≡ words.now.shape) }
     ensures together { AreTogether words.now lead.new }
-    ensures spare { lead.new.view.spare ≡ lead.old.view.spare }
-    ensures held { length lead.new.view.held ≡ length lead.old.view.held + length pass.entry.view.held }
 {
     let _words = words;
     lead.join(pass);
 }
 
-// The next era, once so many lanes were handed out and are all back. A part of the table has to be free.
-pub(super) fn next_era(
-    rt: &impl Abort,
-    words: &WordsOf,
-    mut lead: Lead<Sum, Extent>,
-    handed: u32,
-) -> Lead<Sum, Extent>
-    requires together { AreTogether words.now lead }
-    requires room { 2 ^ words.now.shape.bits ≤ words.now.shape.members }
-    requires spare { lead.view.spare ≡ Some handed }
-    requires held { length lead.view.held ≡ handed }
-    ensures together { AreTogether words.now result }
-    ensures spare { result.view.spare ≡ Some 0 }
-    ensures held { result.view.held ≡ [] }
-{
-    let _handed = handed;
-    let free = lead.may_open(words);
-    holds(rt, free);
-    words.open_again(lead)
-}
-
 // The five words of a record at rest.
-pub(super) fn record_at(rest: &Rest, number: u64) -> [u64; 5]
+fn record_at(rest: &Rest, number: u64) -> [u64; 5]
     requires { number < record_count rest.now.shape }
 {
     [

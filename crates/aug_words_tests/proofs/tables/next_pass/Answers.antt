@@ -3,7 +3,6 @@ use Rattle.aug_core.specs.Faces.{face}
 use Rattle.aug_core.specs.Lanes.{IsOfLane}
 use Rattle.aug_core.specs.Places.{Shape}
 use Rattle.aug_words.proofs.Leads.{lead_shape, next_spare, pass_shape, pass_may_store, pass_may_change}
-use Rattle.aug_words_tests.proofs.LaneTests.{held_on, one_held}
 use Rattle.aug_words_tests.proofs.tables.next_pass.Goals as goal
 
 pub split-requires-clause-room : goal.split-requires-clause-room
@@ -31,9 +30,3 @@ returns-clause-own g c = pass_may_store (face g.A.Monoid.parts g.B.Monoid.parts)
 pub returns-clause-change : goal.returns-clause-change
 returns-clause-change g c = pass_may_change (face g.A.Monoid.parts g.B.Monoid.parts) _ _ _ c.split.ensures.hands_out
     (subst (λ (s : Shape). 0 < s.updates) (sym c.requires.together.one_shape) c.requires.updates)
-
-pub returns-clause-held : goal.returns-clause-held
-returns-clause-held g c = held_on (face g.A.Monoid.parts g.B.Monoid.parts) _ _ _ c.split.ensures.hands_out
-
-pub returns-clause-one : goal.returns-clause-one
-returns-clause-one g c = one_held (face g.A.Monoid.parts g.B.Monoid.parts) _ _ _ c.split.ensures.hands_out

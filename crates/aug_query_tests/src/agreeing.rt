@@ -6,28 +6,20 @@ use aug_query_testing::FakeTree;
 use aug_testing::{Host, Last};
 use std::alloc::AllocError;
 
-// The tree of the keys of `bits` bits that are below `members` or whose bits `mask` has. No key weighs itself.
-pub(super) fn tree_of(
-    rt: &impl Host,
-    bits: u32,
-    members: u32,
-    mask: u32,
-) -> Result<FakeTree<Last, Sum>, AllocError> {
+// The tree of the keys of `bits` bits that are below `members`. No key weighs itself.
+fn tree_of(rt: &impl Host, bits: u32, members: u32) -> Result<FakeTree<Last, Sum>, AllocError> {
     holds(rt, 1 <= bits);
     holds(rt, bits <= 16);
     let mut list = Vec::new(rt.alloc());
-    for k in 0..1u32 << bits {
-        let is_in = k < members || k < 32 && (mask >> k) % 2 == 1;
-        if is_in {
-            list.push((k, u32::MAX - k))?;
-        }
+    for k in 0..members.min(1u32 << bits) {
+        list.push((k, u32::MAX - k))?;
     }
     FakeTree::try_new(rt.alloc(), bits, &list)
 }
 
 // Compares the lists of the tree of the `members` least keys.
 fn assert_lists(rt: &impl Host, bits: u32, members: u32) -> Result<(), AllocError> {
-    let mut tree = tree_of(rt, bits, members, 0)?;
+    let mut tree = tree_of(rt, bits, members)?;
     let count = members as usize;
     let keys = keys_of(rt.alloc(), &mut tree)?.len();
     let pairs = pairs_of(rt.alloc(), &mut tree)?.len();

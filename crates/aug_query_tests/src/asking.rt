@@ -1,7 +1,7 @@
 //! Queries and their answers as data, so that each call is proved once.
 use crate::assertions::equal;
 use aug_monoid::{Extent, Monoid};
-use aug_query::descent::{self, First, Greatest, Least};
+use aug_query::descent::{self, First, Greatest, Least, MembersBelow, MembersFrom};
 use aug_query::{
     after, ask as ask_tree, before, has, keys, pairs, range, rank, select, size, weight,
 };
@@ -87,6 +87,8 @@ pub(super) enum Step<'a> {
     Spans(u32, u32, Spanned),
     Keys(&'a [u32]),
     Pairs(&'a [(u32, u32)]),
+    From(u32, &'a [(u32, u32)]),
+    Below(u32, &'a [(u32, u32)]),
 }
 
 // Makes one call, and compares its answer.
@@ -101,6 +103,14 @@ pub(super) fn take(rt: &impl Host, tree: &mut Small, step: &Step<'_>) -> Result<
         Step::Pairs(expected) => {
             let found = pairs_of(rt.alloc(), tree)?;
             equal(rt, found.as_slice(), *expected);
+        }
+        Step::From(key, expected) => {
+            let page = ask_tree(tree, MembersFrom(*key));
+            equal(rt, page.as_slice(), *expected);
+        }
+        Step::Below(key, expected) => {
+            let page = ask_tree(tree, MembersBelow(*key));
+            equal(rt, page.as_slice(), *expected);
         }
     }
     Ok(())

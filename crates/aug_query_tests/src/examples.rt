@@ -34,6 +34,8 @@ const EACH: &[Step<'static>] = &[
     Step::Asks(Query::Greatest(9, 5), Answer::Found(None)),
     Step::Keys(&[5, 9]),
     Step::Pairs(&[(5, 70), (9, 30)]),
+    Step::From(6, &[(9, 30)]),
+    Step::Below(16, &[(9, 30), (5, 70)]),
 ];
 
 #[test]

@@ -8,8 +8,4 @@ mod asking;
 #[cfg(test)]
 mod assertions;
 #[cfg(test)]
-mod cursors;
-#[cfg(test)]
 mod examples;
-#[cfg(test)]
-mod pages;

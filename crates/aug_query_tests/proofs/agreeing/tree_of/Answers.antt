@@ -8,7 +8,6 @@ use Rattle.aug_model.specs.Keys.{IsKeySet, keys_of}
 use Rattle.aug_monoid.specs.Weighted.{FitsPair}
 use Rattle.aug_query.proofs.Nodes.{wrapped_universe}
 use Rattle.aug_query_tests.proofs.agreeing.tree_of.Goals as goal
-use Rattle.aug_query_tests.proofs.agreeing.tree_of.Goals.{then-is_in+in_ok-push, else-is_in}
 
 -- rising numbers rise still with a greater one at their end
 rises_push : (xs : List ℕ) (k : ℕ) → IsStrictlyIncreasing xs → All (λ x. x < k) xs → IsStrictlyIncreasing (xs ++ k ∷ [])
@@ -24,25 +23,14 @@ loop-k-preserved g c =
     let inv = c.loop-k.invariant in
     let old = c.loop-k.list.items in
     let weaker = All-weaker (λ x. x < k) (λ x. x < k + 1) (λ x h. omega arith) (keys_of old) inv.below in
-    elim c.if-is_in.branch [
-      | then-is_in+in_ok-push w ↦
-          let items = ap (λ v. v.items) w.list-is ∙ w.in_ok-push.ensures.items in
-          let keys = ap keys_of items ∙ map-append (λ p. p.0) old ((k, 4294967295 - k) ∷ []) in
-          let fits : FitsPair (k, 4294967295 - k) = (omega (arith, c.loop-k-test.true), omega arith) in
-          record {
-            rising = subst IsStrictlyIncreasing (sym keys) (rises_push (keys_of old) k inv.rising inv.below);
-            below = subst (All (λ x. x < k + 1)) (sym keys) (All-push (λ x. x < k + 1) (keys_of old) k weaker (omega arith));
-            fit = subst (All FitsPair) (sym items) (All-push FitsPair old (k, 4294967295 - k) inv.fit fits);
-          }
-      | else-is_in w ↦
-          let items = ap (λ v. v.items) w.list-is in
-          let keys = ap keys_of items in
-          record {
-            rising = subst IsStrictlyIncreasing (sym keys) inv.rising;
-            below = subst (All (λ x. x < k + 1)) (sym keys) weaker;
-            fit = subst (All FitsPair) (sym items) inv.fit;
-          }
-    ]
+    let items = c.in_ok-push.ensures.items in
+    let keys = ap keys_of items ∙ map-append (λ p. p.0) old ((k, 4294967295 - k) ∷ []) in
+    let fits : FitsPair (k, 4294967295 - k) = (omega (arith, c.loop-k-test.true), omega arith) in
+    record {
+      rising = subst IsStrictlyIncreasing (sym keys) (rises_push (keys_of old) k inv.rising inv.below);
+      below = subst (All (λ x. x < k + 1)) (sym keys) (All-push (λ x. x < k + 1) (keys_of old) k weaker (omega arith));
+      fit = subst (All FitsPair) (sym items) (All-push FitsPair old (k, 4294967295 - k) inv.fit fits);
+    }
 
 pub try_new-requires-clause-keys : goal.try_new-requires-clause-keys
 try_new-requires-clause-keys g c =

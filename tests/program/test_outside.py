@@ -142,6 +142,33 @@ GOOD_SCRIPTS = [
         b"1 0 insert 7 = new\n1 0 size = 0\n1 0 look = ok\n1 0 size = 1\n1 end size=1 in=1 out=0\n",
     ),
     (
+        "key_is_seen_after_a_look",
+        "",
+        b"0,insert,7\n0,has,7\n0,look\n0,has,7\n",
+        b"1 0 insert 7 = new\n1 0 has 7 = no\n1 0 look = ok\n1 0 has 7 = yes\n1 end size=1 in=1 out=0\n",
+    ),
+    (
+        "weights",
+        "",
+        b"0,put,5,100\n0,put,5,7\n0,look\n0,weight,5\n0,range,0,16\n0,insert,9\n0,look\n0,range,0,16\n",
+        b"1 0 put 5 100 = new\n1 0 put 5 7 = set\n1 0 look = ok\n1 0 weight 5 = 7\n1 0 range 0 16 = 1 7 5 5\n"
+        b"1 0 insert 9 = new\n1 0 look = ok\n1 0 range 0 16 = 2 16 5 9\n1 end size=2 in=3 out=1\n",
+    ),
+    (
+        "weights_of_the_round_before",
+        "",
+        b"0,put,1,999999999\n0,put,2,0\n*,end\n*,grow,5\n0,weight,1\n0,weight,2\n0,weight,3\n0,range,0,32\n",
+        b"1 0 put 1 999999999 = new\n1 0 put 2 0 = new\n1 end size=2 in=2 out=0\n2 0 weight 1 = 999999999\n"
+        b"2 0 weight 2 = 0\n2 0 weight 3 = -\n2 0 range 0 32 = 2 999999999 1 2\n2 end size=2 in=0 out=0\n",
+    ),
+    (
+        "range_leaves_its_end_out",
+        "",
+        b"0,insert,6\n0,insert,7\n0,look\n0,range,6,7\n0,range,0,16\n",
+        b"1 0 insert 6 = new\n1 0 insert 7 = new\n1 0 look = ok\n1 0 range 6 7 = 1 6 6 6\n1 0 range 0 16 = 2 13 6 7\n"
+        b"1 end size=2 in=2 out=0\n",
+    ),
+    (
         "removals",
         "",
         b"0,remove,3\n0,insert,3\n0,remove,3\n0,remove,3\n",

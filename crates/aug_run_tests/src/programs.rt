@@ -67,36 +67,14 @@ fn assert_leaves<R: Host + Threads + Wait>(
     Ok(())
 }
 
-const HELP: &str = "\
-Runs a script over a set of keys, and prints a reply for each row
-
-Usage: augtrie [OPTIONS] [FILE]
-
-Arguments:
-  [FILE]  The script; without it standard input is read
-
-Options:
-      --bits <H>     Keys are below 2^H at first [default: 4]
-      --workers <W>  Lanes are below W [default: 1]
-      --updates <U>  How many rows of a lane may insert, put or remove in a round [default: 64]
-  -h, --help         Print help
-";
-
 const NONE: (Option<u64>, Option<u64>) = (None, None);
 
 const LINES: &[(&str, (Option<u64>, Option<u64>), Leaves<'static>)] = &[
-    (
-        "",
-        NONE,
-        (0, 0, "1 0 look = ok\n1 end size=0 in=0 out=0\n", ""),
-    ),
     (
         "a.csv",
         NONE,
         (0, 1, "1 0 size = 0\n1 end size=0 in=0 out=0\n", ""),
     ),
-    ("--help a.csv", NONE, (0, 0, HELP, "")),
-    ("--bits 3 --help", NONE, (0, 0, HELP, "")),
     ("b.csv", NONE, (3, 1, "", "augtrie: input\n")),
     // What cannot be written changes no status.
     ("", (Some(1), None), (3, 0, "1 0 loo", "augtrie: output\n")),
@@ -112,30 +90,11 @@ const LINES: &[(&str, (Option<u64>, Option<u64>), Leaves<'static>)] = &[
     ),
 ];
 
-// Words that are wrong, and what is told of them. All other lines of that are the same.
-const WRONG: &[&str] = &[
-    "--bits 0 => error: invalid value '0' for '--bits <H>': 0 is not in 1..=16",
-    "--bits 17 a.csv => error: invalid value '17' for '--bits <H>': 17 is not in 1..=16",
-    "--bits x => error: invalid value 'x' for '--bits <H>': invalid digit found in string",
-    "--workers 0 => error: invalid value '0' for '--workers <W>': 0 is not in 1..=64",
-    "--workers 65 => error: invalid value '65' for '--workers <W>': 65 is not in 1..=64",
-    "--updates 0 => error: invalid value '0' for '--updates <U>': 0 is not in 1..=65536",
-    "--updates 65537 => error: invalid value '65537' for '--updates <U>': 65537 is not in 1..=65536",
-    "--bits => error: a value is required for '--bits <H>' but none was supplied",
-    "--bits 3 --bits 3 => error: the argument '--bits <H>' cannot be used multiple times\n\nUsage: augtrie [OPTIONS] [FILE]",
-    "--lanes 3 => error: unexpected argument '--lanes' found\n\n  tip: to pass '--lanes' as a value, use '-- --lanes'\n\nUsage: augtrie [OPTIONS] [FILE]",
-    "a.csv b.csv => error: unexpected argument 'b.csv' found\n\nUsage: augtrie [OPTIONS] [FILE]",
-];
-
+// `tests/program` has the texts of help and of wrong words.
 #[test]
 fn each_line_of_words_has_its_status_and_its_texts(rt: HostRuntime) -> Result<(), Fail> {
     for (line, faults, leaves) in LINES {
         assert_leaves(&rt, line, *faults, *leaves)?;
-    }
-    for row in WRONG {
-        let (line, error) = row.split_once(" => ").ok_or("no arrow")?;
-        let errors = format!(in rt.alloc(); "{error}\n\nFor more information, try '--help'.\n")?;
-        assert_leaves(&rt, line, NONE, (2, 0, "", errors.as_str()))?;
     }
     Ok(())
 }

@@ -50,35 +50,24 @@ pub enum Act {
     /// passes that did not come back.
     Lane,
     Counts,
-    /// An update by turns: all of them; its beginning, and so many turns. How many may be left; so many; the last one behind so many; all that are left.
-    ByTurns(Change),
+    /// An update by turns: its beginning, and so many turns. How many may be left; so many; all that are left.
     Start(Change, u32),
     TurnsLeft,
     Turns(u32),
-    Last(u32),
     Finish,
     /// Its pass goes by way of a half.
     Halve,
-    /// Eight updates in one batch, of keys of 4 bits that do not rise, one of them twice. Whether they come to these outcomes, and to none past them.
-    Batch(&'static [Outcome]),
-    /// The pass learns the last note, or the crew does in the place of a pass that is not out. Whether the pass then sees this key.
-    Learn(u32),
     /// The rank of a key by a view of the pass, which is given up then.
     RankByView(u32),
-    /// A clone of the top of the tree, and the children of that clone once the pass took 1 out.
-    Top,
+    /// The children of the top of a new snapshot's tree.
     Left,
     Right,
-    /// What a snapshot and its clone show before and after some updates.
+    /// What a snapshot shows before and after some updates.
     KeptOver(&'static [Change]),
-    /// What a cursor passes over a new snapshot: on from the first key, on once more after the pass took the second key out, and back.
-    PassesOver(u32, u32),
-    /// What changed from a key on over some updates, or of a look, which makes none, since the snapshot before; and as the keys from the first number on and
-    /// below the second come in, or back from then.
+    /// What a cursor passes over a new snapshot: on from the key, on once more behind a newer snapshot, and back.
+    PassesOver(u32),
+    /// What changed from a key on, as a look tells it that makes no updates, since the snapshot before.
     Since(&'static [Change], u32),
-    Grown((u32, u32), u32, bool),
-    /// How many of the keys of 2 bits are members, if the sums of all are those of each key.
-    AddsUp,
     /// The bits of a trie at rest, and how many keys these have.
     Bits,
     Universe,
@@ -130,12 +119,12 @@ pub enum Reply {
     Changed(usize, Option<Differs>, Option<Differs>, Option<Differs>),
 
     Counted(u32, u32, u32),
-    /// How many turns were left to an update as it began, what it came to, and how many turns that took.
-    Ended(u32, Outcome, u32),
+    /// What an update by turns came to, and how many turns that took.
+    Ended(Outcome, u32),
     /// The level and the place of a node, and the same of what it covers.
     Stands(u32, u32, u32, u64, Option<(u32, u32)>),
-    /// How many members there are, what 1 and 2 weigh, and the weights of the keys of 2 bits together.
-    Kept(u32, Option<u32>, Option<u32>, u64),
+    /// How many members a snapshot has, and whether it has 1, before some updates and after them.
+    Kept((u32, bool), (u32, bool)),
 
     /// Memory was refused, twice if it was requested twice.
     NoMemory,
@@ -172,9 +161,8 @@ pub type Numbers = (u32, u32, u32);
 /// A line of a table.
 #[derive(Clone, Copy)]
 pub enum Line {
-    /// A row begins, which shows this, over the empty set or over what the row before it left.
+    /// A row begins, which shows this, over the empty set.
     Row(&'static str),
-    And(&'static str),
     /// A round begins, and so many lanes are opened. At its end all passes come back.
     Round(Way, Numbers, u32),
     /// A round that is refused, and why.
@@ -190,7 +178,6 @@ pub enum Line {
     TryB(Act, Reply),
     /// What the trie at rest answers. How many members it has, and its counts.
     Rest(Act, Reply),
-    AtRest(&'static [Line]),
     End(u32, (u32, u32, u32)),
 }
 

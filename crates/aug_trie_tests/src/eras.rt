@@ -1,36 +1,10 @@
-//! A renewed round is another round than the one before, though of the same table: a half of that one has to be back before, and a note of it is
-//! of that one alone. No test module, so that a wrong body of it can be tried.
-ghost use Rattle.std.specs.Prelude.{◌≡◌, ◌≢◌, ◌+◌, ◌≤◌, true};
+//! A half of a pass of a round has to be back before the round is renewed, or its account closed. No test module, so that a wrong body of it can be tried.
+ghost use Rattle.std.specs.Prelude.{◌≡◌, ◌+◌, ◌^◌, ◌≤◌, true};
 ghost use Rattle.aug_trie.specs.Round.{table_of};
 
 use aug_monoid::{Extent, Sum};
 use aug_query::descent::Size;
-use aug_trie::{Crew, Note, PassHalf, Round};
-
-/// Takes the half of the one pass that is out back, and renews the round. A note of it is of no round that comes after.
-pub fn gone_on(
-    round: &Round<Sum, Extent>,
-    crew: Crew<Sum, Extent>,
-    half: PassHalf<Sum, Extent>,
-    note: &Note<Sum, Extent>,
-) -> Crew<Sum, Extent>
-    requires bits { crew.round.bits ≡ 4 }
-    requires room { 16 ≤ crew.round.room }
-    requires together { table_of crew.round ≡ round.now }
-    requires half { half.round ≡ crew.round }
-    requires one_out { crew.back + 1 ≡ crew.handed }
-    requires note { note.now.round ≡ crew.round }
-    requires free { crew.free ≡ true }
-    ensures bits { result.round.bits ≡ 4 }
-    ensures together { table_of result.round ≡ round.now }
-    ensures table { note.now.round.table ≡ result.round.table }
-    ensures other { note.now.round ≢ result.round }
-{
-    let mut crew = crew;
-    crew.back(round.pass(half));
-    let (crew, _, _) = round.renew(crew);
-    crew
-}
+use aug_trie::{Crew, PassHalf, Round};
 
 /// Renews a round, whatever became of a half of it. `Round::renew` wants all passes back, so no caller has such a half; and with one it could do nothing but
 /// drop it, as the crew of the next round takes back none of an earlier one.
@@ -39,8 +13,7 @@ pub fn kept_over(
     crew: Crew<Sum, Extent>,
     half: PassHalf<Sum, Extent>,
 ) -> Crew<Sum, Extent>
-    requires bits { crew.round.bits ≡ 4 }
-    requires room { 16 ≤ crew.round.room }
+    requires room { 2 ^ crew.round.bits ≤ crew.round.room }
     requires together { table_of crew.round ≡ round.now }
     requires all_back { crew.back ≡ crew.handed }
     requires half { half.round ≡ crew.round }

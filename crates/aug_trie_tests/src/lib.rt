@@ -13,15 +13,11 @@ mod granting;
 #[cfg(test)]
 mod playing;
 #[cfg(test)]
-mod reading;
-#[cfg(test)]
 mod refused;
 #[cfg(test)]
 mod renewing;
 #[cfg(test)]
 mod requests;
-#[cfg(test)]
-mod resting;
 #[cfg(test)]
 mod rounds;
 #[cfg(test)]

@@ -3,16 +3,15 @@
 ghost use Rattle.std.specs.Prelude.{◌≡◌, ◌^◌, ◌<◌, IfOk, IfErr, IfSome};
 ghost use Rattle.aug_trie.specs.Round.{table_of};
 
-use super::asking::{look_closer, seen_weight};
-use super::rounds::{Climber, CrewOf, News, OfRound, RoundOf, Stage, Trie, Walker, next_pass};
-use super::turning::{last, to_the_end, turns};
+use super::asking::look_closer;
+use super::rounds::{Climber, CrewOf, OfRound, RoundOf, Stage, Trie, Walker, next_pass};
+use super::turning::{to_the_end, turns};
 use crate::assertions::equal;
 use aug_monoid::{Extent, Sum};
-use aug_query::descent::Has;
 use aug_query::rank;
 use aug_testing::Host;
-use aug_trie::{BeginError, Note, Pass};
-use aug_trie_testing::rows::{Act, Change, Line, Reply, key_of, made, request_of, tells};
+use aug_trie::{BeginError, Pass};
+use aug_trie_testing::rows::{Act, Change, Line, Reply, made};
 use std::alloc::Global;
 use std::marker::{Brand, PhantomData};
 use std::mem::replace;
@@ -38,28 +37,6 @@ pub(super) fn changed(pass: &mut Pass<Sum, Extent>, universe: u32, change: Chang
     }
 }
 
-// Makes an update, and looks what its key weighs then.
-fn seen(pass: &mut Pass<Sum, Extent>, universe: u32, change: Change) -> Reply
-    requires { universe ≡ 2 ^ pass.old.round.bits }
-    ensures { pass.new.round ≡ pass.old.round }
-{
-    match (changed(pass, universe, change), key_of(change)) {
-        (Reply::Came(outcome), Some(key)) => Reply::Seen(outcome, seen_weight(pass, key)),
-        (reply, _) => reply,
-    }
-}
-
-// Makes an update of a key, if one is left, and says what it tells.
-fn told(pass: &mut Walker, universe: u32, change: Change) -> Reply
-    requires universe { universe ≡ 2 ^ pass.old.round.bits }
-    ensures { pass.new.round ≡ pass.old.round }
-{
-    match request_of(change) {
-        Some((k, request)) if k < universe && pass.budget() > 0 => tells(pass.update(k, request)),
-        _ => Reply::Not,
-    }
-}
-
 // Puts keys in with great weights, as long as updates are left: how many.
 fn filled(pass: &mut Pass<Sum, Extent>, universe: u32, from: u32, count: u32) -> Reply
     requires { universe ≡ 2 ^ pass.old.round.bits }
@@ -80,8 +57,6 @@ fn walk(pass: &mut Pass<Sum, Extent>, alloc: Global, universe: u32, act: Act) ->
 {
     match act {
         Act::Now(change) => changed(pass, universe, change),
-        Act::See(change) => seen(pass, universe, change),
-        Act::Tell(change) => told(pass, universe, change),
         Act::Fill(from, count) => filled(pass, universe, from, count),
         Act::Lane => Reply::Number(pass.lane()),
         Act::Counts => Reply::Counted(pass.inserts(), pass.removals(), pass.budget()),
@@ -158,17 +133,6 @@ fn goes_on<'r, K: OfRound>(climb: Climber<'r>, count: u32) -> (Lane<'r, K>, Repl
     }
 }
 
-// The lane of an update by turns once it is made, and what all of its turns come to.
-fn ends<'r, K: OfRound>(climb: Climber<'r>) -> (Lane<'r, K>, Reply)
-    requires { climb.start.round ≡ K.round }
-{
-    let left = climb.turns_left();
-    match to_the_end(climb) {
-        Some((pass, outcome, made)) => (walks(pass), Reply::Ended(left, outcome, made)),
-        None => (Lane::Out, Reply::Not),
-    }
-}
-
 // What a lane does whose pass makes an update by turns.
 fn climbed<'r, K: OfRound>(climb: Climber<'r>, act: Act) -> (Lane<'r, K>, Reply)
     requires { climb.start.round ≡ K.round }
@@ -179,12 +143,8 @@ fn climbed<'r, K: OfRound>(climb: Climber<'r>, act: Act) -> (Lane<'r, K>, Reply)
             (goes_on(climb, 0).0, Reply::Number(left))
         }
         Act::Turns(count) => goes_on(climb, count),
-        Act::Last(count) => match last(climb, count) {
-            Some((pass, outcome)) => (walks(pass), Reply::Came(outcome)),
-            None => (Lane::Out, Reply::Not),
-        },
         Act::Finish => match to_the_end(climb) {
-            Some((pass, outcome, _)) => (walks(pass), Reply::Came(outcome)),
+            Some((pass, outcome, made)) => (walks(pass), Reply::Ended(outcome, made)),
             None => (Lane::Out, Reply::Not),
         },
         Act::GiveUp => (Lane::Out, Reply::Done),
@@ -192,13 +152,12 @@ fn climbed<'r, K: OfRound>(climb: Climber<'r>, act: Act) -> (Lane<'r, K>, Reply)
     }
 }
 
-// What the lanes of a round share: the round, its crew, how many keys there are, and the last note.
+// What the lanes of a round share: the round, its crew, and how many keys there are.
 #[derive(Drop)]
 struct Scene<'r, K: OfRound> {
     round: &'r RoundOf,
     crew: CrewOf,
     universe: u32,
-    news: Option<News<K>>,
     of: PhantomData<K>,
     ghost together: { table_of K.round ≡ round.now },
     ghost of_round: { crew.round ≡ K.round },
@@ -206,23 +165,6 @@ struct Scene<'r, K: OfRound> {
 }
 
 impl<'r, K: OfRound> Scene<'r, K> {
-    // A note takes the place of the last one.
-    fn keep(&mut self, note: Note<Sum, Extent>)
-        requires { note.round ≡ K.round }
-    {
-        self.news = Some(News::new(note));
-    }
-
-    // The last note, made once more.
-    fn heard(&mut self) -> Option<Note<Sum, Extent>>
-        ensures { IfSome result (λ note. note.round ≡ K.round) }
-    {
-        let News { mut note, of: _ } = self.news.take()?;
-        let again = note.again(self.round);
-        self.keep(again);
-        Some(note)
-    }
-
     // What a lane does whose pass makes whole updates.
     fn walked(&mut self, pass: Walker<'r>, alloc: Global, act: Act) -> (Lane<'r, K>, Reply)
         requires { pass.round ≡ K.round }
@@ -247,21 +189,6 @@ impl<'r, K: OfRound> Scene<'r, K> {
                 Ok(climb) => return goes_on(climb, count),
                 Err(pass) => return (walks(pass), Reply::Not),
             },
-            Act::ByTurns(change) => match start(pass, self.universe, change) {
-                Ok(climb) => return ends(climb),
-                Err(pass) => return (walks(pass), Reply::Not),
-            },
-            Act::Note => {
-                self.keep(pass.note());
-                Reply::Done
-            }
-            Act::Learn(key) => match self.heard() {
-                Some(note) => {
-                    let snapshot = pass.learn(note);
-                    Reply::Is(pass.ask(snapshot, Has(key)))
-                }
-                None => Reply::Not,
-            },
             _ => walk(&mut pass, alloc, self.universe, act),
         };
         (walks(pass), reply)
@@ -281,24 +208,11 @@ impl<'r, K: OfRound> Scene<'r, K> {
 
     // What is done in the place of a pass that is not out.
     fn led(&mut self, act: Act) -> (Lane<'r, K>, Reply) {
-        let reply = match act {
-            Act::Open => return self.opened(),
-            Act::Handed => Reply::Number(self.crew.handed()),
-            Act::Note => {
-                let note = self.crew.note(self.round);
-                self.keep(note);
-                Reply::Done
-            }
-            Act::Learn(_) => match self.heard() {
-                Some(note) => {
-                    self.crew.learn(self.round, note);
-                    Reply::Done
-                }
-                None => Reply::Not,
-            },
-            _ => Reply::Not,
-        };
-        (Lane::Out, reply)
+        match act {
+            Act::Open => self.opened(),
+            Act::Handed => (Lane::Out, Reply::Number(self.crew.handed())),
+            _ => (Lane::Out, Reply::Not),
+        }
     }
 
     // What a lane does.
@@ -349,7 +263,6 @@ fn played<K: OfRound>(
         round,
         crew,
         universe,
-        news: None,
         of: PhantomData,
     };
     let mut lanes = [
@@ -377,14 +290,14 @@ fn played<K: OfRound>(
     (scene.crew, count, missed)
 }
 
-// The same of a round: the trie after it, and how many steps there were, if each came to what it should.
+// The same of a round: the trie after it, if each step came to what it should.
 pub(super) fn steps(
     rt: &impl Host,
     stage: Stage,
     open: u32,
     shows: &str,
     lines: &[Line],
-) -> Result<(Trie, usize), BeginError> {
+) -> Result<Trie, BeginError> {
     let Stage {
         round,
         crew,
@@ -397,5 +310,5 @@ pub(super) fn steps(
         }
         equal(rt, (shows, count, found), (shows, count, expected));
     }
-    Ok((round.end(crew), count))
+    Ok(round.end(crew))
 }

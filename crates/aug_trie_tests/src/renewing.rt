@@ -1,155 +1,137 @@
-//! Rounds that are renewed in their own memory.
-ghost use Rattle.std.specs.Prelude.{◌≡◌, ◌≤◌, IfOk, IfErr};
+//! Rounds that are renewed in their own memory, where readers hold them up, and accounts that are closed.
+ghost use Rattle.std.specs.Prelude.{◌≡◌, ◌^◌, ◌≤◌, IfOk};
 ghost use Rattle.aug_trie.specs.Round.{table_of};
 
-use super::asking::seen_weight;
 use super::playing::changed;
 use super::rounds::{CrewOf, RoundOf};
 use crate::assertions::{equal, holds};
-use crate::eras::{closed_over, gone_on};
-use aug_query::descent::{Size, Weight};
-use aug_trie::Outcome::Accepted;
-use aug_trie::{BeginError, Members, Round};
-use aug_trie_testing::rows::Change;
-use aug_trie_testing::rows::Change::{Insert, Put, Remove};
-use aug_trie_testing::rows::Reply::Came;
+use crate::eras::closed_over;
+use aug_monoid::{Extent, Sum};
+use aug_query::descent::Weight;
+use aug_trie::BeginError::{OutOfMemory, TooLarge};
+use aug_trie::{BeginError, Members, Reader, Round};
+use aug_trie_testing::rows::Change::Insert;
 use std::alloc::Global;
 use std::process::Abort;
 
-// A round of two lanes with two updates each, with room for all keys, in a table of so many parts.
-pub(super) fn begun(alloc: Global, set: Members, parts: u32) -> Result<(RoundOf, CrewOf), Members>
-    requires bits { set.bits ≡ 4 }
+type ReaderOf = Reader<Sum, Extent>;
+
+// A round of two lanes over no keys, with room for all keys, in a table of so many parts.
+fn begun(alloc: Global, parts: u32) -> Result<(RoundOf, CrewOf), BeginError>
     requires parts { 2 ≤ parts }
     ensures bits { IfOk result (λ t. t.1.round.bits ≡ 4) }
-    ensures room { IfOk result (λ t. 16 ≤ t.1.round.room) }
+    ensures room { IfOk result (λ t. 2 ^ t.1.round.bits ≤ t.1.round.room) }
     ensures together { IfOk result (λ t. table_of t.1.round ≡ t.0) }
     ensures none_out { IfOk result (λ t. t.1.back ≡ t.1.handed) }
-    ensures same { IfErr result (λ e. e ≡ set) }
 {
-    Round::begin_for_all(alloc, set, 2, 2, parts)
+    let nothing = Members::empty(alloc, 4)?;
+    Round::begin_for_all(alloc, nothing, 2, 2, parts).map_err(|_| OutOfMemory)
 }
 
-// Makes two changes in a round, with a piece of the next one laid out after each, and renews it.
-fn renewed(
-    rt: &impl Abort,
-    round: &RoundOf,
-    crew: CrewOf,
-    changes: (Change, Change),
-    nodes: u32,
-) -> CrewOf
-    requires bits { crew.round.bits ≡ 4 }
-    requires room { 16 ≤ crew.round.room }
+// The next round, which can begin.
+fn rolled(rt: &impl Abort, round: &RoundOf, crew: CrewOf) -> CrewOf
+    requires room { 2 ^ crew.round.bits ≤ crew.round.room }
     requires together { table_of crew.round ≡ round.now }
     requires none_out { crew.back ≡ crew.handed }
-    ensures bits { result.round.bits ≡ 4 }
-    ensures room { 16 ≤ result.round.room }
+    ensures room { 2 ^ result.round.bits ≤ result.round.room }
     ensures together { table_of result.round ≡ round.now }
     ensures none_out { result.back ≡ result.handed }
 {
     let mut crew = crew;
-    let mut pass = crew.pass(round).expect(rt, "lane 0");
-    changed(&mut pass, 16, changes.0);
-    crew.prepare(round, nodes);
-    changed(&mut pass, 16, changes.1);
-    crew.prepare(round, nodes);
-    crew.back(pass);
     holds(rt, crew.may_renew(round));
-    let (crew, _, _) = round.renew(crew);
-    crew
+    round.renew(crew).0
 }
 
-// Compares the weights of the first and the last key, and of one between, and how many keys there are.
-fn has(rt: &impl Abort, round: &RoundOf, crew: &mut CrewOf, weights: [Option<u32>; 3], size: u32)
-    requires bits { crew.old.round.bits ≡ 4 }
-    requires together { table_of crew.old.round ≡ round.now }
-    ensures { crew.new ≡ record crew.old { steps = crew.new.steps } }
-{
-    equal(rt, crew.ask(round, Weight(0)), weights[0]);
-    equal(rt, crew.ask(round, Weight(7)), weights[1]);
-    equal(rt, crew.ask(round, Weight(15)), weights[2]);
-    equal(rt, crew.ask(round, Size), size);
-}
-
-// Rounds in a table of so many parts, while no reader is out.
-fn go_on(rt: &impl Abort, alloc: Global, parts: u32) -> Result<(), BeginError>
-    requires { 2 ≤ parts }
-{
-    let nothing = Members::empty(alloc, 4)?;
-    let Ok((round, crew)) = begun(alloc, nothing, parts) else {
-        return Err(BeginError::OutOfMemory);
+#[test]
+fn a_reader_goes_back_to_who_answers_for_it(rt: HostRuntime) -> Result<(), BeginError> {
+    let (round, mut crew) = begun(rt.alloc(), 2)?;
+    let mut pass = crew.pass(&round).expect(&rt, "lane 0");
+    let mut other = crew.pass(&round).expect(&rt, "lane 1");
+    let (first, second) = (pass.lend(), pass.lend());
+    // Another pass does not, and the crew only once it has the pass.
+    let Err(first) = other.take_reader(first) else {
+        return Err(TooLarge);
     };
-    // A key that comes, and one that goes again; pieces of a node or two.
-    let mut crew = renewed(rt, &round, crew, (Insert(7), Insert(0)), 0);
-    has(rt, &round, &mut crew, [Some(0), Some(7), None], 2);
-    let mut crew = renewed(rt, &round, crew, (Remove(0), Insert(15)), 1);
-    has(rt, &round, &mut crew, [None, Some(7), Some(15)], 2);
-    // The same weight again, and another one, after all was laid out.
-    let mut crew = renewed(rt, &round, crew, (Put(7, 7), Put(15, 9)), 100);
-    has(rt, &round, &mut crew, [None, Some(7), Some(9)], 2);
-    // A key that goes and comes in between two pieces.
-    let mut crew = renewed(rt, &round, crew, (Remove(7), Put(7, 8)), 3);
-    has(rt, &round, &mut crew, [None, Some(8), Some(9)], 2);
-    // Nothing changes.
-    let mut crew = renewed(rt, &round, crew, (Remove(0), Remove(1)), 2);
-    has(rt, &round, &mut crew, [None, Some(8), Some(9)], 2);
-    let mut crew = renewed(rt, &round, crew, (Remove(7), Remove(15)), 100);
-    has(rt, &round, &mut crew, [None, None, None], 0);
-    // Keys come again.
-    let mut crew = renewed(rt, &round, crew, (Put(15, 3), Insert(0)), 0);
-    has(rt, &round, &mut crew, [Some(0), None, Some(3)], 2);
-    let mut crew = renewed(rt, &round, crew, (Remove(15), Insert(7)), 1);
-    has(rt, &round, &mut crew, [Some(0), Some(7), None], 2);
-    let mut crew = renewed(rt, &round, crew, (Put(0, 1), Put(15, 6)), 4);
-    has(rt, &round, &mut crew, [Some(1), Some(7), Some(6)], 3);
-    let mut crew = renewed(rt, &round, crew, (Remove(7), Remove(0)), 100);
-    has(rt, &round, &mut crew, [None, None, Some(6)], 1);
-    equal(rt, crew.prepare(&round, 100), true);
+    let Err(first) = crew.take_reader(&round, first) else {
+        return Err(TooLarge);
+    };
+    // One of two is taken by the pass, and one is left.
+    holds(&rt, pass.take_reader(second).is_ok());
+    crew.back(pass);
+    crew.back(other);
+    equal(&rt, crew.prepare(&round, 0), false);
+    equal(&rt, crew.prepare(&round, 100), true);
+    let mut crew = rolled(&rt, &round, crew);
+    equal(&rt, crew.may_renew(&round), false);
+    // A pass of the next round reads elsewhere.
+    let mut pass = crew.pass(&round).expect(&rt, "lane 0 of the next round");
+    let Err(first) = pass.take_reader(first) else {
+        return Err(TooLarge);
+    };
+    crew.back(pass);
+    holds(&rt, crew.take_reader(&round, first).is_ok());
+    rolled(&rt, &round, crew);
     Ok(())
 }
 
-#[test]
-fn rounds_begin_over_what_changed_between_their_pieces(rt: HostRuntime) -> Result<(), BeginError> {
-    let (r, alloc) = (&rt, rt.alloc());
-    go_on(r, alloc, 2)?;
-    go_on(r, alloc, 3)?;
-    go_on(r, alloc, 4)
+// A pass of the round lends a reader and comes back.
+fn lent(rt: &impl Abort, round: &RoundOf, crew: CrewOf) -> (CrewOf, ReaderOf)
+    requires room { 2 ^ crew.round.bits ≤ crew.round.room }
+    requires together { table_of crew.round ≡ round.now }
+    requires none_out { crew.back ≡ crew.handed }
+    ensures room { 2 ^ result.0.round.bits ≤ result.0.round.room }
+    ensures together { table_of result.0.round ≡ round.now }
+    ensures none_out { result.0.back ≡ result.0.handed }
+    ensures reader { table_of result.1.round ≡ round.now }
+{
+    let mut crew = crew;
+    let mut pass = crew.pass(round).expect(rt, "lane 0");
+    let reader = pass.lend();
+    crew.back(pass);
+    (crew, reader)
+}
+
+// Readers are out in all parts, so no round begins, until this one is back, in whose part the next one begins. That lends one too.
+fn instead(rt: &impl Abort, round: &RoundOf, crew: CrewOf, reader: ReaderOf) -> (CrewOf, ReaderOf)
+    requires room { 2 ^ crew.round.bits ≤ crew.round.room }
+    requires together { table_of crew.round ≡ round.now }
+    requires none_out { crew.back ≡ crew.handed }
+    requires reader { table_of reader.round ≡ round.now }
+    ensures room { 2 ^ result.0.round.bits ≤ result.0.round.room }
+    ensures together { table_of result.0.round ≡ round.now }
+    ensures none_out { result.0.back ≡ result.0.handed }
+    ensures reader { table_of result.1.round ≡ round.now }
+{
+    let mut crew = crew;
+    equal(rt, crew.may_renew(round), false);
+    equal(rt, crew.prepare(round, 0), true);
+    holds(rt, crew.take_reader(round, reader).is_ok());
+    let crew = rolled(rt, round, crew);
+    lent(rt, round, crew)
 }
 
 #[test]
-fn a_note_of_the_round_before_is_of_another_round(rt: HostRuntime) -> Result<(), BeginError> {
-    let nothing = Members::empty(rt.alloc(), 4)?;
-    let Ok((round, mut crew)) = begun(rt.alloc(), nothing, 2) else {
-        return Err(BeginError::OutOfMemory);
-    };
-    let mut pass = crew.pass(&round).expect(&rt, "lane 0");
-    equal(&rt, changed(&mut pass, 16, Insert(5)), Came(Accepted));
-    let note = pass.note();
-    let half = pass.into_half();
-    holds(&rt, crew.may_renew(&round));
-    let mut crew = gone_on(&round, crew, half, &note);
-    equal(&rt, crew.ask(&round, Size), 1);
-    let mut pass = crew.pass(&round).expect(&rt, "lane 0 of the next round");
-    pass.learn(note);
-    equal(&rt, seen_weight(&mut pass, 5), Some(5));
+fn a_round_begins_in_the_part_of_a_reader_that_is_back(rt: HostRuntime) -> Result<(), BeginError> {
+    let (round, crew) = begun(rt.alloc(), 4)?;
+    let (crew, first) = lent(&rt, &round, crew);
+    let (crew, second) = lent(&rt, &round, rolled(&rt, &round, crew));
+    let (crew, third) = lent(&rt, &round, rolled(&rt, &round, crew));
+    let (crew, _fourth) = lent(&rt, &round, rolled(&rt, &round, crew));
+    let (crew, first) = instead(&rt, &round, crew, first);
+    let (crew, _second) = instead(&rt, &round, crew, second);
+    let (crew, _third) = instead(&rt, &round, crew, third);
+    instead(&rt, &round, crew, first);
     Ok(())
 }
 
 #[test]
 fn a_crew_looks_asks_and_closes_its_account(rt: HostRuntime) -> Result<(), BeginError> {
-    let Ok(nothing) = Members::empty(rt.alloc(), 4) else {
-        return Err(BeginError::OutOfMemory);
-    };
-    let Ok((round, mut crew)) = begun(rt.alloc(), nothing, 2) else {
-        return Err(BeginError::OutOfMemory);
-    };
+    let (round, mut crew) = begun(rt.alloc(), 2)?;
     let mut pass = crew.pass(&round).expect(&rt, "lane 0");
-    equal(&rt, changed(&mut pass, 16, Insert(5)), Came(Accepted));
-    equal(&rt, crew.ask(&round, Size), 0);
+    changed(&mut pass, 16, Insert(5));
     crew.look(&round);
     equal(&rt, crew.ask(&round, Weight(5)), Some(5));
-    equal(&rt, changed(&mut pass, 16, Remove(5)), Came(Accepted));
-    equal(&rt, crew.ask(&round, Size), 1);
     let half = pass.into_half();
-    equal(&rt, closed_over(&round, &mut crew, half), (1, 1, 0));
+    equal(&rt, closed_over(&round, &mut crew, half), (1, 0, 1));
     Ok(())
 }

@@ -1,14 +1,18 @@
-//! How rounds begin, and the round that passes are of.
+//! How rounds begin, and the round that passes are of. What memory was refused is requested once more.
 ghost use Rattle.std.specs.Prelude.{◌≡◌, ◌^◌, IfOk};
 ghost use Rattle.aug_trie.specs.Round.{RoundFacts, table_of};
 ghost use Rattle.aug_trie_tests.specs.Rounds.{no_round};
 
-use crate::assertions::holds;
+use crate::assertions::{equal, holds};
+use aug_model::Summary;
 use aug_monoid::{Extent, Sum};
+use aug_query::ask;
+use aug_query::descent::Range;
 use aug_testing::Host;
-use aug_trie::{BeginError, Climb, Crew, CrewError, Ended, Members, Note, Pass, PassHalf, Round};
+use aug_trie::BeginError::OutOfMemory;
+use aug_trie::{BeginError, Climb, Crew, CrewError, Ended, Members, Pass, PassHalf, Round};
 use aug_trie_testing::rows::{Numbers, Way};
-use std::marker::{Brand, PhantomData};
+use std::marker::Brand;
 
 pub(super) type Trie = Ended<Sum, Extent>;
 
@@ -29,25 +33,6 @@ pub(super) trait OfRound {
 
 impl OfRound for Brand {
     ghost round = { no_round };
-}
-
-// A note of this round.
-#[derive(Drop)]
-pub(super) struct News<K: OfRound> {
-    pub(super) note: Note<Sum, Extent>,
-    pub(super) of: PhantomData<K>,
-    ghost of_round: { note.round ≡ K.round },
-}
-
-impl<K: OfRound> News<K> {
-    pub(super) fn new(note: Note<Sum, Extent>) -> News<K>
-        requires { note.round ≡ K.round }
-    {
-        News {
-            note,
-            of: PhantomData,
-        }
-    }
 }
 
 // A round with its crew, and how many keys there are.
@@ -75,7 +60,7 @@ fn staged(rt: &impl Host, begun: (RoundOf, CrewOf), bits: u32) -> Stage
 }
 
 // A round over a trie, by `begin` if that is the way and the trie has as many bits, or else by `begin_wider`.
-pub(super) fn tried(
+fn tried(
     rt: &impl Host,
     ended: Trie,
     way: Way,
@@ -90,8 +75,32 @@ pub(super) fn tried(
     Ok(staged(rt, begun, bits))
 }
 
+// The bits of a trie at rest, its counts, and its members.
+fn told(ended: &mut Trie) -> (u32, (u32, u32, u32), Summary<Sum, Extent>) {
+    let counts = (ended.inserts(), ended.removals(), ended.missing());
+    (ended.bits(), counts, ask(ended, Range(0, u32::MAX)))
+}
+
+// Begins a round over a trie, which comes back as it was if that is refused, with the cause.
+pub(super) fn kept(
+    rt: &impl Host,
+    ended: Trie,
+    way: Way,
+    numbers: Numbers,
+) -> Result<Stage, (Trie, BeginError)> {
+    let mut ended = ended;
+    let before = told(&mut ended);
+    match tried(rt, ended, way, numbers) {
+        Ok(stage) => Ok(stage),
+        Err((mut ended, cause)) => {
+            equal(rt, told(&mut ended), before);
+            Err((ended, cause))
+        }
+    }
+}
+
 // A round over the list of a set.
-pub(super) fn tried_over(
+fn tried_over(
     rt: &impl Host,
     members: Members,
     numbers: Numbers,
@@ -99,6 +108,48 @@ pub(super) fn tried_over(
     let (bits, workers, updates) = numbers;
     let begun = Round::begin_over(rt.alloc(), members, bits, workers, updates)?;
     Ok(staged(rt, begun, bits))
+}
+
+// A round over the list of a trie's set.
+fn over_list(rt: &impl Host, ended: Trie, numbers: Numbers) -> Result<Stage, BeginError> {
+    let members = match ended.into_members(rt.alloc()) {
+        Ok(members) => members,
+        Err(ended) => ended.into_members(rt.alloc()).map_err(|_| OutOfMemory)?,
+    };
+    let size = members.size();
+    match tried_over(rt, members, numbers) {
+        Ok(stage) => Ok(stage),
+        Err((members, OutOfMemory)) => {
+            equal(rt, members.size(), size);
+            tried_over(rt, members, numbers).map_err(|refused| refused.1)
+        }
+        Err((_, cause)) => Err(cause),
+    }
+}
+
+// A round over a trie.
+pub(super) fn begun(
+    rt: &impl Host,
+    ended: Trie,
+    way: Way,
+    numbers: Numbers,
+) -> Result<Stage, BeginError> {
+    if matches!(way, Way::OverList) {
+        return over_list(rt, ended, numbers);
+    }
+    match kept(rt, ended, way, numbers) {
+        Ok(stage) => Ok(stage),
+        Err((ended, OutOfMemory)) => tried(rt, ended, way, numbers).map_err(|refused| refused.1),
+        Err((_, cause)) => Err(cause),
+    }
+}
+
+// The trie, or an empty one if there is none.
+pub(super) fn or_empty(rt: &impl Host, ended: Option<Trie>, bits: u32) -> Result<Trie, BeginError> {
+    match ended {
+        Some(ended) => Ok(ended),
+        None => Ended::empty(rt.alloc(), bits).or_else(|_| Ended::empty(rt.alloc(), bits)),
+    }
 }
 
 // The pass of the next lane.

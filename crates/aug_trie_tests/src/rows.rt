@@ -1,132 +1,55 @@
-//! Rounds as lines of tables: a row has a name that says what it shows, and rounds that go on from one another. A round is requested again if memory was
-//! refused, and the trie or the list that came back then answers the lines before it again.
+//! Rounds as lines of tables: a row has a name that says what it shows, and rounds that go on from one another.
 use super::playing::steps;
-use super::resting::{came_back, lists, rests};
-use super::rounds::{Stage, Trie, tried, tried_over};
-use crate::assertions::holds;
+use super::rounds::{Trie, begun, kept, or_empty};
+use crate::assertions::equal;
+use aug_query::ask;
+use aug_query::descent::{After, Before, Has, Keys, Pairs, Range, Rank, Select, Size, Weight};
 use aug_testing::Host;
+use aug_trie::BeginError;
 use aug_trie::BeginError::OutOfMemory;
-use aug_trie::{BeginError, Ended, Members};
-use aug_trie_testing::rows::{Line, Numbers, Way};
+use aug_trie_testing::asked;
+use aug_trie_testing::rows::{Act, Line, Numbers, Reply, Way, folded, told_keys, told_pairs};
+use std::alloc::Global;
 
-// The list of a trie's set.
-fn listed(rt: &impl Host, ended: Trie, shows: &str, asked: &[Line]) -> Result<Members, BeginError> {
-    let listed = match ended.into_members(rt.alloc()) {
-        Ok(members) => Ok(members),
-        Err(ended) => {
-            came_back(rt, (ended, OutOfMemory), OutOfMemory, shows, asked)?.into_members(rt.alloc())
+// What a trie at rest says of itself and of the round that ended it, and what the queries answer.
+fn answer(alloc: Global, ended: &mut Trie, act: Act) -> Reply {
+    match act {
+        Act::Bits => Reply::Number(ended.bits()),
+        Act::Universe => Reply::Number(ended.universe()),
+        _ => asked!(act, alloc, ask(ended,)),
+    }
+}
+
+// Compares what a trie at rest answers.
+fn rested(rt: &impl Host, ended: Trie, shows: &str, line: Line) -> Result<Trie, BeginError> {
+    let mut ended = ended;
+    match line {
+        Line::Rest(act, expected) => {
+            let found = answer(rt.alloc(), &mut ended, act);
+            if found == Reply::NoMemory {
+                return Err(OutOfMemory);
+            }
+            equal(rt, (shows, found), (shows, expected));
         }
-    };
-    let Ok(members) = listed else {
-        return Err(OutOfMemory);
-    };
-    lists(rt, &members, shows, asked);
-    Ok(members)
-}
-
-// A round over such a list.
-fn begun_over(
-    rt: &impl Host,
-    members: Members,
-    numbers: Numbers,
-    shows: &str,
-    asked: &[Line],
-) -> Result<Stage, BeginError> {
-    let refused = match tried_over(rt, members, numbers) {
-        Ok(stage) => return Ok(stage),
-        Err(refused) => refused,
-    };
-    if refused.1 != OutOfMemory {
-        return Err(refused.1);
+        Line::End(size, counts) => {
+            let found = (ended.inserts(), ended.removals(), ended.missing());
+            equal(rt, (shows, ended.size(), found), (shows, size, counts));
+        }
+        _ => panic!(rt; "{shows}: a line of no trie at rest"),
     }
-    lists(rt, &refused.0, shows, asked);
-    tried_over(rt, refused.0, numbers).map_err(|refused| refused.1)
-}
-
-// A round over a trie that answered these lines.
-fn begun(
-    rt: &impl Host,
-    ended: Trie,
-    way: Way,
-    numbers: Numbers,
-    shows: &str,
-    asked: &[Line],
-) -> Result<Stage, BeginError> {
-    if matches!(way, Way::OverList) {
-        let members = listed(rt, ended, shows, asked)?;
-        return begun_over(rt, members, numbers, shows, asked);
-    }
-    let refused = match tried(rt, ended, way, numbers) {
-        Ok(stage) => return Ok(stage),
-        Err(refused) => refused,
-    };
-    let ended = came_back(rt, refused, OutOfMemory, shows, asked)?;
-    tried(rt, ended, way, numbers).map_err(|refused| refused.1)
-}
-
-// The empty set, if there is no trie.
-fn or_empty(rt: &impl Host, ended: Option<Trie>, bits: u32) -> Result<Trie, BeginError> {
-    match ended {
-        Some(ended) => Ok(ended),
-        None => Ended::empty(rt.alloc(), bits).or_else(|_| Ended::empty(rt.alloc(), bits)),
-    }
-}
-
-// A round over the empty set.
-pub(super) fn empty(rt: &impl Host, numbers: Numbers) -> Result<Stage, BeginError> {
-    let ended = or_empty(rt, None, numbers.0)?;
-    begun(rt, ended, Way::Begin, numbers, "the empty set", &[])
-}
-
-// The lines from the first number on and before the second.
-fn between(lines: &[Line], from: usize, to: usize) -> &[Line] {
-    lines.get(from..to).unwrap_or(&[])
+    Ok(ended)
 }
 
 // The trie that comes back where a round is refused.
-fn refused(
-    rt: &impl Host,
-    ended: Option<Trie>,
-    round: (Way, Numbers, BeginError),
-    shows: &str,
-    asked: &[Line],
-) -> Result<Trie, BeginError> {
+fn refused(rt: &impl Host, ended: Trie, round: (Way, Numbers, BeginError), shows: &str) -> Trie {
     let (way, numbers, cause) = round;
-    let ended = or_empty(rt, ended, numbers.0)?;
-    match tried(rt, ended, way, numbers) {
-        Ok(_) => panic!(rt;
-            "{shows}: {} bits, {} workers, {} updates",
-            numbers.0, numbers.1, numbers.2
-        ),
-        Err(refused) => came_back(rt, refused, cause, shows, asked),
+    match kept(rt, ended, way, numbers) {
+        Ok(_) => panic!(rt; "{shows}: {} {} {}", numbers.0, numbers.1, numbers.2),
+        Err((ended, found)) => {
+            equal(rt, (shows, numbers, found), (shows, numbers, cause));
+            ended
+        }
     }
-}
-
-// A round in which the first lines happen, up to one that is no step: the trie after it, and how many these were.
-fn played(
-    rt: &impl Host,
-    ended: Option<Trie>,
-    round: (Way, Numbers, u32),
-    shows: &str,
-    asked: &[Line],
-    lines: &[Line],
-) -> Result<(Trie, usize), BeginError> {
-    let (way, numbers, open) = round;
-    let ended = or_empty(rt, ended, numbers.0)?;
-    let stage = begun(rt, ended, way, numbers, shows, asked)?;
-    steps(rt, stage, open, shows, lines)
-}
-
-// The trie that answered what it should.
-fn rested(
-    rt: &impl Host,
-    ended: Option<Trie>,
-    shows: &str,
-    line: Line,
-) -> Result<Trie, BeginError> {
-    let mut ended = ended.expect(rt, "a trie");
-    holds(rt, rests(rt, &mut ended, shows, line)?);
-    Ok(ended)
 }
 
 // The rows of a table, of which the first may go on over a trie: the trie after them, if there was a round.
@@ -135,28 +58,25 @@ pub(super) fn rows_over(
     ended: Option<Trie>,
     table: &[Line],
 ) -> Result<Option<Trie>, BeginError> {
-    let (mut ended, mut shows, mut from) = (ended, "", 0usize);
+    let (mut ended, mut shows) = (ended, "");
     for (number, line) in table.iter().enumerate() {
-        let asked = between(table, from, number);
         match *line {
             Line::Row(name) => {
                 ended = None;
                 shows = name;
-                from = number;
             }
-            Line::And(name) => shows = name,
             Line::Round(way, numbers, open) => {
-                from = number.saturating_add(1);
-                let lines = between(table, from, table.len());
-                let (next, count) = played(rt, ended, (way, numbers, open), shows, asked, lines)?;
-                ended = Some(next);
-                from = from.saturating_add(count);
+                let stage = begun(rt, or_empty(rt, ended, numbers.0)?, way, numbers)?;
+                let lines = table.get(number.saturating_add(1)..).unwrap_or(&[]);
+                ended = Some(steps(rt, stage, open, shows, lines)?);
             }
             Line::Refuses(way, numbers, cause) => {
-                ended = Some(refused(rt, ended, (way, numbers, cause), shows, asked)?);
+                let kept = or_empty(rt, ended, numbers.0)?;
+                ended = Some(refused(rt, kept, (way, numbers, cause), shows));
             }
-            line if number >= from => ended = Some(rested(rt, ended, shows, line)?),
-            _ => {}
+            // These were played with their round.
+            Line::A(_, _) | Line::B(_, _) | Line::C(_, _) => {}
+            line => ended = Some(rested(rt, ended.expect(rt, "a trie"), shows, line)?),
         }
     }
     Ok(ended)

@@ -3,19 +3,39 @@ ghost use Rattle.std.specs.Prelude.{◌≡◌, ◌^◌};
 ghost use Rattle.aug_trie.specs.Round.{table_of};
 
 use super::playing::changed;
-use super::rounds::{CrewOf, Half, News, OfRound, RoundOf, Stage, next_pass};
-use super::rows::empty;
+use super::rounds::{CrewOf, Half, OfRound, RoundOf, Stage, begun, next_pass, or_empty};
 use crate::assertions::{equal, holds};
+use aug_monoid::{Extent, Sum};
 use aug_query::descent::Has;
 use aug_testing::Host;
-use aug_trie::BeginError;
+use aug_trie::{BeginError, Note};
 use aug_trie_testing::rows::Change::Insert;
+use aug_trie_testing::rows::Way::Begin;
 use crossbeam_channel::{Receiver, Sender, unbounded};
 use std::alloc::Global;
-use std::marker::{Brand, Send};
+use std::marker::{Brand, PhantomData, Send};
 use std::sync::Wait;
 use std::thread;
 use std::thread::Threads;
+
+// A note of this round.
+#[derive(Drop)]
+struct News<K: OfRound> {
+    note: Note<Sum, Extent>,
+    of: PhantomData<K>,
+    ghost of_round: { note.round ≡ K.round },
+}
+
+impl<K: OfRound> News<K> {
+    fn new(note: Note<Sum, Extent>) -> News<K>
+        requires { note.round ≡ K.round }
+    {
+        News {
+            note,
+            of: PhantomData,
+        }
+    }
+}
 
 // Puts the keys of 4 bits in, and tells of each.
 fn tells<K: OfRound, R: Wait>(
@@ -96,7 +116,7 @@ fn a_thread_that_heard_of_a_key_sees_it(rt: HostRuntime) -> Result<(), BeginErro
         round,
         crew,
         universe,
-    } = empty(&rt, (4, 2, 16))?;
+    } = begun(&rt, or_empty(&rt, None, 4)?, Begin, (4, 2, 16))?;
     holds(&rt, universe == 16);
     let (crew, shown) = spoken::<Brand, HostRuntime>(&rt, &round, crew);
     holds(&rt, shown);

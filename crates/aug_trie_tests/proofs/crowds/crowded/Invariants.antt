@@ -1,8 +1,8 @@
 use Rattle.std.proofs.Common.{◌≡◌}
 use Rattle.aug_trie_tests.proofs.crowds.crowded.Given as goal
 
-abbrev pub invariant-loop-task : goal.invariant-loop-task
-invariant-loop-task g l = l.crew.round ≡ g.K.OfRound.round
+abbrev pub invariant-loop : goal.invariant-loop
+invariant-loop g l = l.crew.round ≡ g.K.OfRound.round
 
 abbrev pub invariant-loop-hand : goal.invariant-loop-hand
 invariant-loop-hand g l = record {

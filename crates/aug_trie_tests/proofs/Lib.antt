@@ -1,2 +1,0 @@
--- The proofs of the tests of `aug_trie`.
-mod Lents

@@ -6,7 +6,7 @@ use Rattle.std.proofs.lemmas.Bool.{cases_eq, eq-eqb, ne_eqb}
 use Rattle.aug_core.specs.Layout.{IsOutside, IsWithin}
 use Rattle.aug_model.specs.Keys.{SetFacts}
 use Rattle.aug_live.specs.LiveHandles.{HandleFacts, IsNew}
-use Rattle.aug_live.specs.LiveTries.{Closes, IsOpenedTrie, KnowsMore}
+use Rattle.aug_live.specs.LiveTries.{Closes, IsOpenedTrie, KeepsHandles}
 use Rattle.aug_live.specs.Plans.{IsGreatest, Suits}
 use Rattle.aug_live.specs.declared.counts.LiveCounts.{LiveCounts}
 use Rattle.aug_live.specs.declared.plan.Plan.{Plan}
@@ -104,7 +104,7 @@ closed_for_good old new before set counts size none closes is = record {
 }
 
 -- a trie that was not closed
-pub goes_on : (old trie : Opened) (new : RawHandle) (report : ClosingReport) → state_of new ≡ Trie trie → new.tag ≡ trie_mark → KnowsMore old.live trie.live → trie.spare ≡ old.spare → ClosesOpened old new report report codes.again
+pub goes_on : (old trie : Opened) (new : RawHandle) (report : ClosingReport) → state_of new ≡ Trie trie → new.tag ≡ trie_mark → KeepsHandles old.live trie.live → trie.spare ≡ old.spare → ClosesOpened old new report report codes.again
 goes_on old trie new report is mark more same = record {
   closed = apart codes.again (pos 0) refl;
   goes_on = λ _. (trie, is, mark, more, same, refl);

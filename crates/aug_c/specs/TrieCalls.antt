@@ -5,7 +5,7 @@ use Rattle.std.specs.Prelude.{◌≡◌, ◌≢◌, ◌⊎◌, ℕ, ◌↔◌, �
 use Rattle.aug_core.specs.Layout.{IsOutside, IsWithin}
 use Rattle.aug_model.specs.Keys.{SetFacts}
 use Rattle.aug_live.specs.LiveHandles.{HandleFacts, IsNew}
-use Rattle.aug_live.specs.LiveTries.{Closes, IsOpenedTrie, KnowsMore, TrieFacts}
+use Rattle.aug_live.specs.LiveTries.{Closes, IsOpenedTrie, KeepsHandles, TrieFacts}
 use Rattle.aug_live.specs.Plans.{IsGreatest, Suits}
 use Rattle.aug_live.specs.declared.counts.LiveCounts.{LiveCounts}
 use Rattle.aug_live.specs.declared.plan.Plan.{Plan}
@@ -65,10 +65,10 @@ pub record IsReport (trie : TrieFacts) (report : ClosingReport) : Type 0 where
   pub inserts : report.inserts ≡ counts.inserts
   pub removals : report.removals ≡ counts.removals
 
--- a trie is closed, or goes on
+-- a trie is closed, or goes on: then no access was made of it, and none of the spare ones has changed, so no update was made by them
 pub record ClosesOpened (old : Opened) (new : RawHandle) (before after : ClosingReport) (code : ℤ) : Type 0 where
   pub closed : code ≡ pos 0 → (state_of new ≡ Closed) × IsReport old.live after
-  pub goes_on : code ≢ pos 0 → (trie : Opened) × (state_of new ≡ Trie trie) × (new.tag ≡ trie_mark) × KnowsMore old.live trie.live × (trie.spare ≡ old.spare) × (after ≡ before)
+  pub goes_on : code ≢ pos 0 → (trie : Opened) × (state_of new ≡ Trie trie) × (new.tag ≡ trie_mark) × KeepsHandles old.live trie.live × (trie.spare ≡ old.spare) × (after ≡ before)
   pub others : (code ≡ pos 0) ⊎ (code ≡ codes.again)
 
 abbrev pub ClosesTrie : HandleState → RawHandle → ClosingReport → ClosingReport → ℤ → Type 0

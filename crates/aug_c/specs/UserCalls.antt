@@ -101,11 +101,11 @@ AsksRoom = UpdatesUser TellsRoom ⊤
 abbrev pub InsertsKey : ℕ → RawHandle → RawHandle → ℤ → Type 0
 InsertsKey key = UpdatesUser (λ old new code. (told : WeightsTold × WeightsTold) × UpdatesFree Insert key told.0 told.1 old new code) ⊤
 
--- a user that has no look takes one, or follows on what it knew
+-- a user that has no look takes one, or follows on what it knew. It is not told that it has one
 pub record TakesFirst (old : HandleFacts) (new : UserFacts) (code : ℤ) : Type 0 where
   pub looks : code ≡ pos 0 → (look : LookFacts) × (new.look ≡ Some look) × OpensLook old new.access look
   pub refused : code ≢ pos 0 → (new.look ≡ None) × Follows old new.access × (code ≡ codes.closed → ShowsClosed new.access)
-  pub others : (code ≡ pos 0) ⊎ (code ≡ codes.again) ⊎ (code ≡ codes.closed) ⊎ (code ≡ codes.looking)
+  pub others : (code ≡ pos 0) ⊎ (code ≡ codes.again) ⊎ (code ≡ codes.closed)
 
 -- a user with such an access takes a look, unless it has one
 abbrev pub TakesLook : HandleFacts → Option LookFacts → UserFacts → ℤ → Type 0

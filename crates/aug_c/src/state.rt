@@ -58,13 +58,13 @@ pub enum HandleState {
     User(User),
 }
 
-// The code of why a look was not taken. A lock that has as many owners as can be counted has fewer again.
+// The code of why a user that has no look was given none. A lock that has as many owners as can be counted has fewer again, and a slot of which no look of this
+// user has what lies there is full again.
 fn look_refusal(cause: TryError<Busy>) -> i64
     ensures { result ≡ look_code cause }
 {
     match cause {
-        TryError::Refused(LiveError::Looking(_)) => LOOKING,
-        TryError::Refused(LiveError::TooMany) => AGAIN,
+        TryError::Refused(LiveError::Looking(_) | LiveError::TooMany) => AGAIN,
         cause => CallRefusal::of(cause).code(),
     }
 }

@@ -21,7 +21,7 @@ refused_look live.Exhausted = codes.closed
 refused_look live.Replaced = codes.closed
 refused_look live.NoLane = codes.closed
 refused_look live.TooMany = codes.again
-refused_look (live.Looking found) = codes.looking
+refused_look (live.Looking found) = codes.again
 
 -- and why it was not taken
 abbrev pub look_code : TryError Busy → ℤ

@@ -446,28 +446,23 @@ int64_t aug_list_back(aug_user *user, uint32_t below, uint32_t *keys, uint32_t *
     OF_BOTH(aug_try_list_back(user, below, ARRAY(keys), room, ARRAY(weights), room));
 }
 
-/* How many changes a proved call writes at most: it writes fewer only if no more come. */
+/* How many changes aug_try_changes writes at most: it writes fewer only if no more come. */
 enum { PAGE = 32 };
-
-/* Changes, a page after the other, from the key `from` on, which each call names. */
-#define OF_PAGES(call) do { \
-    aug_change *next = ARRAY(out); \
-    size_t left = room; \
-    for (;;) { \
-        const size_t places = left < PAGE ? left : PAGE; \
-        int64_t code_ = (call); \
-        if (code_ < 0) return code_; \
-        next += code_; \
-        left -= (size_t)code_; \
-        if (code_ < PAGE || !left) return (int64_t)(room - left); \
-        from = next[-1].key + 1; \
-    } \
-} while (0)
 
 int64_t aug_changes(aug_user *user, uint32_t from, aug_change *out, size_t room) {
     int64_t refused = refuses(user, NULL, 0, out, room);
     if (refused != AUG_OK) return refused;
-    OF_PAGES(aug_try_changes(user, from, next, places));
+    aug_change *next = ARRAY(out);
+    size_t left = room;
+    for (;;) {
+        const size_t places = left < PAGE ? left : PAGE;
+        int64_t code = aug_try_changes(user, from, next, places);
+        if (code < 0) return code;
+        next += code;
+        left -= (size_t)code;
+        if (code < PAGE || !left) return (int64_t)(room - left);
+        from = next[-1].key + 1;
+    }
 }
 
 int64_t aug_changes_since(aug_user *user, const uint32_t *keys, const uint32_t *weights, size_t n, uint32_t from, aug_change *out, size_t room) {
@@ -475,7 +470,9 @@ int64_t aug_changes_since(aug_user *user, const uint32_t *keys, const uint32_t *
     if (refused == AUG_OK) refused = refuses(user, weights, n, weights, n);
     if (refused == AUG_OK) refused = refuses(user, NULL, 0, out, room);
     if (refused != AUG_OK) return refused;
+    const size_t key_count = universe(user);
     /* The proved call refuses keys that do not rise. */
-    if (n && keys[n - 1] >= universe(user)) return AUG_BAD_KEY;
-    OF_PAGES(aug_try_changes_since(user, ARRAY(keys), n, ARRAY(weights), n, from, next, places));
+    if (n && keys[n - 1] >= key_count) return AUG_BAD_KEY;
+    /* No more changes come than there are keys. */
+    return aug_try_changes_since(user, ARRAY(keys), n, ARRAY(weights), n, from, ARRAY(out), room < key_count ? room : key_count);
 }

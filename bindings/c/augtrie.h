@@ -15,11 +15,14 @@
  *   aug_close(&t, NULL);
  *
  * What a user sees of others. All updates of a trie are in one order. A look shows the set after a part of them: after its user's own so
- * far, and all that this user has seen before, so that no look goes back. That the updates of others which have returned are in it too is
- * proved on paper for the algorithm, and tested, but not proved of this code. A look stays as it is until it is done or taken again, while
- * its user and others update, over new rounds, and after aug_close.
- * What waits for whom. Most calls wait for nobody. When the table is full, an update begins a new round of it, which waits for the call
- * that each other user is in; others wait for that. Nobody waits for a look, with one exception: the table has three parts, each for a
+ * far, and all that this user has seen before, so that no look goes back. That the updates of different users have one order, and that those
+ * which have returned are in each later look, is proved on paper for the algorithm, and tested, but not proved of this code. A look stays as it
+ * is until it is done or taken again, while its user and others update, over new rounds, and after aug_close.
+ * What waits for whom. Most calls wait for nobody. When a user's part of the table is full, its next update waits for whoever takes a further
+ * part or lays a piece of the next round out, and so may its next look. When the table is full, an update begins a new round of it, which waits
+ * for the call that each other user is in; updates and new looks wait for that. So a thread that stands still in an update or a new look
+ * (suspended, or debugged) stops all others of these once the table is full, which two threads that only update fill within a second; and while
+ * it takes a part or lays a piece out, it stops those whose parts are full. Nobody waits for a look, with one exception: the table has three parts, each for a
  * round, and a look keeps the part of its round. So while looks of two different earlier rounds are open, the round at work is the last: when
  * that is full, updates wait until the looks of one of the two are done or taken again. Two users that update beside such looks of their own
  * may wait for one another, so take a look again from time to time if you keep it while you update. The calls aug_try_.. never wait, and
@@ -37,7 +40,8 @@
  * Answers. Each call answers a number that is 0 or more, or one of the codes below. A call that answers a code has changed nothing of the
  * set, except one for an array that answers AUG_CLOSED or AUG_AGAIN. A handle that is null, zeroed, closed, or of the other kind is
  * answered AUG_CLOSED. aug_open and aug_user_open open a zeroed or closed one, and leave an open one of either kind as it was. Only these
- * two take memory. The calls aug_try_.. are proved, with all that they answer; the others, which call these again, are not.
+ * two take memory. The calls aug_try_.. are proved to do what they answer, but not to answer AUG_AGAIN or AUG_NO_MEMORY only where they have
+ * to; the others, which call these again, are not proved.
  */
 #ifndef AUGTRIE_H
 #define AUGTRIE_H
@@ -182,8 +186,8 @@ AUG_NODISCARD int64_t aug_user_open(aug_trie *trie, aug_user *user);
 int64_t aug_user_close(aug_user *user);
 
 /* Lays a piece of the next round out, once the table is nearly full, in some microseconds. Updates do the same in between; a thread that has a
-   processor to spare takes that work off them if it calls this again and again. It waits for aug_user_open, aug_user_close and aug_close alone. Answers 1
-   if there is more to do now, 0 if there is not or somebody else is at it, so that it may sleep a little, or AUG_CLOSED. */
+   processor to spare takes that work off them if it calls this again and again. It waits for aug_user_open, aug_user_close, aug_close and itself in other
+   threads alone. Answers 1 if there is more to do now, 0 if there is not or somebody else is at it, so that it may sleep a little, or AUG_CLOSED. */
 int64_t aug_tend(aug_trie *trie);
 
 /* Closes the trie. Updates and new looks of its users answer AUG_CLOSED from then on, but a look that is open is asked as before. `report` may be null.
@@ -221,11 +225,12 @@ AUG_NODISCARD int64_t aug_pop_last(aug_user *user, aug_member *member);
    is more than 2^bits. Except after AUG_CLOSED, no update was made then. Keys that rise take least. */
 AUG_NODISCARD int64_t aug_insert_all(aug_user *user, const uint32_t *keys, size_t n);
 
-/* Takes n keys out. Answers how many were there, or as aug_insert_all. */
+/* Takes n keys out. Answers how many it took out, not those that another user changed meanwhile, or as aug_insert_all. */
 AUG_NODISCARD int64_t aug_remove_all(aug_user *user, const uint32_t *keys, size_t n);
 
 /* Puts n keys in, each with the weight that has its index, or gives a member this weight. Answers how many of the updates changed the
-   set, or as aug_insert_all; or AUG_BAD_LENGTH if there are not as many weights as keys. */
+   set, or as aug_insert_all; or AUG_BAD_LENGTH if there are not as many weights as keys. A key that another user changed meanwhile stays as that
+   left it, as by aug_put. */
 AUG_NODISCARD int64_t aug_put_all(aug_user *user, const uint32_t *keys, size_t n, const uint32_t *weights, size_t weight_count);
 
 /* How many updates are left to the user in its part of the table, and makes none. The next one after these takes a part that is spare, or begins
@@ -235,8 +240,8 @@ AUG_NODISCARD int64_t aug_room(aug_user *user);
 
 /* ---- Looks ---- */
 
-/* Takes a snapshot, which the queries below are answered from. A user has one look at a time. Answers 0, or AUG_CLOSED, AUG_LOOKING. While a new
-   round is begun, it waits for that. */
+/* Takes a snapshot, which the queries below are answered from. A user has one look at a time. Answers 0, or AUG_CLOSED, or AUG_LOOKING if it has one.
+   It waits while a new round is begun, and, if its user's part was full since the look before, for whoever takes a part or lays a piece out. */
 AUG_NODISCARD int64_t aug_look(aug_user *user);
 
 /* Takes a newer snapshot in the same look. Answers 0 if it is of the same round as the one before: then aug_changes tells what is new in it. Answers 1
@@ -311,7 +316,8 @@ AUG_NODISCARD int64_t aug_changes(aug_user *user, uint32_t from, aug_change *out
 
 /* The same between a set that you listed and the snapshot: n keys that rise, each with the weight that has its index, as aug_list wrote them. So what
    changed over a roll-over is told too, or since a look that has ended. Answers as aug_changes; AUG_BAD_KEY if the keys do not rise, or one is not below
-   2^bits; or AUG_BAD_LENGTH if n is more than 2^bits. Then nothing is written. It goes over all members of both, however few of them changed. */
+   2^bits; or AUG_BAD_LENGTH if n is more than 2^bits. Then nothing is written. Each call goes over the whole list, and over all members of both from `from` on, however few of them changed: so
+   give it room for many changes at a time. */
 AUG_NODISCARD int64_t aug_changes_since(aug_user *user, const uint32_t *keys, const uint32_t *weights, size_t n, uint32_t from, aug_change *out, size_t room);
 
 /* ---- The calls that never wait: what they may answer beside that is AUG_AGAIN. No handle, array or result may be null. ---- */

@@ -403,7 +403,7 @@ PyType_Spec iterator_spec = {"augtrie.MemberIterator", sizeof(Iterator), 0, Py_T
 
 /* ---- What changed ---- */
 
-/* How many changes are listed at a time. */
+/* How many changes are listed at first. Each further page is twice as long, since the library tests all of a list of members for each. */
 enum { CHANGES = 32 };
 
 typedef struct {
@@ -413,28 +413,32 @@ typedef struct {
     uint32_t *members;  /* which the source is compared with, the keys and then the weights; NULL if it is what it showed before */
     size_t kept;        /* how many members these are */
     uint32_t from;      /* from here on changes are not listed yet */
-    size_t next, count; /* a page that is not full is the last */
-    aug_change page[CHANGES];
+    size_t next, count, places; /* a page that is not full is the last */
+    aug_change *page;
 } Changes;
 
 /* It owns the members then, or frees them with an exception. */
 static PyObject *changes_of(Snapshot *source, uint32_t *members, size_t kept) {
-    Changes *changes = PyObject_New(Changes, changes_type);
+    aug_change *page = PyMem_Malloc(CHANGES * sizeof *page);
+    Changes *changes = page ? PyObject_New(Changes, changes_type) : (Changes *)PyErr_NoMemory();
     if (!changes) {
+        PyMem_Free(page);
         PyMem_Free(members);
         return NULL;
     }
+    changes->page = page;
     changes->members = members;
     changes->kept = kept;
     Py_INCREF(source);
     changes->source = source;
     changes->renewals = source->renewals;
     changes->from = 0;
-    changes->next = changes->count = CHANGES;
+    changes->next = changes->count = changes->places = CHANGES;
     return (PyObject *)changes;
 }
 
 static void changes_free(PyObject *self) {
+    PyMem_Free(((Changes *)self)->page);
     PyMem_Free(((Changes *)self)->members);
     Py_DECREF(((Changes *)self)->source);
     free_object(self);
@@ -457,22 +461,28 @@ static int list_changes(Changes *changes) {
     Seat *seat = begin((PyObject *)changes->source);
     if (!seat || refuse_renewed(changes)) return -1;
     /* Another thread may have come first, if this one had to wait. */
-    if (changes->next < changes->count || changes->count < CHANGES) return 0;
-    int64_t count = changes->members ? changes_since(seat, changes->members, changes->kept, changes->from, changes->page, CHANGES)
-                                     : aug_changes(&seat->handle, changes->from, changes->page, CHANGES);
+    if (changes->next < changes->count || changes->count < changes->places) return 0;
+    if (changes->from && changes->places < AUG_MOST_KEYS) {
+        aug_change *longer = PyMem_Realloc(changes->page, 2 * changes->places * sizeof *longer);
+        if (!longer) return PyErr_NoMemory(), -1;
+        changes->page = longer;
+        changes->next = changes->count = changes->places *= 2;
+    }
+    int64_t count = changes->members ? changes_since(seat, changes->members, changes->kept, changes->from, changes->page, changes->places)
+                                     : aug_changes(&seat->handle, changes->from, changes->page, changes->places);
     if (count < 0) {
         raise_code(count);
         return -1;
     }
     changes->next = 0;
     changes->count = (size_t)count;
-    if (count == CHANGES) changes->from = changes->page[CHANGES - 1].key + 1;
+    if (changes->count == changes->places) changes->from = changes->page[changes->places - 1].key + 1;
     return 0;
 }
 
 static PyObject *changes_next(PyObject *self) {
     Changes *changes = (Changes *)self;
-    if (changes->next == changes->count && changes->count == CHANGES && list_changes(changes)) return NULL;
+    if (changes->next == changes->count && changes->count == changes->places && list_changes(changes)) return NULL;
     if (changes->next == changes->count || refuse_renewed(changes)) return NULL;
     const aug_change change = changes->page[changes->next++];
     PyObject *before = number_or_none(change.before);

@@ -14,14 +14,19 @@ pub struct Change {
     pub now: Option<u32>,
 }
 
-/// What changed between two snapshots of a look, or between a list and a look, by rising keys. It asks for up to 32 changes at a time, and keeps those.
+// How many changes are asked for at first, and at most, which are as many as keys.
+const FIRST_PAGE: usize = 32;
+const LAST_PAGE: usize = 1 << 16;
+
+/// What changed between two snapshots of a look, or between a list and a look, by rising keys. It asks for 32 changes at first, and then for twice as many each
+/// time, since a list is tested each time from its first member to its last. It keeps these.
 #[derive(Debug, Clone)]
 #[must_use = "an iterator lists nothing by itself"]
 pub struct Changes<'a, 'user> {
     look: &'a Look<'user>,
     // The keys and the weights of a list, or none if it is the look's snapshot before that it is compared with.
     since: Option<(&'a [u32], &'a [u32])>,
-    page: [ffi::Change; 32],
+    page: Vec<ffi::Change>,
     next: usize,
     count: usize,
     // The key from which more are asked for, or none after the last page.
@@ -30,7 +35,7 @@ pub struct Changes<'a, 'user> {
 
 impl<'a, 'user> Changes<'a, 'user> {
     pub(crate) fn of(look: &'a Look<'user>, since: Option<(&'a [u32], &'a [u32])>) -> Changes<'a, 'user> {
-        Changes { look, since, page: [ffi::Change::default(); 32], next: 0, count: 0, from: Some(0) }
+        Changes { look, since, page: vec![ffi::Change::default(); FIRST_PAGE], next: 0, count: 0, from: Some(0) }
     }
 
     // Lists the first changes from a key on: how many.
@@ -53,6 +58,9 @@ impl Iterator for Changes<'_, '_> {
     fn next(&mut self) -> Option<Change> {
         if self.next == self.count {
             let from = self.from?;
+            if from > 0 && self.page.len() < LAST_PAGE {
+                self.page.resize(2 * self.page.len(), ffi::Change::default());
+            }
             let count = self.list(from)?;
             (self.next, self.count) = (0, count as usize);
             // A page that is not full is the last.

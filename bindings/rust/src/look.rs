@@ -62,7 +62,7 @@ impl<'user> Look<'user> {
     }
 
     /// Takes a newer snapshot in the same look, and tells whether [`changes`](Look::changes) has the one before to compare it with. Refused with `Closed`,
-    /// and then the look shows what it showed. While a new round is begun, it waits for that.
+    /// and then the look shows what it showed. It waits as an update does.
     pub fn again(&mut self) -> Result<Again, Error> {
         let is_anew = number(ffi::aug_look_again(self.handle()))? == 1;
         Ok(if is_anew { Again::NothingToCompare } else { Again::Comparable })

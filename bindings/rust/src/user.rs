@@ -33,8 +33,10 @@ pub struct Told {
 
 /// A user of a trie, for one thread at a time: it updates the set, or looks at it. Dropping it frees its place for another.
 ///
-/// Updates are refused with `Closed` if the trie was closed, and `BadKey` if the key is not below `2^bits`. Most wait for nobody. If the table is
-/// full, an update begins a new round of it, and waits for the call that each other user is in.
+/// Updates are refused with `Closed` if the trie was closed, and `BadKey` if the key is not below `2^bits`. Most wait for nobody. If the
+/// user's part of the table is full, an update waits for whoever takes a further part or lays a piece of the next round out, and so may the next look. If the
+/// table is full, it begins a new round of it, and waits for the call that each other user is in: so a thread that stands still in an update or a new look
+/// stops all others of these then.
 ///
 /// Nobody waits for a look, with one exception. The table has three parts, each for a round, and a look keeps the part of its round. So while
 /// looks of two different earlier rounds are open, the round at work is the last: once that is full, updates wait until the looks of one of the
@@ -145,15 +147,15 @@ macro_rules! updates {
                 self.number(answer, keys)
             }
 
-            /// Takes keys out. How many were there. Refused as `insert_all`.
+            /// Takes keys out. How many it took out, not those that another user changed meanwhile. Refused as `insert_all`.
             pub fn remove_all(&mut self, keys: &[u32]) -> Result<u32, Error> {
                 // SAFETY: the pointer is that of a slice of this length.
                 let answer = unsafe { ffi::aug_remove_all(self.handle(), keys.as_ptr(), keys.len()) };
                 self.number(answer, keys)
             }
 
-            /// Puts keys in, each with the weight that has its index, or gives members these weights. How many updates changed the set. Refused as
-            /// `insert_all`, and with `BadLength` if there are not as many weights as keys.
+            /// Puts keys in, each with the weight that has its index, or gives members these weights. How many updates changed the set: a key that another
+            /// user changed meanwhile stays as that left it. Refused as `insert_all`, and with `BadLength` if there are not as many weights as keys.
             pub fn put_all(&mut self, keys: &[u32], weights: &[u32]) -> Result<u32, Error> {
                 // SAFETY: the pointers are those of slices of these lengths.
                 let answer = unsafe { ffi::aug_put_all(self.handle(), keys.as_ptr(), keys.len(), weights.as_ptr(), weights.len()) };

@@ -7,3 +7,4 @@ pub mod Opening
 pub mod Reading
 pub mod Turns
 pub mod Listing
+pub mod Since

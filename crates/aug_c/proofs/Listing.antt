@@ -96,64 +96,72 @@ below_behind set at k n up within is =
 pub rises_in : (look : LookFacts) → IsStrictlyIncreasing (list_of (set_of_look look))
 rises_in look = members_rise (snapshot_cut look.reader look.snapshot.number)
 
--- what was written of some numbers, after so many of them were listed: no more than there is room for
-pub record Wrote (xs before now : List ℕ) (listed : ℕ) : Type 0 where
+-- what was written of some values, after so many of them were listed: no more than there is room for
+pub record Wrote {X : Type 0} (xs before now : List X) (listed : ℕ) : Type 0 where
   pub are : now ≡ take (length before) (take listed xs) ++ drop listed before
 
-pub wrote_none : (xs before : List ℕ) → Wrote xs before before 0
-wrote_none xs before = record { are = sym (ap (λ (ys : List ℕ). ys ++ before) (take_all (length before) [] (omega arith))) }
+pub wrote_none : {X : Type 0} (xs before : List X) → Wrote xs before before 0
+wrote_none {X} xs before = record { are = sym (ap (λ (ys : List X). ys ++ before) (take_all (length before) [] (omega arith))) }
 
-wrote_long : (xs before now : List ℕ) (listed : ℕ) → listed ≤ length xs → Wrote xs before now listed → length now ≡ length before
+wrote_long : {X : Type 0} (xs before now : List X) (listed : ℕ) → listed ≤ length xs → Wrote xs before now listed → length now ≡ length before
 wrote_long xs before now listed few w =
     let head = length-take (length before) (take listed xs) in
     let tail = length-drop listed before in
     omega (arith, ap length w.are, length-append (take (length before) (take listed xs)) (drop listed before), head, tail, length-take listed xs, few)
 
 -- some more of them are written
-pub wrote_more : (xs before now next ps : List ℕ) (listed n : ℕ) → listed ≤ length xs → ps ≡ take n (drop listed xs) → length ps ≡ n → Wrote xs before now listed → next ≡ take listed now ++ (take (length now - listed) ps ++ drop (listed + n) now) → Wrote xs before next (listed + n)
-wrote_more xs before now next ps listed n few some long w is =
+pub wrote_more : {X : Type 0} (xs before now next ps : List X) (listed n : ℕ) → listed ≤ length xs → ps ≡ take n (drop listed xs) → length ps ≡ n → Wrote xs before now listed → next ≡ take listed now ++ (take (length now - listed) ps ++ drop (listed + n) now) → Wrote xs before next (listed + n)
+wrote_more {X} xs before now next ps listed n few some long w is =
     let len = length before in
     let same = wrote_long xs before now listed few w in
     let room : length now - listed ≡ len - listed = ap (λ (m : ℕ). m - listed) same in
     let front = take listed xs in
     let front_long : length front ≡ listed = length-take-le listed xs few in
-    let more : take (listed + n) xs ≡ front ++ ps = take-add listed n xs ∙ ap (λ (zs : List ℕ). front ++ zs) (sym some) in
+    let more : take (listed + n) xs ≡ front ++ ps = take-add listed n xs ∙ ap (λ (zs : List X). front ++ zs) (sym some) in
     elim (cases_lt len listed) [
       | inr within ↦
-          let whole : now ≡ front ++ drop listed before = w.are ∙ ap (λ (zs : List ℕ). zs ++ drop listed before) (take_all len front (omega (arith, within, front_long))) in
+          let whole : now ≡ front ++ drop listed before = w.are ∙ ap (λ (zs : List X). zs ++ drop listed before) (take_all len front (omega (arith, within, front_long))) in
           let head : take listed now ≡ front = ap (take listed) whole ∙ ap (λ (m : ℕ). take m (front ++ drop listed before)) (sym front_long) ∙ take-append_seam front (drop listed before) in
           let tail : drop (listed + n) now ≡ drop (listed + n) before = ap (drop (listed + n)) whole ∙ drop-append-drop listed before front (listed + n) (omega arith) front_long in
-          let both : take len (front ++ ps) ≡ front ++ take (len - listed) ps = take_both len front ps ∙ ap (λ (zs : List ℕ). zs ++ take (len - length front) ps) (take_all len front (omega (arith, within, front_long))) ∙ ap (λ (m : ℕ). front ++ take (len - m) ps) front_long in
+          let both : take len (front ++ ps) ≡ front ++ take (len - listed) ps = take_both len front ps ∙ ap (λ (zs : List X). zs ++ take (len - length front) ps) (take_all len front (omega (arith, within, front_long))) ∙ ap (λ (m : ℕ). front ++ take (len - m) ps) front_long in
           record {
-            are = is ∙ ap (λ (zs : List ℕ). zs ++ (take (length now - listed) ps ++ drop (listed + n) now)) head ∙ ap (λ (m : ℕ). front ++ (take m ps ++ drop (listed + n) now)) room ∙ ap (λ (zs : List ℕ). front ++ (take (len - listed) ps ++ zs)) tail
-                ∙ sym (append_assoc front (take (len - listed) ps) (drop (listed + n) before)) ∙ ap (λ (zs : List ℕ). zs ++ drop (listed + n) before) (sym both ∙ ap (take len) (sym more));
+            are = is ∙ ap (λ (zs : List X). zs ++ (take (length now - listed) ps ++ drop (listed + n) now)) head ∙ ap (λ (m : ℕ). front ++ (take m ps ++ drop (listed + n) now)) room ∙ ap (λ (zs : List X). front ++ (take (len - listed) ps ++ zs)) tail
+                ∙ sym (append_assoc front (take (len - listed) ps) (drop (listed + n) before)) ∙ ap (λ (zs : List X). zs ++ drop (listed + n) before) (sym both ∙ ap (take len) (sym more));
           }
       | inl past ↦
           let full : length now - listed ≡ 0 = omega (arith, same, past) in
           let none : take (length now - listed) ps ≡ [] = ap (λ (m : ℕ). take m ps) full in
           let gone : drop (listed + n) now ≡ drop (listed + n) before = drop_all (listed + n) now (omega (arith, same, past)) ∙ sym (drop_all (listed + n) before (omega (arith, past))) in
-          let old : take listed now ≡ take len front = take_all listed now (omega (arith, same, past)) ∙ w.are ∙ ap (λ (zs : List ℕ). take len front ++ zs) (drop_all listed before (omega (arith, past))) ∙ append-nil (take len front) in
+          let old : take listed now ≡ take len front = take_all listed now (omega (arith, same, past)) ∙ w.are ∙ ap (λ (zs : List X). take len front ++ zs) (drop_all listed before (omega (arith, past))) ∙ append-nil (take len front) in
           let kept : take len (front ++ ps) ≡ take len front = take-append-le len front ps (omega (arith, past, front_long)) in
           record {
-            are = is ∙ ap (λ (zs : List ℕ). zs ++ (take (length now - listed) ps ++ drop (listed + n) now)) old ∙ ap (λ (zs : List ℕ). take len front ++ (zs ++ drop (listed + n) now)) none ∙ ap (λ (zs : List ℕ). take len front ++ zs) gone
-                ∙ ap (λ (zs : List ℕ). zs ++ drop (listed + n) before) (sym kept ∙ ap (take len) (sym more));
+            are = is ∙ ap (λ (zs : List X). zs ++ (take (length now - listed) ps ++ drop (listed + n) now)) old ∙ ap (λ (zs : List X). take len front ++ (zs ++ drop (listed + n) now)) none ∙ ap (λ (zs : List X). take len front ++ zs) gone
+                ∙ ap (λ (zs : List X). zs ++ drop (listed + n) before) (sym kept ∙ ap (take len) (sym more));
           }
     ]
 
 -- all are written, or as many as there is room for
-pub wrote_all : (xs before now : List ℕ) (listed : ℕ) → listed ≤ length xs → Wrote xs before now listed → (length before ≤ listed) ⊎ (listed ≡ length xs) → ListsMembers xs before now (min (length before) (length xs))
-wrote_all xs before now listed few w end =
+pub wrote_all : {X : Type 0} (xs before now : List X) (listed : ℕ) → listed ≤ length xs → Wrote xs before now listed → (length before ≤ listed) ⊎ (listed ≡ length xs) → ListsMembers xs before now (min (length before) (length xs))
+wrote_all {X} xs before now listed few w end =
     let len = length before in
     elim (cases_lt listed len) [
       | inl less ↦
           let whole : listed ≡ length xs = elim end [ inl full ↦ absurd (omega (arith, full, less)) | inr all ↦ all ] in
           let count : min len (length xs) ≡ listed = min-eq_right {n = length xs} {m = len} (omega (arith, whole, less)) ∙ sym whole in
-          record { counts = refl; written = w.are ∙ ap (λ (zs : List ℕ). zs ++ drop listed before) (take_all len (take listed xs) (omega (arith, length-take listed xs, less))) ∙ ap (λ (m : ℕ). take m xs ++ drop m before) (sym count) }
+          record { counts = refl; written = w.are ∙ ap (λ (zs : List X). zs ++ drop listed before) (take_all len (take listed xs) (omega (arith, length-take listed xs, less))) ∙ ap (λ (m : ℕ). take m xs ++ drop m before) (sym count) }
       | inr full ↦
           let count : min len (length xs) ≡ len = min-eq_left {n = len} {m = length xs} (omega (arith, full, few)) in
           let gone : drop listed before ≡ drop len before = drop_all listed before full ∙ sym (drop_all len before (omega arith)) in
-          record { counts = refl; written = w.are ∙ ap (λ (zs : List ℕ). zs ++ drop listed before) (take-take len listed xs full) ∙ ap (λ (zs : List ℕ). take len xs ++ zs) gone ∙ ap (λ (m : ℕ). take m xs ++ drop m before) (sym count) }
+          record { counts = refl; written = w.are ∙ ap (λ (zs : List X). zs ++ drop listed before) (take-take len listed xs full) ∙ ap (λ (zs : List X). take len xs ++ zs) gone ∙ ap (λ (m : ℕ). take m xs ++ drop m before) (sym count) }
     ]
+
+-- a page has so many of the values as it is long
+pub as_many : {X : Type 0} (xs items : List X) → items ≡ take 32 xs → items ≡ take (length items) xs
+as_many xs items is = is ∙ sym (take_min 32 xs) ∙ ap (λ (m : ℕ). take m xs) (sym (ap length is ∙ length-take 32 xs))
+
+-- the part that is written of each
+pub parts_are : {X Y : Type 0} (part : X → Y) (listed : ℕ) (xs items : List X) → items ≡ take (length items) (drop listed xs) → map part items ≡ take (length items) (drop listed (map part xs))
+parts_are part listed xs items is = ap (map part) is ∙ sym (take-map part (length items) (drop listed xs)) ∙ ap (take (length items)) (sym (drop-map part listed xs))
 
 -- so many members were written, with their weights
 module _ (members : SetFacts → ℕ → List (ℕ × ℕ)) (first : LookFacts) (key : ℕ) (keys weights : List ℕ) where
@@ -173,14 +181,6 @@ module _ (members : SetFacts → ℕ → List (ℕ × ℕ)) (first : LookFacts) 
   -- a page of those from a key on, which are the ones that are left
   page_is : (listed from : ℕ) (now : LookFacts) (ks ws : List ℕ) (items : List (ℕ × ℕ)) → Written listed now ks ws → members (set_of_look first) from ≡ drop listed (members (set_of_look first) key) → items ≡ take 32 (members (set_of_look now) from) → items ≡ take 32 (drop listed (members (set_of_look first) key))
   page_is listed from now ks ws items w rest is = is ∙ ap (λ (s : SetFacts). take 32 (members s from)) w.asked.same_set ∙ ap (take 32) rest
-
-  -- so many of them as it has
-  as_many : {X : Type 0} (xs items : List X) → items ≡ take 32 xs → items ≡ take (length items) xs
-  as_many xs items is = is ∙ sym (take_min 32 xs) ∙ ap (λ (m : ℕ). take m xs) (sym (ap length is ∙ length-take 32 xs))
-
-  -- the part that is written of each
-  parts_are : (part : ℕ × ℕ → ℕ) (listed : ℕ) (xs items : List (ℕ × ℕ)) → items ≡ take (length items) (drop listed xs) → map part items ≡ take (length items) (drop listed (map part xs))
-  parts_are part listed xs items is = ap (map part) is ∙ sym (take-map part (length items) (drop listed xs)) ∙ ap (take (length items)) (sym (drop-map part listed xs))
 
   pub page_written : (listed from most : ℕ) (now next : LookFacts) (ks ws keys_after weights_after : List ℕ) (items : List (ℕ × ℕ)) → Written listed now ks ws → members (set_of_look first) from ≡ drop listed (members (set_of_look first) key)
       → items ≡ take 32 (members (set_of_look now) from) → IsAsked span_of most now next
@@ -294,23 +294,23 @@ both_listed members keys keys_after weights weights_after old new code said same
 min_comm : (a b : ℕ) → min a b ≡ min b a
 min_comm a b = omega arith
 
-pub put_more : (f : ℕ × ℕ → ℕ) (page : List (ℕ × ℕ)) (before now : List ℕ) (at i answer : ℕ) → i < length page → at + i < length before → now ≡ (take at before ++ map f (take i page)) ++ drop (at + i) before → answer ≡ f (get_or page i (0, 0))
+pub put_more : {X Y : Type 0} (f : X → Y) (none : X) (page : List X) (before now : List Y) (at i : ℕ) (answer : Y) → i < length page → at + i < length before → now ≡ (take at before ++ map f (take i page)) ++ drop (at + i) before → answer ≡ f (get_or page i none)
     → set now (at + i) answer ≡ (take at before ++ map f (take (i + 1) page)) ++ drop (at + (i + 1)) before
-put_more f page before now at i answer inside room is value =
+put_more {X} {Y} f none page before now at i answer inside room is value =
     let front = take at before ++ map f (take i page) in
     let long : length front ≡ at + i = length-append (take at before) (map f (take i page)) ∙ omega (arith, length-take-le at before (omega (arith, room)), length-map (take i page) f, length-take-le i page (omega (arith, inside))) in
     let next : at + i + 1 ≡ at + (i + 1) = omega arith in
-    let one : map f (take (i + 1) page) ≡ map f (take i page) ++ f (get_or page i (0, 0)) ∷ [] = ap (map f) (take_more page i (0, 0) inside) ∙ map-append f (take i page) (get_or page i (0, 0) ∷ []) in
-    ap (λ (xs : List ℕ). set xs (at + i) answer) is ∙ written_more front before (at + i) answer long room ∙ ap (λ (n : ℕ). (front ++ answer ∷ []) ++ drop n before) next
-    ∙ ap (λ (xs : List ℕ). xs ++ drop (at + (i + 1)) before) (ap (λ (x : ℕ). front ++ x ∷ []) value ∙ append_assoc (take at before) (map f (take i page)) (f (get_or page i (0, 0)) ∷ []) ∙ ap (λ (xs : List ℕ). take at before ++ xs) (sym one))
+    let one : map f (take (i + 1) page) ≡ map f (take i page) ++ f (get_or page i none) ∷ [] = ap (map f) (take_more page i none inside) ∙ map-append f (take i page) (get_or page i none ∷ []) in
+    ap (λ (xs : List Y). set xs (at + i) answer) is ∙ written_more front before (at + i) answer long room ∙ ap (λ (n : ℕ). (front ++ answer ∷ []) ++ drop n before) next
+    ∙ ap (λ (xs : List Y). xs ++ drop (at + (i + 1)) before) (ap (λ (x : Y). front ++ x ∷ []) value ∙ append_assoc (take at before) (map f (take i page)) (f (get_or page i none) ∷ []) ∙ ap (λ (xs : List Y). take at before ++ xs) (sym one))
 
-pub put_all : (f : ℕ × ℕ → ℕ) (page : List (ℕ × ℕ)) (before now : List ℕ) (at i : ℕ) → at < length before → i ≡ min (length page) (length before - at) → now ≡ (take at before ++ map f (take i page)) ++ drop (at + i) before
+pub put_all : {X Y : Type 0} (f : X → Y) (page : List X) (before now : List Y) (at i : ℕ) → at < length before → i ≡ min (length page) (length before - at) → now ≡ (take at before ++ map f (take i page)) ++ drop (at + i) before
     → now ≡ take at before ++ (take (length before - at) (map f page) ++ drop (at + length page) before)
-put_all f page before now at i room is written =
+put_all {X} {Y} f page before now at i room is written =
     let left = length before - at in
     let some : map f (take i page) ≡ take left (map f page) = ap (λ (n : ℕ). map f (take n page)) (is ∙ min_comm (length page) left) ∙ sym (take-map f (min left (length page)) page) ∙ ap (λ (n : ℕ). take (min left n) (map f page)) (sym (length-map page f)) ∙ take_min left (map f page) in
     let rest : drop (at + i) before ≡ drop (at + length page) before = elim (cases_lt (length page) left) [
       | inl less ↦ let same : i ≡ length page = omega (arith, is, less) in ap (λ (n : ℕ). drop (at + n) before) same
       | inr full ↦ drop_all (at + i) before (omega (arith, is, full, room)) ∙ sym (drop_all (at + length page) before (omega (arith, full, room)))
     ] in
-    written ∙ append_assoc (take at before) (map f (take i page)) (drop (at + i) before) ∙ ap (λ (xs : List ℕ). take at before ++ (xs ++ drop (at + i) before)) some ∙ ap (λ (xs : List ℕ). take at before ++ (take left (map f page) ++ xs)) rest
+    written ∙ append_assoc (take at before) (map f (take i page)) (drop (at + i) before) ∙ ap (λ (xs : List Y). take at before ++ (xs ++ drop (at + i) before)) some ∙ ap (λ (xs : List Y). take at before ++ (take left (map f page) ++ xs)) rest

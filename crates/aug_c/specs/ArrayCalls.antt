@@ -95,8 +95,8 @@ AsksAll told keys before after = AsksUser (AnswersArray told keys before after) 
 abbrev pub weights_of : List (ℕ × ℕ) → List ℕ
 weights_of pairs = map (λ p. p.1) pairs
 
--- the first of some numbers are written, as many as there is room for, and the places behind are as they were
-pub record ListsMembers (members before after : List ℕ) (count : ℕ) : Type 0 where
+-- the first of some values are written, as many as there is room for, and the places behind are as they were
+pub record ListsMembers {X : Type 0} (members before after : List X) (count : ℕ) : Type 0 where
   pub counts : count ≡ min (length before) (length members)
   pub written : after ≡ take count members ++ drop count before
 

@@ -1,7 +1,7 @@
 //! What changed between the snapshot that a look showed before, or a list of the caller's, and the snapshot that it shows.
-ghost use Rattle.std.specs.Prelude.{◌≡◌, ◌<◌, ◌++◌, ◌↔◌, true, length, map, take, drop, min, get_or};
+ghost use Rattle.std.specs.Prelude.{◌≡◌, ◌+◌, ◌-◌, ◌<◌, ◌++◌, ◌↔◌, true, length, map, take, drop, get_or};
 ghost use Rattle.std.specs.List.Sorted.{IsStrictlyIncreasing};
-ghost use Rattle.aug_c.specs.ChangeCalls.{ListsChanges, ListsSince, change_of, set_of_arrays};
+ghost use Rattle.aug_c.specs.ChangeCalls.{ListsChanges, ListsPage, ListsSince, change_of, changes_since, set_of_arrays};
 ghost use Rattle.aug_c.specs.Handles.{AsksUser};
 
 use crate::codes::{BAD_KEY, BAD_LENGTH};
@@ -33,23 +33,25 @@ fn as_change(one: Difference) -> WeightChange
     }
 }
 
-// Writes the first changes of a page, as many as there are places for, and tells how many these are.
-fn put(page: &[Difference], out: &mut [WeightChange]) -> usize
-    ensures written { out.new ≡ take result (map change_of page.now) ++ drop result out.old }
-    ensures counts { result ≡ min (length out.old) (length page.now) }
+// Writes each change of a page to the places from `at` on, as many as there are.
+fn put(page: &[Difference], at: usize, out: &mut [WeightChange])
+    ensures { out.new ≡ take at out.old ++ (take (length out.old - at) (map change_of page.now) ++ drop (at + length page.now) out.old) }
 {
-    let count = out.len().min(page.len());
-    for i in 0..count {
-        out[i] = as_change(page[i]);
+    if out.len() <= at {
+        return;
     }
-    count
+    let count = page.len().min(out.len() - at);
+    for i in 0..count {
+        out[at + i] = as_change(page[i]);
+    }
 }
 
 fn page_of(look: &mut SummedLook, from: u32, out: &mut [WeightChange]) -> i64
     ensures { ListsChanges from out.old out.new look.old look.new result }
 {
     let page = look.changes(from);
-    put(page.as_slice(), out) as i64
+    put(page.as_slice(), 0, out);
+    out.len().min(page.len()) as i64
 }
 
 /// Writes a page of what changed between the snapshot that the user's look showed before and the one that it shows: the first changes with rising keys
@@ -106,7 +108,30 @@ fn is_rising(keys: &[u32]) -> bool
     true
 }
 
-fn page_since(
+// Writes the first changes since a list, a page after the other, as many as there are places for, and tells how many these are.
+fn list_since(
+    look: &mut SummedLook,
+    list: &Arrays,
+    from: u32,
+    out: &mut [WeightChange],
+) -> i64
+    ensures { ListsPage (changes_since list.now.keys.now list.now.weights.now look.old from) out.old out.new look.old look.new result }
+{
+    let mut next = from;
+    let mut listed = 0;
+    while listed < out.len() {
+        let page = look.changes_since(list, next);
+        put(page.as_slice(), listed, out);
+        listed += page.len();
+        if !page.is_full() {
+            return listed.min(out.len()) as i64;
+        }
+        next = page.as_slice()[31].key + 1;
+    }
+    out.len() as i64
+}
+
+fn since(
     look: &mut SummedLook,
     keys: &[u32],
     weights: &[u32],
@@ -122,13 +147,12 @@ fn page_since(
         return BAD_KEY;
     }
     let list = Arrays { keys, weights };
-    let page = look.changes_since(&list, from);
-    put(page.as_slice(), out) as i64
+    list_since(look, &list, from, out)
 }
 
-/// Writes a page of what changed between a set that the caller kept and the snapshot that the user's look shows, as `aug_try_changes`. The set's members
-/// are `keys`, and each weighs what stands in `weights` at its place. Answers `BAD_LENGTH` if there are not as many weights as keys, and `BAD_KEY` if the
-/// keys do not rise.
+/// Writes what changed between a set that the caller kept and the snapshot that the user's look shows: the first changes with rising keys from `from` on, as
+/// many as `out` has places for. The set's members are `keys`, and each weighs what stands in `weights` at its place. Answers how many, or `BAD_LENGTH` if
+/// there are not as many weights as keys, and `BAD_KEY` if the keys do not rise, which is tested once.
 #[unsafe(no_mangle)]
 pub extern "C" fn aug_try_changes_since(
     user: &mut RawHandle,
@@ -139,5 +163,5 @@ pub extern "C" fn aug_try_changes_since(
 ) -> i64
     ensures { AsksUser (ListsSince keys.now weights.now from out.old out.new) (out.new ≡ out.old) user.old user.new result }
 {
-    on_look!(user, look => page_since(look, keys, weights, from, out))
+    on_look!(user, look => since(look, keys, weights, from, out))
 }

@@ -1,5 +1,5 @@
 //! A look: a snapshot to query.
-ghost use Rattle.std.specs.Prelude.{◌≡◌, IfErr, IfOk, IfSome, Some, take};
+ghost use Rattle.std.specs.Prelude.{◌≡◌, ◌^◌, ◌<◌, All, IfErr, IfOk, IfSome, Some, take};
 ghost use Rattle.std.specs.Arc.{arc_value};
 ghost use Rattle.aug_model.specs.Differences.{changes_from};
 ghost use Rattle.aug_model.specs.Folds.{summary_of};
@@ -109,6 +109,7 @@ impl<A: Monoid, B: Monoid> Look<A, B> {
     /// the list and in the snapshot together, however few of them changed.
     pub fn changes_since<L: MemberList>(&mut self, before: &L, from: u32) -> Changes
         ensures answer { result.items ≡ take 32 (changes_from (L.set_of before.now) (set_of_look self.old) from) }
+        ensures keys { All (λ d. d.key < 2 ^ 16) result.items }
         ensures asked { IsAsked (summary_of A.parts B.parts) (steps_for (since_loads (L.set_of before.now) (set_of_look self.old) from)) self.old self.new }
     {
         self.ask(ChangesSince { before, from })

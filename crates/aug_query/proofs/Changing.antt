@@ -1,15 +1,20 @@
 -- What changed below nodes at a level and a place of two trees: nothing, where they are the same, and else what changed below their children; and how
 -- much is loaded to find it.
-use Rattle.std.proofs.Common.{◌≡◌, ℕ, zero, suc, ◌+◌, ◌-◌, ◌*◌, ◌^◌, ◌/◌, ◌<◌, ◌≤◌, max, inl, inr, leb, ◌||◌, Bool, true, false, if◌then◌else◌, List, [], ◌++◌, length, take, refl, ap, sym, ◌∙◌, subst, arith}
+use Rattle.std.proofs.Common.{◌≡◌, ℕ, zero, suc, All, filter, map, drop, get_or, ◌∷◌, ◌+◌, ◌-◌, ◌*◌, ◌^◌, ◌/◌, ◌<◌, ◌≤◌, max, inl, inr, leb, ◌||◌, Bool, true, false, if◌then◌else◌, List, [], ◌++◌, length, take, refl, ap, sym, ◌∙◌, subst, arith}
 use Rattle.std.proofs.Math.Nat.{le_refl, max-eq_left, max-eq_right, le-max_left, le-max_right, mul-le-mul_left, div-lt_iff_lt-mul}
 use Rattle.std.proofs.Math.Pow.{pow_mono}
-use Rattle.std.proofs.lemmas.Bool.{cases_lt, lt-leb}
+use Rattle.std.proofs.lemmas.Bool.{cases_Bool, cases_lt, lt-leb}
 use Rattle.std.proofs.lemmas.Nat.{pow_pos}
+use Rattle.std.specs.List.{range_with_len}
+use Rattle.std.proofs.lemmas.List.Elements.{All-filter, All-map, All-take}
+use Rattle.std.proofs.lemmas.List.FromFn.{get_or-range_with_len, length-range_with_len}
+use Rattle.aug_model.specs.Keys.{SetFacts}
 use Rattle.aug_model.specs.Queries.{weight_of}
 use Rattle.aug_model.specs.NodeKeys.{first_key, end_key}
-use Rattle.aug_model.specs.Differences.{differences_in, changes_from}
+use Rattle.aug_model.specs.Differences.{changes_between, changes_from, difference_at, differences_in, weighs_otherwise}
 use Rattle.aug_model.specs.declared.difference.Difference.{Difference}
 use Rattle.aug_model.proofs.Changes.{differences_same, differences_none, differences_cut, differences_from, weight_of-range}
+use Rattle.aug_query.specs.Tree.{IsTreeSet}
 use Rattle.aug_query.specs.DescendBoth.{BothSets, AreBoth, StandInBoth, nodes_that_differ, DescendsBoth}
 use Rattle.aug_query.proofs.Nodes.{top_first, top_end}
 use Rattle.aug_query.proofs.Pages.{begins, ends, low_half, high_half, page_joined, takes_none, takes_nothing}
@@ -36,6 +41,49 @@ module _ (both : BothSets) (k level place : ℕ) where
         | inl within ↦ absurd (let low = iff.1 within in omega (arith, low, passed))
         | inr past ↦ omega (arith, past, le-max_right (first_key level place) k)
       ])
+
+-- the keys of a page of changes have few bits
+pub changed_keys : (earlier later : SetFacts) (k : ℕ) (items : List Difference) → IsTreeSet later → items ≡ take 32 (changes_from earlier later k) → All (λ d. d.key < 2 ^ 16) items
+changed_keys earlier later k items is told =
+    let P : Difference → Type 0 = λ d. d.key < 2 ^ 16 in
+    let differs = weighs_otherwise earlier.pairs later.pairs in
+    let keys = range_with_len 0 (2 ^ later.bits - 0) in
+    let each : All (λ x. x < 2 ^ 16) keys = λ i d h. omega (arith, get_or-range_with_len 0 (2 ^ later.bits - 0) i d (omega (arith, h, length-range_with_len 0 (2 ^ later.bits - 0))), h, length-range_with_len 0 (2 ^ later.bits - 0), pow_mono {i = later.bits} {j = 16} is.few_bits) in
+    let all : All P (changes_between earlier later) = All-map P (difference_at earlier.pairs later.pairs) (filter differs keys) (All-filter differs (λ x. x < 2 ^ 16) keys each) in
+    subst (All P) (sym told) (All-take P 32 (changes_from earlier later k) (All-filter (λ d. leb k d.key) P (changes_between earlier later) all))
+
+-- what is behind one of the changes are those with greater keys
+module _ (earlier later : List (ℕ × ℕ)) where
+  abbrev of_keys : ℕ → ℕ → List Difference
+  of_keys a n = map (difference_at earlier later) (filter (weighs_otherwise earlier later) (range_with_len a n))
+
+  behind_first : (end n a i : ℕ) (none : Difference) → a + suc n ≡ end → ((j : ℕ) → j < length (of_keys (a + 1) n) → of_keys ((get_or (of_keys (a + 1) n) j none).key + 1) (end - ((get_or (of_keys (a + 1) n) j none).key + 1)) ≡ drop (j + 1) (of_keys (a + 1) n))
+      → i < length (difference_at earlier later a ∷ of_keys (a + 1) n)
+      → of_keys ((get_or (difference_at earlier later a ∷ of_keys (a + 1) n) i none).key + 1) (end - ((get_or (difference_at earlier later a ∷ of_keys (a + 1) n) i none).key + 1)) ≡ drop (i + 1) (difference_at earlier later a ∷ of_keys (a + 1) n)
+  behind_first end n a zero none all later_ones within = let left : end - (a + 1) ≡ n = omega (arith, all) in ap (of_keys (a + 1)) left
+  behind_first end n a (suc j) none all later_ones within = let next : suc (j + 1) ≡ suc j + 1 = omega arith in
+      later_ones j (omega (arith, within)) ∙ ap (λ (m : ℕ). drop m (difference_at earlier later a ∷ of_keys (a + 1) n)) next
+
+  behind_one : (end n a i : ℕ) (none : Difference) → a + n ≡ end → i < length (of_keys a n) → of_keys ((get_or (of_keys a n) i none).key + 1) (end - ((get_or (of_keys a n) i none).key + 1)) ≡ drop (i + 1) (of_keys a n)
+  behind_one end zero a i none all within = absurd (omega (arith, within))
+  behind_one end (suc n) a i none all within =
+      let rest : (j : ℕ) → j < length (of_keys (a + 1) n) → of_keys ((get_or (of_keys (a + 1) n) j none).key + 1) (end - ((get_or (of_keys (a + 1) n) j none).key + 1)) ≡ drop (j + 1) (of_keys (a + 1) n) = λ j less. behind_one end n (a + 1) j none (omega (arith, all)) less in
+      let G : List Difference → Type 0 = λ xs. i < length xs → of_keys ((get_or xs i none).key + 1) (end - ((get_or xs i none).key + 1)) ≡ drop (i + 1) xs in
+      let by : Bool → List Difference = λ b. map (difference_at earlier later) (if b then a ∷ filter (weighs_otherwise earlier later) (range_with_len (a + 1) n) else filter (weighs_otherwise earlier later) (range_with_len (a + 1) n)) in
+      elim (cases_Bool (weighs_otherwise earlier later a)) [
+        | inl differs ↦ subst (λ (b : Bool). G (by b)) (sym differs) (behind_first end n a i none all rest) within
+        | inr same ↦ subst (λ (b : Bool). G (by b)) (sym same) (rest i) within
+      ]
+
+pub changes_behind : (earlier later : SetFacts) (from i : ℕ) (none : Difference) → i < length (changes_from earlier later from) → changes_from earlier later ((get_or (changes_from earlier later from) i none).key + 1) ≡ drop (i + 1) (changes_from earlier later from)
+changes_behind earlier later from i none within =
+    let p = earlier.pairs in let q = later.pairs in let end = 2 ^ later.bits in
+    let whole = differences_from p q from end in
+    elim (cases_lt from end) [
+      | inl low ↦ subst (λ (xs : List Difference). i < length xs → changes_from earlier later ((get_or xs i none).key + 1) ≡ drop (i + 1) xs) (sym whole)
+          (λ less. differences_from p q ((get_or (differences_in p q from end) i none).key + 1) end ∙ behind_one p q end (end - from) from i none (omega (arith, low)) less) within
+      | inr past ↦ absurd (omega (arith, within, ap length (whole ∙ differences_none p q from end past)))
+    ]
 
 -- the changes among the keys of an interval are those of its two parts
 changes_cut : (both : BothSets) (k a m b : ℕ) → a ≤ m → m ≤ b

@@ -1,5 +1,5 @@
 //! What changed since a set was listed.
-ghost use Rattle.std.specs.Prelude.{◌≡◌, ◌+◌, ◌-◌, ◌*◌, ◌<◌, ◌≤◌, ◌++◌, ◌↔◌, true, length, get_or, max, take};
+ghost use Rattle.std.specs.Prelude.{◌≡◌, ◌+◌, ◌-◌, ◌*◌, ◌^◌, ◌<◌, ◌≤◌, ◌++◌, ◌↔◌, true, All, length, get_or, max, take};
 ghost use Rattle.std.specs.List.Sorted.{IsStrictlyIncreasing};
 ghost use Rattle.aug_model.specs.Differences.{changes_from, differences_in};
 ghost use Rattle.aug_model.specs.Keys.{list_of};
@@ -8,6 +8,7 @@ ghost use Rattle.aug_model.specs.Queries.{weight_of};
 ghost use Rattle.aug_model.specs.inside.Boundary.{IsBoundary};
 ghost use Rattle.aug_query.specs.Descend.{Descends, DescendsBy};
 ghost use Rattle.aug_query.specs.BothMembers.{since_loads};
+ghost use Rattle.aug_query.specs.Tree.{IsTreeSet};
 ghost use Rattle.aug_query.specs.inside.Since.{below_both};
 
 use super::changes::Changes;
@@ -32,7 +33,7 @@ pub struct ChangesSince<'l, L: MemberList> {
 impl<A: Monoid, B: Monoid, L: MemberList> Query<A, B> for ChangesSince<'_, L> {
     type Answer = Changes;
 
-    ghost Answers = { λ q set page. page.items ≡ take 32 (changes_from (L.set_of q.before.now) set q.from) };
+    ghost Answers = { λ q set page. (page.items ≡ take 32 (changes_from (L.set_of q.before.now) set q.from)) × All (λ d. d.key < 2 ^ 16) page.items };
 
     ghost most = { λ q set. since_loads (L.set_of q.before.now) set q.from };
 
@@ -48,6 +49,7 @@ fn page_since<A: Monoid, B: Monoid, D: Descend<A, B>, L: MemberList>(
     from: u32,
 ) -> Changes
     ensures answer { result.items ≡ take 32 (changes_from (L.set_of list.now) (D.set_of tree.old) from) }
+    ensures set { IsTreeSet (D.set_of tree.old) }
     ensures descends { DescendsBy D.set_of D.loads_of D.Names D.KeepsRest (since_loads (L.set_of list.now) (D.set_of tree.old) from) tree.old tree.new }
 {
     let bits = tree.bits();

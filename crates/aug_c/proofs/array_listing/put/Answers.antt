@@ -14,7 +14,7 @@ loop-i-preserved c =
       | then-weights w ↦ w.out-is ∙ ap (λ (b : Bool). member_part b member) (sym w.if-weights.true)
       | else-weights w ↦ w.out-is ∙ ap (λ (b : Bool). member_part b member) (sym w.if-weights.false)
     ] in
-    put_more (member_part c.args.weights) c.args.page.now c.args.out.now c.loop-i.out c.args.at c.loop-i.i c.if-weights.out inside room c.loop-i.invariant value
+    put_more (member_part c.args.weights) (0, 0) c.args.page.now c.args.out.now c.loop-i.out c.args.at c.loop-i.i c.if-weights.out inside room c.loop-i.invariant value
 
 pub returns : goal.returns
 returns c =

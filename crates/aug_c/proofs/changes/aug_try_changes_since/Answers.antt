@@ -14,8 +14,8 @@ returns-in-None c = looking_none _ _ c.args.user.now _ c.in-User.held c.held.ins
 
 pub returns-in-Some : goal.returns-in-Some
 returns-in-Some c =
-    looking_call _ _ c.args.user.now _ c.in-User.held c.held.inside.access c.held.inside.look c.in-Some.look c.page_since.new.look _ c.page_since.result (c.is_open.ensures.0 c.if-not-is_open.false) (ap state_in c.as_slot.ensures.value ∙ c.in-User.is) c.held.view_is c.in-Some.is refl refl
-    (same_code c.page_since.result c.page_since.type_inv) c.page_since.ensures
+    looking_call _ _ c.args.user.now _ c.in-User.held c.held.inside.access c.held.inside.look c.in-Some.look c.since.new.look _ c.since.result (c.is_open.ensures.0 c.if-not-is_open.false) (ap state_in c.as_slot.ensures.value ∙ c.in-User.is) c.held.view_is c.in-Some.is refl refl
+    (same_code c.since.result c.since.type_inv) c.since.ensures
 
 pub invariant_of-user : goal.invariant_of-user
 invariant_of-user c = record { agrees = (λ _. refl, λ _. c.args.user.now.agrees.1 (c.is_open.ensures.0 c.if-not-is_open.false)) }

@@ -1,5 +1,5 @@
-"""The tests of the module: each of its calls against a sorted list, threads, what waits, and misuses by name. The last line is
-'N passed, M failed'."""
+"""What the module has of its own: numbers and iterables of Python, exceptions, snapshots that end in many ways, threads, signals and what waits. What each call
+answers is in tests/rows, which test_rows.py plays. The last line is 'N passed, M failed'."""
 
 import _thread
 import array
@@ -22,6 +22,7 @@ import traceback
 
 import augtrie
 from augtrie import Trie
+from test_rows import shows
 
 TESTS = []
 
@@ -99,85 +100,32 @@ def until(condition):
 # ---- One thread ----
 
 
-def check(now, model, keys):
-    """Holds what a trie or snapshot answers to the weights of the members."""
-    want = sorted(model)
-    assert list(now) == want and list(reversed(now)) == want[::-1] and len(now) == len(want)
-    assert list(now.items()) == sorted(model.items())
-    for key in keys:
-        at = bisect.bisect_left(want, key)
-        assert now.bisect_left(key) == at and now.bisect_right(key) == bisect.bisect_right(want, key)
-        assert (key in now) == (key in model) and now.weight(key) == model.get(key)
-        assert now.before(key) == (want[at - 1] if at else None)
-        assert now.after(key) == next(iter(want[bisect.bisect_right(want, key) :]), None)
-        assert now.index(key) == at if key in model else raises(ValueError, now.index, key)
-    assert now.rank_all(keys) == [bisect.bisect_left(want, key) for key in keys]
-    assert now.has_all(keys) == [key in model for key in keys] and now.weights(keys) == [model.get(key) for key in keys]
-    for index in range(-len(want) - 2, len(want) + 2):
-        if -len(want) <= index < len(want):
-            assert now[index] == want[index] and now.peekitem(index) == (want[index], model[want[index]])
-        else:
-            assert raises(IndexError, lambda: now[index]) and raises(IndexError, now.peekitem, index)
-    sums = list(itertools.accumulate(model[it] for it in want))
-    for number in sorted({-(1 << 70), -1, 0, 1 << 63, 1 << 64, 1 << 70, *(it + more for it in sums for more in (-1, 0, 1))}):
-        assert now.select_by_weight(number) == next((key for key, total in zip(want, sums) if total > number), None)
-    for start, stop in itertools.product(keys[:9], keys[:9]):
-        inside = [it for it in want if start <= it < stop]
-        total = sum(model[it] for it in inside)
-        assert now.total(start, stop) == total
-        assert now.span(start, stop) == ((total, len(inside), inside[0], inside[-1]) if inside else (0, 0, 0, 0))
-
-
 @test
-def a_trie_answers_as_a_sorted_list():
-    rng = random.Random(1)
-    for bits in (1, 3, 6, 9):
-        size, model = 1 << bits, {}
+def a_trie_is_asked_as_its_snapshot_is_and_by_any_number():
+    for bits in (1, 4, 10):
         with Trie(bits) as trie:
-            check(trie, model, [0, 1])
-            for _ in range(8 * min(size, 64)):
-                key, number = rng.randrange(size), rng.randrange(1, 4)
-                what = rng.choice(("add", "add", "put", "increment", "increment", "decrement", "discard", "remove", "pop", "popitem"))
-                if what == "add":
-                    assert trie.add(key) is (key not in model)
-                    model.setdefault(key, key)
-                elif what == "put":
-                    assert trie.put(key, number) == model.get(key)
-                    model[key] = number
-                elif what == "increment":
-                    model[key] = model.get(key, 0) + number
-                    assert trie.increment(key, number) == model[key]
-                elif what == "decrement" and model.get(key, 0) < number:
-                    assert raises(augtrie.TooLittle, trie.decrement, key, number)
-                elif what == "decrement":
-                    model[key] -= number
-                    assert trie.decrement(key, amount=number) == model[key]
-                    model = {it: weight for it, weight in model.items() if weight or it != key}
-                elif what == "pop":
-                    if key not in model:
-                        assert raises(KeyError, trie.pop, key)
-                    assert trie.pop(key, rng) == model.pop(key, rng)
-                elif what == "popitem":
-                    index = rng.choice((0, -1))
-                    if model:
-                        found = sorted(model.items())[index]
-                        assert (trie.popitem(index) if index == 0 else trie.popitem()) == found
-                        del model[found[0]]
-                    else:
-                        assert raises(KeyError, trie.popitem, index)
-                elif what == "discard":
-                    assert trie.discard(key) is (key in model)
-                    model.pop(key, None)
-                elif key in model:
-                    assert trie.remove(key) is None
-                    del model[key]
-                else:
-                    assert raises(KeyError, trie.remove, key)
-            keys = [rng.randrange(-2, size + 2) for _ in range(40)] + [-1, -(1 << 70), size, 1 << 16, 1 << 32, 1 << 70]
-            check(trie, model, keys)
+            ask_oddly(trie, [])
+            members = sorted({key * 40503 % (1 << bits): key for key in range(60)}.items())
+            trie.put_all([it[0] for it in members], [it[1] for it in members])
+            ask_oddly(trie, members)
             with trie.snapshot() as now:
-                check(now, model, keys)
-        assert trie.close().size == len(model)
+                ask_oddly(now, members)
+
+
+def ask_oddly(now, members):
+    """Holds what a trie or snapshot answers to its members, and asks it of numbers that are no keys."""
+    shows(now, members)
+    keys, total = [it[0] for it in members], sum(it[1] for it in members)
+    odd = [-1, -(1 << 70), 1 << 16, 1 << 32, 1 << 64, 1 << 70]
+    for key in odd:
+        below = len(keys) if key > 0 else 0
+        assert key not in now and now.weight(key) is None and now.bisect_left(key) == now.bisect_right(key) == below and raises(ValueError, now.index, key)
+        assert now.before(key) == (keys[-1] if below else None) and now.after(key) == (None if below or not keys else keys[0])
+        assert now.total(key, 1 << 71) == (0 if key > 0 else total) and now.span(-(1 << 71), key).count == below
+        assert now.select_by_weight(key) == (None if key > 0 or not keys else keys[0])
+    assert now.rank_all(odd) == [0, 0] + [len(keys)] * 4 and now.has_all(odd) == [False] * 6 and now.weights(odd) == [None] * 6
+    for index in (len(keys), -len(keys) - 1, 1 << 70):
+        assert raises(IndexError, lambda: now[index]) and raises(IndexError, now.peekitem, index)
 
 
 @test
@@ -340,16 +288,6 @@ def refusals_have_names():
 
 
 @test
-def a_thread_is_told_how_many_updates_are_left_to_it():
-    with Trie(16, bytes=12_978_288) as trie:
-        assert [(trie.room(), trie.add(key)) for key in range(3)] == [(64, True), (63, True), (62, True)]
-        assert elsewhere(lambda: (trie.room(), trie.update(range(9)), trie.room())) == (64, 6, 55)
-        with trie.snapshot():
-            assert trie.room() == 61 and elsewhere(trie.room) == 55
-        assert trie.room() == 61 and not trie.discard(9) and trie.room() == 60
-
-
-@test
 def what_it_came_to_is_told_again():
     with Trie(4) as trie:
         trie.update([1, 2, 3])
@@ -375,113 +313,25 @@ def a_snapshot_stays_as_it_is():
         assert len(trie) == 256
 
 
-def differences(before, now):
-    keys = sorted({*before, *now})
-    return [(key, before.get(key), now.get(key)) for key in keys if before.get(key) != now.get(key)]
-
-
-def update_both(trie, model, rng, keys, updates):
-    """Makes drawn updates of a trie and of a dict: half of them puts, and half removals."""
-    for _ in range(updates):
-        key, weight = rng.randrange(keys), rng.randrange(3)
-        if rng.random() < 0.5:
-            trie.put(key, weight)
-            model[key] = weight
-        else:
-            assert trie.discard(key) is (model.pop(key, None) is not None)
-
-
 @test
-def a_renewal_tells_what_it_changed():
-    rng = random.Random(4)
-    with Trie(10, users=2, bytes=3 << 23) as trie:
-        trie.update(range(0, 1024, 3))
-        model = {key: key for key in range(0, 1024, 3)}
-
+def a_list_may_be_any_iterable_of_pairs():
+    with Trie(7, users=1) as trie:
+        trie.put_all([1, 2], [5, 6])
         with trie.snapshot() as now:
-            assert list(now.changes()) == []
-            for updates in (1, 0, 5, 40, 200, 1000, 3):
-                before, told = dict(model), list(now.changes())
-                assert elsewhere(lambda: update_both(trie, model, rng, 1024, updates)) is None and list(now.changes()) == told
-                assert now.renew() is True
-                assert list(now.changes()) == differences(before, model) == elsewhere(lambda: list(now.changes()))
-            # As many as a page has, or some more or less; and none, if all are as they were.
-            for count in (31, 32, 33, 64, 65, 1024):
-                for call, old, new in ((lambda: trie.put_all(range(1024), [5] * 1024), None, None), (lambda: trie.put_all(range(count), [6] * count), 5, 6),
-                                       (lambda: trie.difference_update(range(count)), 6, None)):
-                    assert isinstance(elsewhere(call), int)
-                    now.renew()
-                    assert old is None or list(now.changes()) == [(key, old, new) for key in range(count)]
-            assert elsewhere(lambda: (trie.put(9, 1), trie.pop(9))) == (None, 1)
-            now.renew()
-            assert list(now.changes()) == []
-        with trie.snapshot() as now:
-            assert list(now.changes()) == []
-
-
-@test
-def what_changed_since_a_list_is_told_over_roll_overs():
-    rng = random.Random(5)
-    with Trie(7, users=1, bytes=3 << 15) as trie:
-        model = {}
-        for updates in (0, 1, 40, 3000, 0, 200, 3000):
-            with trie.snapshot() as now:
-                kept, before = list(now.items()), dict(model)
-            update_both(trie, model, rng, 128, updates)
-            with trie.snapshot() as now:
-                assert list(now.changes_since(kept)) == differences(before, model) == list(now.changes_since(iter(kept)))
-                assert list(now.changes_since([])) == differences({}, model) and list(now.changes_since(now.items())) == []
+            for kept in ([(2, 6), (3, 7)], iter([(2, 6), (3, 7)]), {2: 6, 3: 7}.items()):
                 walk = now.changes_since(kept)
-                now.renew()
-                assert not differences(before, model) or raises(RuntimeError, next, walk)
-                for wrong in ([(2, 1), (1, 1)], [(2, 1), (2, 1)], [(1, 1), (128, 1)], [(-1, 1)]):
-                    assert raises(augtrie.BadKey, now.changes_since, wrong)
-                assert raises(augtrie.BadLength, now.changes_since, [(i, 1) for i in range(129)])
-                assert raises(ValueError, now.changes_since, [(1, 2, 3)]) and raises(ValueError, now.changes_since, [(1, -1)])
-                assert raises(TypeError, now.changes_since, 5) and raises(TypeError, now.changes_since, [5]) and raises(TypeError, now.changes_since)
-            assert raises(augtrie.NotLooking, now.changes_since, kept)
-
-
-@test
-def the_next_rounds_are_laid_out_between_updates():
-    rng = random.Random(6)
-    with Trie(7, users=1, bytes=3 << 15) as trie:
-        model = {}
-        for turn in range(300):
-            update_both(trie, model, rng, 128, 20)
-            assert trie.tend() in (True, False)
-            with trie.snapshot() as now:
-                assert trie.tend() in (True, False) and dict(now.items()) == model
+                assert list(walk) == [(1, None, 5), (3, 7, None)] and list(walk) == []
+            assert list(now.changes_since(now.items())) == []
+            walk = now.changes_since([])
+            now.renew()
+            assert raises(RuntimeError, next, walk)
+            for wrong in ([(2, 1), (1, 1)], [(2, 1), (2, 1)], [(1, 1), (128, 1)], [(-1, 1)]):
+                assert raises(augtrie.BadKey, now.changes_since, wrong)
+            assert raises(augtrie.BadLength, now.changes_since, [(i, 1) for i in range(129)])
+            assert raises(ValueError, now.changes_since, [(1, 2, 3)]) and raises(ValueError, now.changes_since, [(1, -1)])
+            assert raises(TypeError, now.changes_since, 5) and raises(TypeError, now.changes_since, [5]) and raises(TypeError, now.changes_since)
+        assert raises(augtrie.NotLooking, now.changes_since, []) and trie.tend() is False
     assert raises(augtrie.Closed, trie.tend)
-
-
-@test
-def a_copy_follows_what_other_threads_change():
-    with Trie(7, users=3, bytes=3 << 16) as trie:
-        over = []
-
-        def work(seed):
-            rng = random.Random(seed)
-            try:
-                for _ in range(4000):
-                    key = rng.randrange(128)
-                    trie.increment(key) if rng.random() < 0.6 else trie.discard(key)
-            finally:
-                over.append(seed)
-
-        ended = at_once(lambda: work(1), lambda: work(2))
-        while len(over) < 2:
-            with trie.snapshot() as now:
-                copy_of = dict(now.items())
-                for _ in range(5):
-                    # Since the copy, where a new round began in between.
-                    walk = now.changes() if now.renew() else now.changes_since(sorted(copy_of.items()))
-                    for key, before, weight in walk:
-                        assert copy_of.pop(key, None) == before != weight
-                        if weight is not None:
-                            copy_of[key] = weight
-                    assert copy_of == dict(now.items())
-        assert ended() == [None, None]
 
 
 @test
@@ -518,51 +368,6 @@ def who_holds_a_snapshot_asks_it_alone():
             assert elsewhere(lambda: (trie.add(2), len(trie), len(now))) == (True, 2, 1)
         assert len(trie) == 2 and raises(augtrie.NotLooking, len, now) and raises(augtrie.NotLooking, now.renew)
         assert raises(augtrie.NotLooking, now.__enter__) and now.close() is None
-
-
-@test
-def a_thread_updates_beside_its_snapshot_over_many_rounds():
-    rng = random.Random(6)
-    # With so few bytes a round has 64 updates.
-    with Trie(4, users=1, bytes=33_768) as trie:
-        model = {}
-
-        def put():
-            key, weight = rng.randrange(16), rng.randrange(9)
-            assert trie.put(key, weight) == model.get(key)
-            model[key] = weight
-
-        for left in reversed(range(64)):
-            while trie.room() != left:
-                put()
-            before, kept = dict(model), sorted(model.items())
-            with trie.snapshot() as now:
-                # What is left of its round, and all of the next four.
-                for made in range(left + 4 * 64):
-                    put()
-                    assert made % 16 or list(now.items()) == kept
-                assert trie.room() == 0 and list(now.items()) == kept == list(now.items(0, 15)) and list(now.changes()) == []
-                assert now.renew() is False and raises(augtrie.NothingToCompare, now.changes) and dict(now.items()) == model
-                assert list(now.changes_since(kept)) == differences(before, model)
-                # The next update begins a round, and the one after that is in the same.
-                for is_same_round in (False, True):
-                    before = dict(model)
-                    put()
-                    assert now.renew() is is_same_round
-                    assert list(now.changes()) == differences(before, model) if is_same_round else raises(augtrie.NothingToCompare, now.changes)
-
-
-@test
-def a_thread_makes_each_update_beside_its_snapshot():
-    with Trie(6) as trie:
-        trie.update([1, 2, 3])
-        with trie.snapshot() as now:
-            assert trie.add(9) and trie.discard(9) and trie.put(2, 5) == 2 and trie.increment(2) == 6 and trie.decrement(2, 6) == 0
-            assert trie.popitem(0) == (1, 1) and trie.popitem() == (3, 3) and raises(KeyError, trie.popitem) and raises(KeyError, trie.remove, 3)
-            assert trie.update(range(64)) == 64 and trie.difference_update(range(60)) == 60 and trie.put_all([61, 62], [7, 8]) == 2
-            assert raises(augtrie.BadKey, trie.add, 64) and raises(augtrie.TooLittle, trie.decrement, 5)
-            assert list(now.items()) == [(1, 1), (2, 2), (3, 3)] and len(now) == 3
-            assert now.renew() and list(now.items()) == [(60, 60), (61, 7), (62, 8), (63, 63)] and len(list(now.changes())) == 7
 
 
 @test
@@ -734,42 +539,6 @@ def four_threads_raise_the_same_keys():
             before, now = zip(*sum(parts, []))
             # Each weight is found as often as it is left: 0 at first, and the last one now.
             assert sorted([*before, trie.weight(key)]) == sorted([0, *now])
-
-
-@test
-def a_hundred_thousand_calls_answer_as_a_sorted_dict_does():
-    rng = random.Random(5)
-    keys, weights = [], {}
-    with Trie(9, users=1, bytes=3 << 16) as trie:
-        for _ in range(100_000):
-            key, what = rng.randrange(512), rng.randrange(8)
-            at = bisect.bisect_left(keys, key)
-            is_new = key not in weights
-            if what < 3:
-                weights[key] = weights.get(key, 0) + what + 1
-                assert trie.increment(key, what + 1) == weights[key]
-            elif what == 3:
-                assert trie.add(key) is is_new
-                weights.setdefault(key, key)
-            elif what == 4:
-                assert trie.discard(key) is not is_new
-                if not is_new:
-                    del weights[key], keys[at]
-                continue
-            elif what == 5:
-                assert trie.bisect_left(key) == at and (key in trie) is not is_new
-                continue
-            elif what == 6:
-                assert trie.weight(key) == weights.get(key) and len(trie) == len(keys)
-                continue
-            else:
-                if keys:
-                    assert trie.popitem(0) == (keys[0], weights[keys[0]])
-                    del weights[keys.pop(0)]
-                continue
-            if is_new:
-                keys.insert(at, key)
-        assert list(trie.items()) == [(key, weights[key]) for key in keys]
 
 
 @test
@@ -1384,12 +1153,6 @@ def an_update_by_a_mapping_takes_its_weights():
         assert raises(TypeError, trie.update, {1: 3, 2: "3"}) and raises(TypeError, trie.update, {"1": 3}) and trie.weight(1) == 6 and trie.weight(5) == 5
         assert trie.difference_update({1: 5}, {16: 1}) == 1 and 1 not in trie
     assert raises(augtrie.Closed, trie.update) and raises(augtrie.Closed, trie.update, {1: 1})
-
-
-@test
-def many_weights_count_as_in_other_languages():
-    with Trie(8) as trie:
-        assert trie.put_all(range(200), [1] * 200) == 200 and trie.put_all([0, 1, 250], [2, 1, 2]) == 3 and trie.put_all([], []) == 0
 
 
 @test

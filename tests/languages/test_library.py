@@ -50,8 +50,12 @@ REPORTS = {
     "LSAN_OPTIONS": "exitcode=66",
 }
 
+# The rows of tests/rows, and the fewest that each player has to play, with those that are drawn.
+ROWS = sorted(glob.glob(os.path.join(TOP, "tests", "rows", "*.rows")))
+LEAST_ROWS = {"c": 320000, "rust": 170000, "python": 90000}
+
 # The fewest tests that each part must have run in one folder, and the fewest answers that the benchmark compares of an engine and a workload.
-LEAST_PYTHON, LEAST_RUST, LEAST_ANSWERS = 40, 30, 2001
+LEAST_PYTHON, LEAST_RUST, LEAST_ANSWERS = 40, 25, 2001
 
 # The engines of the benchmark, and the types that their threads work with. The last one needs a crate that may not be there.
 ENGINES = {
@@ -202,7 +206,15 @@ def test_names_and_codes_agree():
 def test_names_of_codes_that_tests_have():
     folder = os.path.join(BINDINGS, "c", "tests")
     tested = set(re.findall(r"\bAUG_\w+", "".join(read(folder, name) for name in os.listdir(folder))))
+    tested |= {f"AUG_{code.upper()}" for file in ROWS for code in re.findall(r"^ *[\w#]+\.\w.* = ([a-z]\w+)", read(file), re.M)}
     assert set(re.findall(r"\b(AUG_\w+) = -?\d+", read("bindings", "c", "augtrie.h"))) <= tested
+
+
+def test_names_of_calls_that_rows_have():
+    # Those that are left have no answer of their own.
+    played = {call.partition("try_")[2] or call for file in ROWS for call in re.findall(r"^ *[\w#]+\.(\w+)", read(file), re.M)} - {"shows"}
+    names = {re.sub("^aug_(try_)?", "", name) for name in shown()} - {"version", "error_text"}
+    assert played == {"user" if name == "user_open" else name for name in names} - {"user_close"}
 
 
 def test_names_and_versions_agree():
@@ -229,6 +241,35 @@ def test_rust_crate_is_checked_and_documented_without_the_library():
 
 
 HELD = tempfile.TemporaryDirectory(prefix="library-")
+
+
+@functools.lru_cache
+def drawn_rows(*how):
+    """A file of rows that are drawn."""
+    path = os.path.join(HELD.name, f"drawn{len(how)}.rows")
+    said_by(sys.executable, os.path.join(TOP, "tests", "rows", "draw.py"), path, *how)
+    return path
+
+
+def wrong_rows(text):
+    """A file of rows with one wrong answer, for the first row of each call and kind of answer: its line, and the file."""
+    lines, seen = text.splitlines(), set()
+    for at, line in enumerate(lines):
+        found = re.fullmatch(r" *[\w#]+\.(\w+)[^=]*?(?: \[[^]]*\])?[\w ]*( = ?[^(]*)?(\(.*\))?", line)
+        if line.startswith("#") or not found:
+            continue
+        call, answer, told = found.groups()
+        wrong = []
+        if call == "shows" or (answer or "").endswith("]"):
+            wrong.append(("list", line[:-1] + " 60007]"))
+        else:
+            wrong.append((answer, line.replace(answer, " = 60007 ") if answer else f"{line} = 60007"))
+        if told:
+            wrong.append(("told", line.replace(told, re.sub(r"\w\S*", "60007", told, count=1))))
+        for kind, changed in wrong:
+            if (call, kind) not in seen:
+                seen.add((call, kind))
+                yield at + 1, "\n".join([*lines[:at], changed, *lines[at + 1 :]])
 
 
 @functools.lru_cache
@@ -277,11 +318,15 @@ class Installed:
         library = [os.path.join(BINDINGS, "c", "augtrie.c"), *self.parts()]
         return self.compiled("c", "tests", "refused.c", words=[CC, "-std=c11", REFUSED, *words], library=library)
 
-    def test_c_threads_and_misuses(self):
-        assert re.search(r"^ok: \d+ answers, 1024 checks\n$", said_by(self.compiled("c", "tests", "threads.c")))
+    def test_c_rows(self):
+        said = said_by(self.compiled("c", "tests", "rows.c"), *ROWS, drawn_rows())
+        assert int(re.fullmatch(r"ok: (\d+) rows\n", said)[1]) >= LEAST_ROWS["c"]
 
-    def test_c_a_thousand_tries(self):
-        assert self.answers_in("tries.c") >= 10000
+    def test_c_threads(self):
+        assert self.answers_in("threads.c") >= 15000
+
+    def test_c_misuse(self):
+        assert self.answers_in("misuse.c") >= 800
 
     def test_c_each_request_for_memory_refused(self):
         said = said_by(self.refused())
@@ -294,40 +339,12 @@ class Installed:
         """How many answers a test in C compares, with what they have to be."""
         return int(re.fullmatch(r"ok: (\d+) answers\n", said_by(self.compiled("c", "tests", name)))[1])
 
-    def test_c_many_keys(self):
-        assert self.answers_in("many.c") >= 300
-
-    def test_c_changes(self):
-        assert self.answers_in("changes.c") >= 500000
-
-    def test_c_a_thousand_rounds(self):
-        said = said_by(self.compiled("c", "tests", "rounds.c"))
-        assert int(re.fullmatch(r"ok: (\d+) answers, 1260 rounds\n", said)[1]) >= 250000
-
-    def test_c_sums(self):
-        assert self.answers_in("sums.c") >= 36000
-
-    def test_c_pops(self):
-        assert self.answers_in("pops.c") >= 8192
-
-    def test_c_told(self):
-        assert self.answers_in("told.c") >= 10000
-
     def test_c_updates_beside_readers(self):
         said = said_by(self.compiled("c", "tests", "readers.c"))
         assert re.fullmatch(r"ok: \d+ answers, \d{3,} updates\n", said), said
 
-    def test_c_updates_beside_a_look_of_their_user(self):
-        assert self.answers_in("beside.c") >= 1400
-
-    def test_c_each_number_of_bits_and_64_users(self):
-        assert self.answers_in("sizes.c") >= 10000
-
     def test_c_turns_of_others(self):
         assert self.answers_in("waits.c") >= 50
-
-    def test_c_calls_write_no_handle(self):
-        assert self.answers_in("untouched.c") >= 40
 
     def test_c_first(self):
         assert said_by(self.compiled("c", "examples", "first.c")) == "500 of 1000 are below 500\n"
@@ -388,6 +405,10 @@ class Module:
         passed = re.fullmatch(r"(\d+) passed, 0 failed", said.splitlines()[-1])
         assert int(passed[1]) >= LEAST_PYTHON
 
+    def test_python_rows(self):
+        said = self.python(os.path.join(BINDINGS, "python", "test_rows.py"), drawn_rows("short"))
+        assert int(re.fullmatch(r"ok: (\d+) rows, \d+ passed over\n", said)[1]) >= LEAST_ROWS["python"]
+
     def test_python_first(self):
         assert self.python(os.path.join(BINDINGS, "python", "first.py")) == "500 of 1000 are below 500\n7 to 9 weigh 49\n"
 
@@ -421,13 +442,35 @@ class Plus:
                 said_by(compiler, "-O2", *WARNINGS, include, *words, "-c", path, "-o", os.path.join(self.folder, "other.o"))
 
 
+class Refuses:
+    """What the player of rows says of files with a wrong answer."""
+
+    def test_c_rows_with_a_wrong_answer_are_refused(self):
+        program, path, count = self.compiled("c", "tests", "rows.c"), os.path.join(self.folder, "wrong.rows"), 0
+        for file in ROWS:
+            for line, text in wrong_rows(read(file)):
+                with open(path, "w", encoding="utf-8") as wrong:
+                    wrong.write(text)
+                assert said_by(program, path, status=1).startswith(f"{path}:{line} "), (file, line)
+                count += 1
+        assert count >= 300
+
+    def test_c_rows_that_say_nothing_are_refused(self):
+        program, path = self.compiled("c", "tests", "rows.c"), os.path.join(self.folder, "none.rows")
+        for text in "", "# a.size = 1\n", "a.sizes = 1\n", "a.size 1 = 1\n", "repeat 0 {\n    a.size = 1\n}\n", "repeat 2 {\na.size = closed\n", "a.size = clos\n":
+            with open(path, "w", encoding="utf-8") as empty:
+                empty.write(text)
+            said_by(program, path, status=1)
+        said_by(program, status=2)
+
+
 class Checked:
     """What valgrind says of the C programs."""
 
     def test_c_under_valgrind(self):
-        programs = [self.compiled("c", "tests", f"{name}.c", words=[CC, "-std=c11", "-g"]) for name in ("threads", "many", "tries", "pops", "told", "waits", "changes", "beside")]
-        for program in self.refused("-g"), *programs:
-            said_by("valgrind", "-q", "--error-exitcode=9", "--leak-check=full", program)
+        rows, *programs = [self.compiled("c", "tests", f"{name}.c", words=[CC, "-std=c11", "-g"]) for name in ("rows", "threads", "misuse", "waits")]
+        for program, *words in [self.refused("-g")], [rows, *ROWS], *([program] for program in programs):
+            said_by("valgrind", "-q", "--error-exitcode=9", "--leak-check=full", program, *words)
 
 
 class Sanitized:
@@ -447,7 +490,7 @@ class Sanitized:
 
     def check_sanitized(self, sanitizer):
         assert CROWD.fullmatch(self.sanitized(sanitizer, "crowd", CROWD_SECONDS))
-        assert re.fullmatch(r"ok: \d+ answers, \d+ checks\n", self.sanitized(sanitizer, "threads"))
+        assert re.fullmatch(r"ok: \d+ answers\n", self.sanitized(sanitizer, "threads"))
 
     @with_tool("thread sanitizer")
     def test_c_has_no_race(self):
@@ -456,7 +499,9 @@ class Sanitized:
     @with_tool("address sanitizer")
     def test_c_stays_in_its_memory_and_gives_it_back(self):
         self.check_sanitized("address")
-        assert re.fullmatch(r"ok: \d+ answers\n", self.sanitized("address", "waits"))
+        for name in "waits", "misuse":
+            assert re.fullmatch(r"ok: \d+ answers\n", self.sanitized("address", name))
+        assert re.fullmatch(r"ok: \d+ rows\n", self.sanitized("address", "rows", *ROWS))
 
     @with_tool("thread sanitizer")
     def test_c_race_is_found(self):
@@ -481,13 +526,17 @@ class Sanitized:
 class Crate:
     """The Rust crate."""
 
-    def cargo(self, *words, quiet=("-q",), found=None):
-        env = {**os.environ, **(found or {"AUGTRIE_LIB": os.path.join(self.folder, "lib")}), "CARGO_TARGET_DIR": os.path.join(self.folder, "target")}
-        return said_by("cargo", *words, "--offline", *quiet, "--manifest-path", os.path.join(BINDINGS, "rust", "Cargo.toml"), env=env)
+    def cargo(self, *words, quiet=("-q",), found=None, more=()):
+        env = {**os.environ, **dict(more), **(found or {"AUGTRIE_LIB": os.path.join(self.folder, "lib")}), "CARGO_TARGET_DIR": os.path.join(self.folder, "target")}
+        return said_by("cargo", words[0], "--offline", *quiet, "--manifest-path", os.path.join(BINDINGS, "rust", "Cargo.toml"), *words[1:], env=env)
 
     def test_rust_crate(self):
         counts = [int(count) for count in re.findall(r"test result: ok\. (\d+) passed; 0 failed", self.cargo("test"))]
         assert sum(counts) >= LEAST_RUST
+
+    def test_rust_rows(self):
+        said = self.cargo("test", "--test", "rows", "each_row_is_answered", "--", "--nocapture", more={"ROWS": drawn_rows()})
+        assert int(re.search(r"^ok: (\d+) rows, \d+ passed over$", said, re.M)[1]) >= LEAST_ROWS["rust"]
 
     def test_rust_first(self):
         assert re.fullmatch(r"500 of \d+ are below 500\n1000 at the end\n", self.cargo("run", "--example", "first"))
@@ -714,6 +763,7 @@ class Counted:
 # The parts, each with the tools that it needs beside those of the first, and the builds that it is for: what needs one build alone has LLVM's.
 PARTS = [
     (["ar", "objcopy", CC], Installed, BACKENDS),
+    ([], Refuses, ["llvm"]),
     (["valgrind"], Checked, BACKENDS),
     ([], Sanitized, ["llvm"]),
     ([CXX], Plus, BACKENDS),

@@ -1,7 +1,6 @@
 /* Three threads look again and again for a millisecond each, with no pause between two looks, and one updates a table that is soon full: of its updates
    that wait, nine of ten take no more than 100 milliseconds, by the calls that wait and by those that never do. On a busy machine the best of some
-   measurements counts, and more is allowed where a thread stands still for long that waits for nobody. Who says that he waits and is closed, or no longer
-   waits, holds up nobody. */
+   measurements counts, and more is allowed where a thread stands still for long that waits for nobody. */
 #define _DEFAULT_SOURCE
 #include "augtrie.h"
 #include "want.h"
@@ -124,41 +123,6 @@ static void check_waits(aug_user *user, aug_user *alone, int64_t (*update)(aug_u
     WANT(is_in_time, 1);
 }
 
-/* The end of a look sleeps if somebody waits, and at least 50 microseconds. */
-static int makes_room(aug_user *user) {
-    int64_t least = SECOND;
-    for (int i = 0; i < 200; i++) {
-        MUST(aug_look(user), 0);
-        int64_t begin = now();
-        MUST(aug_look_done(user), 0);
-        if (now() - begin < least) least = now() - begin;
-    }
-    return least >= 50000;
-}
-
-static void check_who_waits(aug_user *user) {
-    aug_user waits = AUG_ZEROED;
-    WANT(aug_wait_begin(NULL), AUG_CLOSED);
-    WANT(aug_wait_begin((aug_user *)&trie), AUG_CLOSED);
-    WANT(aug_wait_begin(&waits), AUG_CLOSED);
-    WANT(aug_user_open(&trie, &waits), 0);
-    WANT(aug_wait_end(&waits), 0);
-    WANT(makes_room(user), 0);
-    for (int i = 0; i < 2; i++) WANT(aug_wait_begin(&waits), 0);
-    WANT(makes_room(user), 1);
-    for (int i = 0; i < 2; i++) WANT(aug_wait_end(&waits), 0);
-    WANT(makes_room(user), 0);
-    WANT(aug_wait_begin(&waits), 0);
-    WANT(aug_user_close(&waits), 0);
-    WANT(aug_wait_end(&waits), AUG_CLOSED);
-    WANT(makes_room(user), 0);
-    /* The next user with this place does not wait, until it says so. */
-    WANT(aug_user_open(&trie, &waits), 0);
-    WANT(aug_wait_begin(&waits), 0);
-    WANT(makes_room(user), 1);
-    WANT(aug_user_close(&waits), 0);
-}
-
 int main(void) {
     aug_user user = AUG_ZEROED, alone = AUG_ZEROED;
     uint32_t updates = 0;
@@ -166,7 +130,6 @@ int main(void) {
     WANT(aug_user_open(&unread, &alone), 0);
     WANT(aug_open(&trie, 4, READERS + 1, BYTES), 0);
     WANT(aug_user_open(&trie, &user), 0);
-    check_who_waits(&user);
     check_waits(&user, &alone, add, &updates);
     check_waits(&user, &alone, add_by_tries, &updates);
     WANT(aug_user_close(&user), 0);

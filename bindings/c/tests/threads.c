@@ -1,220 +1,297 @@
-/* Four threads insert, remove and ask at the same time; what they did adds up; each misuse is answered by its code; and the calls that never
-   wait say when they would. */
+/* Several threads at once: each update begins with the weight that another one left, each member is popped by one thread, 64 users work at the same time,
+   what changed is followed beside writers, and users are closed by other threads than had them. */
 #include "augtrie.h"
 #include "want.h"
 
 #include <pthread.h>
+#include <stdatomic.h>
+#include <string.h>
 
-enum { BITS = 12, KEYS = 1 << BITS, THREADS = 4 };
+enum { THREADS = 4 };
 
 static aug_trie trie = AUG_ZEROED;
 
-struct worker { uint32_t step, in, out, checks; };
+/* Has so many threads work, each with a number, its user and what it is given, and waits for them. */
+struct worker { pthread_t thread; uint32_t number; aug_user user; void *(*work)(void *); };
+static struct worker workers[AUG_MOST_USERS];
 
-/* All answers of one look agree with one another, whatever the other threads do. */
-static const char *check(aug_user *user, uint32_t k) {
-    aug_span s;
-    if (aug_look(user) != 0) return "look";
-    int64_t n = aug_size(user), r = aug_rank(user, k), h = aug_has(user, k);
-    if (aug_range(user, 0, KEYS, &s) != n || (int64_t)s.count != n) return "range";
-    if (n && (aug_first(user) != (int64_t)s.least || aug_last(user) != (int64_t)s.greatest)) return "first and last";
-    if (aug_rank(user, k + 1) != r + h) return "rank";
-    int64_t m = aug_select(user, (uint32_t)r);
-    if (h && m != (int64_t)k) return "select";
-    if (!h && aug_after(user, k) != m) return "after";
-    if (r && aug_before(user, k) != aug_select(user, (uint32_t)r - 1)) return "before";
-    if (aug_look_again(user) < 0 || aug_size(user) < 0) return "look again";
-    return aug_look_done(user) == 0 ? NULL : "look done";
+static void *begin(void *of) {
+    struct worker *w = of;
+    MUST(aug_user_open(&trie, &w->user), AUG_OK);
+    return w->work(w);
 }
 
-static void *work(void *arg) {
-    struct worker *w = arg;
+static void start(uint32_t count, void *(*work)(void *)) {
+    for (uint32_t i = 0; i < count; i++) {
+        workers[i] = (struct worker){.number = i, .work = work};
+        WANT(pthread_create(&workers[i].thread, NULL, begin, &workers[i]), 0);
+    }
+}
+
+static void join(uint32_t count, int64_t closed) {
+    for (uint32_t i = 0; i < count; i++) {
+        WANT(pthread_join(workers[i].thread, NULL), 0);
+        WANT(aug_user_close(&workers[i].user), closed);
+    }
+}
+
+/* ---- What updates tell of each other ---- */
+
+/* With so few bytes, the fewest for five users, the table is full again and again. */
+enum { KEYS = 9, UPDATES = 4000 };
+
+/* What the updates of a thread told that stored something. */
+static struct link { uint32_t key; aug_told told; } links[THREADS][UPDATES];
+static uint32_t link_counts[THREADS];
+
+/* To a third of the keys amounts are added, another third has amounts taken away too, and the last one any update. */
+static int64_t change(aug_user *user, uint32_t key, uint32_t n, uint32_t number, aug_told *told) {
+    switch (key % 3 == 0 ? 0 : key % 3 == 1 ? n % 2 : n % 6) {
+        case 0: return aug_add(user, key, number, told);
+        case 1: return aug_sub(user, key, number, told);
+        case 2: return aug_put(user, key, number, told);
+        case 3: return aug_remove(user, key, told);
+        case 4: return aug_try_add(user, key, number, told);
+        default: return aug_try_put(user, key, number, told);
+    }
+}
+
+static void *change_all(void *of) {
+    struct worker *w = of;
+    uint32_t drawn = 1 + w->number;
+    for (uint32_t made = 0; made < UPDATES;) {
+        aug_told told = {77, 78};
+        drawn = drawn * 1664525u + 1013904223u;
+        const uint32_t key = (drawn >> 8) % KEYS, n = drawn >> 16, number = 1 + n % 7;
+        const int64_t code = change(&w->user, key, n, number, &told);
+        made += code != AUG_AGAIN;
+        if (code == 1 || code == 2) links[w->number][link_counts[w->number]++] = (struct link){key, told};
+        else if (code == AUG_AGAIN) MUST(told.before == 77 && told.now == 78, 1);
+        else MUST((code == 0 || code == AUG_TOO_LITTLE) && told.before == told.now, 1);
+        if (key % 3 == 0) MUST(told.now, number + (told.before == AUG_NONE ? 0 : told.before));
+    }
+    return NULL;
+}
+
+static int compare(const void *a, const void *b) {
+    const int64_t one = *(const int64_t *)a, other = *(const int64_t *)b;
+    return (one > other) - (one < other);
+}
+
+/* Of each key, every weight is found as often as it is left, where AUG_NONE is left at first, and the look finds the last one. So the updates of a key
+   whose weight only rises are one chain. */
+static void chains(void) {
+    static int64_t found[THREADS * UPDATES + 1], left[THREADS * UPDATES + 1];
     aug_user user = AUG_ZEROED;
-    if (aug_user_open(&trie, &user) != 0) return "open";
-    for (uint32_t k = 0; k < KEYS; k++) {
-        if (k % w->step == 0) { int64_t r = aug_insert(&user, k); if (r < 0) return "insert"; w->in += (uint32_t)r; }
-        if (k % 7 == w->step % 7) { int64_t r = aug_remove(&user, k, NULL); if (r < 0) return "remove"; w->out += (uint32_t)r; }
-        if (k % 16 == 0) {
-            const char *wrong = check(&user, k);
-            if (wrong) return (void *)wrong;
-            w->checks++;
-        }
+    WANT(aug_open(&trie, 6, THREADS + 1, 241848), AUG_OK);
+    WANT(aug_user_open(&trie, &user), AUG_OK);
+    start(THREADS, change_all);
+    join(THREADS, AUG_OK);
+    WANT(aug_look(&user), AUG_OK);
+    for (uint32_t key = 0; key < KEYS; key++) {
+        uint32_t count = 0;
+        for (int i = 0; i < THREADS; i++)
+            for (uint32_t n = 0; n < link_counts[i]; n++)
+                if (links[i][n].key == key) found[count] = links[i][n].told.before, left[count++] = links[i][n].told.now;
+        WANT(count >= UPDATES / KEYS, 1);
+        found[count] = aug_weight(&user, key), left[count] = AUG_NONE;
+        qsort(found, count + 1, sizeof *found, compare);
+        qsort(left, count + 1, sizeof *left, compare);
+        for (uint32_t n = 0; n <= count; n++) WANT(found[n], left[n]);
     }
-    return aug_user_close(&user) == 0 ? NULL : "close";
+    WANT(aug_user_close(&user), AUG_OK);
+    WANT(aug_close(&trie, NULL), AUG_OK);
 }
 
-/* The table is so small that the threads give it new rounds again and again. */
-static uint32_t threads_agree(void) {
-    struct worker w[THREADS] = {{.step = 3}, {.step = 5}, {.step = 2}, {.step = 3}};
-    pthread_t threads[THREADS];
+/* ---- Members that are popped ---- */
+
+enum { TIMERS = 4096 };
+static unsigned char popped[THREADS][TIMERS];
+
+/* Each second thread takes the last member, the others the first, until there is none. */
+static void *pop_all(void *of) {
+    struct worker *w = of;
+    const int last = w->number % 2;
+    uint32_t before = last ? TIMERS : 0;
+    aug_member member;
+    int64_t code;
+    while ((code = last ? aug_pop_last(&w->user, &member) : aug_pop_first(&w->user, &member)) == 1) {
+        MUST(member.weight, 3 * member.key + 7);
+        MUST(last ? member.key < before : member.key + 1 > before, 1);
+        before = last ? member.key : member.key + 1;
+        popped[w->number][member.key]++;
+    }
+    MUST(code, AUG_NONE);
+    return NULL;
+}
+
+static void pops(void) {
+    aug_user user = AUG_ZEROED;
     aug_report report;
-    uint32_t in = 0, out = 0, checks = 0;
-    WANT(aug_open(&trie, BITS, THREADS, 1058160), 0);
-    for (int i = 0; i < THREADS; i++) WANT(pthread_create(&threads[i], 0, work, &w[i]), 0);
-    for (int i = 0; i < THREADS; i++) {
-        void *what;
-        WANT(pthread_join(threads[i], &what), 0);
-        if (what) { printf("thread %d: %s\n", i, (char *)what); exit(1); }
-        in += w[i].in, out += w[i].out, checks += w[i].checks;
+    WANT(aug_open(&trie, 12, THREADS + 1, 3 << 19), AUG_OK);
+    WANT(aug_user_open(&trie, &user), AUG_OK);
+    for (uint32_t key = 0; key < TIMERS; key++) WANT(aug_put(&user, key, 3 * key + 7, NULL), 1);
+    start(THREADS, pop_all);
+    join(THREADS, AUG_OK);
+    for (uint32_t key = 0; key < TIMERS; key++) {
+        int times = 0;
+        for (int i = 0; i < THREADS; i++) times += popped[i][key];
+        WANT(times, 1);
     }
-    WANT(aug_close(&trie, &report), 0);
-    WANT(report.inserts, in);
-    WANT(report.removals, out);
-    WANT(report.size, in - out);
-    return checks;
+    WANT(aug_close(&trie, &report), AUG_OK);
+    WANT(report.size == 0 && report.inserts == TIMERS && report.removals == TIMERS, 1);
+    WANT(aug_user_close(&user), AUG_OK);
 }
 
-/* Each misuse has its code. */
-static void misuses(void) {
-    aug_trie other = AUG_ZEROED, third = AUG_ZEROED;
-    aug_user one = AUG_ZEROED, two = AUG_ZEROED, more = AUG_ZEROED, wild = {.tag = 0x1234, .at = (void *)8, .of = (void *)8};
-    uint32_t key = 9;
-    WANT(aug_open(NULL, BITS, 1, 1 << 20), AUG_CLOSED);
-    WANT(aug_tend(NULL), AUG_CLOSED);
-    WANT(aug_insert(NULL, 1), AUG_CLOSED);
-    WANT(aug_close(&other, NULL), AUG_CLOSED);
-    WANT(aug_user_open(&other, &one), AUG_CLOSED);
-    WANT(aug_user_close(&one), AUG_CLOSED);
-    WANT(aug_insert(&one, 1), AUG_CLOSED);
-    WANT(aug_insert(&wild, 1), AUG_CLOSED);
-    WANT(aug_insert_all(&wild, &key, 1), AUG_CLOSED);
-    WANT(aug_user_close(&wild), AUG_CLOSED);
-    WANT(aug_user_close(NULL), AUG_CLOSED);
-    WANT(aug_insert((aug_user *)&other, 1), AUG_CLOSED);
-    WANT(aug_open(&other, 0, 1, 1 << 20), AUG_BAD_BITS);
-    WANT(aug_open(&other, 17, 1, 1 << 20), AUG_BAD_BITS);
-    WANT(aug_open(&other, BITS, 0, 1 << 20), AUG_BAD_USERS);
-    WANT(aug_open(&other, BITS, 65, 1 << 20), AUG_BAD_USERS);
-    WANT(aug_open(&other, BITS, 1, 1000), AUG_TOO_LARGE);
-    WANT(aug_open(&other, BITS, 1, 781607), AUG_TOO_LARGE);
-    WANT(aug_open(&other, BITS, 1, AUG_MOST_BYTES + 1), AUG_TOO_LARGE);
-    WANT(aug_open(&other, BITS, 1, UINT64_MAX), AUG_TOO_LARGE);
-    WANT(aug_open(&other, BITS, 1, 781608), 0);
-    WANT(aug_close(&other, NULL), 0);
-    WANT(aug_open(&other, BITS, 2, 1 << 20), 0);
-    WANT(aug_open(&other, BITS, 2, 1 << 20), AUG_OPEN);
-    /* The handle of a trie is no user, and nothing behind it is read. */
-    WANT(aug_insert((aug_user *)&other, 1), AUG_CLOSED);
-    WANT(aug_remove_all((aug_user *)&other, &key, 1), AUG_CLOSED);
-    WANT(aug_keys((aug_user *)&other, 0, &key, 1), AUG_CLOSED);
-    WANT(aug_user_close((aug_user *)&other), AUG_CLOSED);
-    WANT(aug_user_open(&other, &one), 0);
-    WANT(aug_user_open(&other, &one), AUG_OPEN);
-    WANT(aug_user_open(&other, &two), 0);
-    WANT(aug_user_open(&other, &more), AUG_NO_USER);
-    /* Nothing is opened over an open handle of the other kind, which stays open. */
-    WANT(aug_open(&third, BITS, 1, 1 << 20), 0);
-    WANT(aug_user_open(&third, (aug_user *)&other), AUG_CLOSED);
-    WANT(aug_user_open(&third, (aug_user *)&third), AUG_CLOSED);
-    WANT(aug_open((aug_trie *)&one, BITS, 1, 1 << 20), AUG_CLOSED);
-    WANT(aug_user_open((aug_trie *)&one, &more), AUG_CLOSED);
-    WANT(aug_close((aug_trie *)&one, NULL), AUG_CLOSED);
-    /* Nor is the place of a user that was closed given to one. */
-    WANT(aug_user_open(&third, &more), 0);
-    WANT(aug_user_close(&more), 0);
-    WANT(aug_user_open(&third, (aug_user *)&other), AUG_CLOSED);
-    WANT(aug_close(&third, NULL), 0);
-    WANT(aug_insert(&one, KEYS), AUG_BAD_KEY);
-    WANT(aug_put(&one, 9, 4000000000u, NULL), 1);
-    WANT(aug_put(&one, 9, 4000000001u, NULL), 2);
-    WANT(aug_room(NULL), AUG_CLOSED);
-    WANT(aug_room((aug_user *)&other), AUG_CLOSED);
-    WANT(aug_size(&one), AUG_NOT_LOOKING);
-    WANT(aug_look_again(&one), AUG_NOT_LOOKING);
-    WANT(aug_look_done(&one), AUG_NOT_LOOKING);
-    WANT(aug_look(&one), 0);
-    WANT(aug_look(&one), AUG_LOOKING);
-    WANT(aug_try_look(&one), AUG_LOOKING);
-    WANT(aug_room(&one) == aug_try_room(&one), 1);
-    WANT(aug_put(&one, 9, 5, NULL), 2);
-    WANT(aug_has(&one, 9), 1);
-    WANT(aug_has(&one, 4000000000u), 0);
-    WANT(aug_weight(&one, 9), 4000000001LL);
-    WANT(aug_weight(&one, 8), AUG_NONE);
-    WANT(aug_select(&one, 1), AUG_NONE);
-    WANT(aug_before(&one, 9), AUG_NONE);
-    WANT(aug_rank(&one, 4000000000u), 1);
-    /* A user that is closed ends its look, and the next one has its place. */
-    WANT(aug_user_close(&one), 0);
-    WANT(aug_user_close(&one), AUG_CLOSED);
-    WANT(aug_user_open(&other, &more), 0);
-    WANT(aug_remove(&more, 9, NULL), 1);
-    WANT(aug_close(&other, NULL), 0);
-    WANT(aug_close(&other, NULL), AUG_CLOSED);
-    WANT(aug_user_open(&other, &one), AUG_CLOSED);
-    WANT(aug_insert(&more, 9), AUG_CLOSED);
-    WANT(aug_room(&more), AUG_CLOSED);
-    WANT(aug_look(&two), AUG_CLOSED);
-    WANT(aug_look_again(&two), AUG_NOT_LOOKING);
-    WANT(aug_user_close(&more), 0);
-    WANT(aug_user_close(&two), 0);
+/* ---- 64 users ---- */
+
+enum { BITS = 8, ADDITIONS = 300 };
+
+/* Adds to all keys in turn, and looks at times. No look goes back, whatever others do, or has what came later and not what came before it. */
+static void *add(void *of) {
+    aug_user *user = &((struct worker *)of)->user;
+    uint32_t keys[1 << BITS], weights[1 << BITS], seen[1 << BITS] = {0};
+    for (uint32_t i = 0; i < ADDITIONS; i++) {
+        MUST(aug_add(user, i % (1 << BITS), 1, NULL) > 0, 1);
+        if (i % 32) continue;
+        MUST(aug_look(user), AUG_OK);
+        for (int turn = 0; turn < 2; turn++) {
+            int64_t count = aug_list(user, 0, keys, weights, 1 << BITS);
+            MUST(count > 0 && aug_weight(user, i % (1 << BITS)) > i >> BITS, 1);
+            for (int64_t j = 0; j < count; j++) {
+                MUST(keys[j] == j && weights[j] >= seen[j] && (!j || weights[j] <= weights[j - 1]), 1);
+                seen[j] = weights[j];
+            }
+            MUST(weights[0] - (count >> BITS ? weights[count - 1] : 0) <= AUG_MOST_USERS, 1);
+            MUST(aug_look_again(user) >= 0, 1);
+        }
+        MUST(aug_look_done(user), AUG_OK);
+    }
+    return NULL;
 }
 
-/* Looks of two different earlier rounds hold up whoever would give the table a new one. Who calls again when one of them is done, or was taken again, goes
-   on, also within an array. */
-static void waits(void) {
-    enum { SOME = 100, ROOM = 64, HELD_UP = 3 * ROOM };
-    aug_trie small = AUG_ZEROED;
-    aug_user looks = AUG_ZEROED, other = AUG_ZEROED, works = AUG_ZEROED;
-    aug_progress so_far = {0, 0};
-    aug_told told = {77, 78};
-    uint32_t keys[SOME];
-    for (uint32_t k = 0; k < SOME; k++) keys[k] = k;
-    WANT(aug_open(&small, 7, 3, 183552), 0);
-    WANT(aug_user_open(&small, &works), 0);
-    WANT(aug_user_open(&small, &looks), 0);
-    WANT(aug_user_open(&small, &other), 0);
-    WANT(aug_look(&looks), 0);
-    for (uint32_t made = 0; made < HELD_UP; made++) {
-        WANT(aug_try_room(&works), made && made % ROOM == 0 ? 0 : ROOM - made % ROOM);
-        WANT(aug_try_insert(&works, made % (2 * ROOM)), made < 2 * ROOM);
-        if (made == ROOM) WANT(aug_look(&other), 0);
+static void all_users(void) {
+    WANT(aug_open(&trie, BITS, AUG_MOST_USERS, 3977520), AUG_OK);
+    start(AUG_MOST_USERS, add);
+    for (uint32_t i = 1; i < AUG_MOST_USERS; i++) WANT(pthread_join(workers[i].thread, NULL), 0);
+    WANT(pthread_join(workers[0].thread, NULL), 0);
+    WANT(aug_look(&workers[0].user), AUG_OK);
+    for (uint32_t key = 0; key < 1 << BITS; key++)
+        WANT(aug_weight(&workers[0].user, key), AUG_MOST_USERS * (ADDITIONS / (1 << BITS) + (key < ADDITIONS % (1 << BITS))));
+    for (uint32_t i = 0; i < AUG_MOST_USERS; i++) WANT(aug_user_close(&workers[i].user), AUG_OK);
+    WANT(aug_close(&trie, NULL), AUG_OK);
+}
+
+/* ---- A copy that follows ---- */
+
+enum { WRITERS = 2, SNAPSHOTS = 10, PLACES = 7, COPIED = 1 << BITS };
+static atomic_int writing;
+
+static void *write_on(void *of) {
+    struct worker *w = of;
+    for (uint32_t i = 0; i < UPDATES; i++) {
+        const uint32_t key = (i * 37 + w->number) % COPIED;
+        MUST((i / 50 % 2 ? aug_remove(&w->user, key, NULL) : aug_put(&w->user, key, i, NULL)) >= 0, 1);
     }
-    WANT(aug_try_insert(&works, 0), AUG_AGAIN);
-    WANT(aug_try_remove(&works, 0, &told), AUG_AGAIN);
-    WANT(aug_try_put(&works, 0, 7, &told), AUG_AGAIN);
-    WANT(aug_try_add(&works, 0, 7, &told), AUG_AGAIN);
-    WANT(aug_try_sub(&works, 0, 7, &told), AUG_AGAIN);
-    WANT(told.before == 77 && told.now == 78, 1);
-    WANT(aug_try_insert_all(&works, keys, SOME, &so_far), AUG_AGAIN);
-    WANT(so_far.made, 0);
-    /* What needs no new round goes on. */
-    WANT(aug_try_room(&works), 0);
-    WANT(aug_try_look(&works), 0);
-    WANT(aug_size(&works), 2 * ROOM);
-    WANT(aug_look_done(&works), 0);
-    WANT(aug_size(&looks), 0);
-    WANT(aug_size(&other), ROOM + 1);
-    WANT(aug_look_done(&looks), 0);
-    WANT(aug_try_remove_all(&works, keys, SOME, &so_far), 0);
-    WANT(so_far.made == SOME && so_far.changed == SOME, 1);
-    /* Stopped amid an array: the calls go on from there. */
-    const uint32_t left = 2 * ROOM - SOME;
-    so_far = (aug_progress){0, 0};
-    WANT(aug_room(&works), left);
-    WANT(aug_look(&looks), 0);
-    WANT(aug_try_insert_all(&works, keys, SOME, &so_far), AUG_AGAIN);
-    WANT(so_far.made == left + ROOM && so_far.changed == so_far.made, 1);
-    WANT(aug_size(&looks), left);
-    WANT(aug_try_look_again(&looks), 1);
-    WANT(aug_size(&looks), 2 * left + ROOM);
-    WANT(aug_try_insert_all(&works, keys, SOME, &so_far), 0);
-    WANT(so_far.changed, SOME);
-    WANT(aug_size(&looks), 2 * left + ROOM);
-    WANT(aug_size(&other), ROOM + 1);
-    WANT(aug_look_done(&looks), 0);
-    so_far.made = SOME + 1;
-    WANT(aug_try_remove_all(&works, keys, SOME, &so_far), AUG_BAD_LENGTH);
-    WANT(aug_close(&small, NULL), 0);
-    WANT(aug_user_close(&looks), 0);
-    WANT(aug_user_close(&other), 0);
-    WANT(aug_user_close(&works), 0);
+    writing--;
+    return NULL;
+}
+
+/* What the look shows, in a place for each key. */
+static int64_t list(aug_user *looks, int64_t *weights, uint32_t *keys, uint32_t *weighs) {
+    int64_t count = aug_list(looks, 0, keys, weighs, COPIED);
+    MUST(count, aug_size(looks));
+    for (uint32_t key = 0; key < COPIED; key++) weights[key] = AUG_NONE;
+    for (int64_t i = 0; i < count; i++) weights[keys[i]] = weighs[i];
+    return count;
+}
+
+/* Follows the snapshots of one look by what changed, a few changes at a time: since a list, where a new round began in between. */
+static void follow(aug_user *looks) {
+    static int64_t copy[COPIED], now[COPIED];
+    uint32_t keys[COPIED], weights[COPIED];
+    aug_change some[PLACES];
+    WANT(aug_look(looks), AUG_OK);
+    for (int i = 0; i < SNAPSHOTS; i++) {
+        const int64_t kept = list(looks, copy, keys, weights), is_since = aug_look_again(looks);
+        int64_t count = PLACES;
+        MUST(is_since == 0 || is_since == 1, 1);
+        if (is_since) MUST(aug_changes(looks, 0, some, PLACES), 0);
+        for (uint32_t from = 0; count == PLACES; from = some[PLACES - 1].key + 1) {
+            count = is_since ? aug_changes_since(looks, keys, weights, (size_t)kept, from, some, PLACES) : aug_changes(looks, from, some, PLACES);
+            MUST(count >= 0 && count <= PLACES, 1);
+            for (int64_t c = 0; c < count; c++) {
+                MUST(some[c].before, copy[some[c].key]);
+                copy[some[c].key] = some[c].now;
+            }
+        }
+        list(looks, now, keys, weights);
+        WANT(memcmp(copy, now, sizeof now), 0);
+    }
+    WANT(aug_look_done(looks), AUG_OK);
+}
+
+/* The table is so small that a look is taken again in many rounds. */
+static void beside_writers(void) {
+    aug_user looks = AUG_ZEROED;
+    WANT(aug_open(&trie, BITS, WRITERS + 1, 1 << 18), AUG_OK);
+    WANT(aug_user_open(&trie, &looks), AUG_OK);
+    writing = WRITERS;
+    start(WRITERS, write_on);
+    do follow(&looks); while (writing);
+    join(WRITERS, AUG_OK);
+    WANT(aug_user_close(&looks), AUG_OK);
+    WANT(aug_close(&trie, NULL), AUG_OK);
+}
+
+/* ---- Users that other threads close, while another one lays rounds out, and the trie is closed ---- */
+
+static void *come(void *of) {
+    struct worker *w = of;
+    for (uint32_t k = 0; k < 500; k++) MUST(aug_add(&w->user, k % 64, 1, NULL) > 0, 1);
+    return NULL;
+}
+
+static void *tend(void *unused) {
+    for (uint32_t i = 0; i < 2000; i++) {
+        int64_t more = aug_tend(&trie);
+        MUST(more == 0 || more == 1, 1);
+    }
+    return unused;
+}
+
+static void *go(void *user) {
+    MUST(aug_look(user), AUG_OK);
+    MUST(aug_user_close(user), AUG_OK);
+    return NULL;
+}
+
+static void cross(void) {
+    pthread_t tends, goes[THREADS - 1];
+    aug_span span;
+    WANT(aug_open(&trie, 6, THREADS, 195744), AUG_OK);
+    WANT(pthread_create(&tends, NULL, tend, NULL), 0);
+    start(THREADS, come);
+    for (int i = 0; i < THREADS; i++) WANT(pthread_join(workers[i].thread, NULL), 0);
+    WANT(aug_look(&workers[0].user), AUG_OK);
+    WANT(aug_range(&workers[0].user, 0, 64, &span), 64);
+    WANT(span.sum, 500 * THREADS);
+    WANT(aug_look_done(&workers[0].user), AUG_OK);
+    for (int i = 0; i < THREADS - 1; i++) WANT(pthread_create(&goes[i], NULL, go, &workers[i].user), 0);
+    for (int i = 0; i < THREADS - 1; i++) WANT(pthread_join(goes[i], NULL), 0);
+    WANT(pthread_join(tends, NULL), 0);
+    WANT(aug_close(&trie, NULL), AUG_OK);
+    WANT(aug_tend(&trie), AUG_CLOSED);
+    for (int i = 0; i < THREADS; i++) WANT(aug_put(&workers[i].user, 1, 1, NULL), AUG_CLOSED);
+    for (int i = 0; i < THREADS; i++) WANT(aug_user_close(&workers[i].user), i < THREADS - 1 ? AUG_CLOSED : AUG_OK);
 }
 
 int main(void) {
-    misuses();
-    waits();
-    uint32_t checks = threads_agree();
-    printf("ok: %u answers, %u checks\n", wanted, checks);
+    chains();
+    pops();
+    all_users();
+    beside_writers();
+    for (int i = 0; i < 10; i++) cross();
+    printf("ok: %u answers\n", wanted);
     return 0;
 }

@@ -33,7 +33,7 @@ int sched_yield(void) {
 
 /* A point at which a thread may be cancelled, as that of the C library is. */
 int nanosleep(const struct timespec *time, struct timespec *left) {
-    (void)time, (void)left;
+    WANT(time->tv_sec == 0 && time->tv_nsec == 50000 && !left, 1);
     naps++;
     pthread_testcancel();
     take_turn();
@@ -203,7 +203,41 @@ static void is_cancelled_after_its_call(void) {
     close_all(NULL);
 }
 
+/* How often the end of a look sleeps: once, if somebody waits. */
+static unsigned naps_of_a_look(void) {
+    naps = 0;
+    WANT(aug_look(&looks), AUG_OK);
+    WANT(aug_look_done(&looks), AUG_OK);
+    return naps;
+}
+
+/* Who says that he waits and is closed, or no longer waits, holds up nobody. */
+static void who_waits(void) {
+    WANT(aug_open(&trie, BITS, 3, BYTES), AUG_OK);
+    WANT(aug_user_open(&trie, &looks), AUG_OK);
+    WANT(aug_user_open(&trie, &works), AUG_OK);
+    WANT(aug_wait_end(&works), AUG_OK);
+    WANT(naps_of_a_look(), 0);
+    for (int i = 0; i < 2; i++) WANT(aug_wait_begin(&works), AUG_OK);
+    WANT(naps_of_a_look(), 1);
+    for (int i = 0; i < 2; i++) WANT(aug_wait_end(&works), AUG_OK);
+    WANT(naps_of_a_look(), 0);
+    /* The next user with this place does not wait, until it says so. */
+    for (int i = 0; i < 2; i++) {
+        WANT(aug_wait_begin(&works), AUG_OK);
+        WANT(naps_of_a_look(), 1);
+        WANT(aug_user_close(&works), AUG_OK);
+        WANT(naps_of_a_look(), 0);
+        WANT(aug_user_open(&trie, &works), AUG_OK);
+        WANT(naps_of_a_look(), 0);
+    }
+    WANT(aug_close(&trie, NULL), AUG_OK);
+    WANT(aug_user_close(&works), AUG_OK);
+    WANT(aug_user_close(&looks), AUG_OK);
+}
+
 int main(void) {
+    who_waits();
     updates_tell();
     arrays_go_on();
     trie_is_closed();

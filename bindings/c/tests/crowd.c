@@ -8,6 +8,7 @@
 #include <pthread.h>
 #include <sched.h>
 #include <stdatomic.h>
+#include <string.h>
 #include <time.h>
 
 enum { BITS = 8, KEYS = 1 << BITS, THREADS = 8, WORKERS = 7 };
@@ -109,14 +110,34 @@ static void check(struct worker *w, aug_user *user) {
     free(weights);
 }
 
-/* A look, which its user takes again. Answers whether the trie was closed: then it shows what it showed. */
+/* Puts some own keys in beside the open look of their user, until that would have to wait, perhaps for this look. */
+static void put_beside(struct worker *w, aug_user *user) {
+    for (uint32_t left = draw(w, 16); left; left--) {
+        uint32_t key = draw(w, KEYS / OWNERS) * OWNERS + w->number, weight = draw(w, 1000);
+        aug_told told;
+        int64_t code = aug_try_put(user, key, weight, &told);
+        if (code == AUG_AGAIN || code == AUG_CLOSED) return;
+        MUST(code, w->weights[key] == AUG_NONE ? 1 : 2);
+        MUST(told.before, w->weights[key]);
+        w->weights[key] = weight;
+        w->inserts++, w->removals += code == 2, w->operations++;
+    }
+}
+
+/* A look, which shows the same beside updates of its user, and is taken again. Answers whether the trie was closed: then it shows what it showed. */
 static int look(struct worker *w, aug_user *user) {
-    int64_t code = aug_look(user);
+    int64_t shown[KEYS], now[KEYS], code = aug_look(user);
     if (code == AUG_CLOSED) return 1;
     MUST(code, 0);
     check(w, user);
+    memcpy(shown, w->weights, sizeof shown);
+    put_beside(w, user);
+    memcpy(now, w->weights, sizeof now);
+    memcpy(w->weights, shown, sizeof shown);
+    check(w, user);
     code = aug_look_again(user);
     MUST(code == 0 || code == 1 || code == AUG_CLOSED, 1);
+    if (code != AUG_CLOSED) memcpy(w->weights, now, sizeof now);
     check(w, user);
     MUST(aug_look_done(user), 0);
     return code == AUG_CLOSED;

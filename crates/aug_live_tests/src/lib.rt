@@ -1,23 +1,23 @@
-//! The tests of `aug_live`, one call after another: rows of tries, what each call comes to in them, and that nothing is lost if memory is refused.
+//! The tests of `aug_live` that no other language can have; `tests/rows` has all others.
 #![tactic(auto)]
 
 #[cfg(test)]
+mod acting;
+#[cfg(test)]
 mod assertions;
 #[cfg(test)]
-mod batching;
+mod granting;
 #[cfg(test)]
-mod looking;
+mod held;
 #[cfg(test)]
 mod own;
+#[cfg(test)]
+mod playing;
 #[cfg(test)]
 mod refused;
 #[cfg(test)]
 mod rows;
 #[cfg(test)]
-mod sharing;
+mod telling;
 #[cfg(test)]
-mod since;
-#[cfg(test)]
-mod steps;
-#[cfg(test)]
-mod tending;
+mod threads;

@@ -1,16 +1,16 @@
 //! Memory refused: nothing is lost, and a later call succeeds.
 
-use super::steps::{rows, state_of};
+use crate::acting::Act::*;
+use crate::acting::Reply::*;
+use crate::acting::{HandleOf, LiveOf, changed, looked};
 use crate::assertions::equal;
+use crate::playing::Line::*;
+use crate::playing::{Line, plays, state_of};
 use aug_live::{Live, OpenError, Plan};
-use aug_live_testing::opening::{HandleOf, LiveOf, changed, ended, no_keys};
-use aug_trie::Members;
+use aug_query::descent;
 use aug_trie::Outcome::{Accepted, Refused};
-use aug_trie_testing::rows::Act::*;
-use aug_trie_testing::rows::Change::*;
-use aug_trie_testing::rows::Line;
-use aug_trie_testing::rows::Line::*;
-use aug_trie_testing::rows::Reply::*;
+use aug_trie::Request::{Insert, Put, Remove};
+use aug_trie::{AllMembers, Members};
 use std::alloc::Global;
 use std::process::Abort;
 
@@ -54,30 +54,34 @@ const PAIRS: &[(u32, u32)] = &[(3, 30), (9, 9)];
 // 0, 1, 2 and 4 go in.
 const LINES: &[Line] = &[
     A(Fill(0, 5), Number(4)),
-    A(Now(Remove(2)), Came(Accepted)),
+    A(Do(2, Remove), Came(Accepted)),
     A(Size, Number(5)),
-    A(Renew(0), Done),
-    A(Look, Done),
-    A(Now(Insert(4)), Came(Refused)),
-    A(Weight(3), Finds(Some(30))),
-    A(Again, NewRound),
-    A(Roll, Done),
+    A(Each(&[Renew(0), Look]), Done),
+    A(Do(4, Insert), Came(Refused)),
     A(Size, Number(5)),
-    A(Over, Done),
+    A(Each(&[Over, Roll]), Done),
     A(Close, Closed(5, 5, 4, 1)),
 ];
 
-// Passes whichever request for memory is refused. Updates, looks, roll-overs and new handles ask for none, so that none of them is refused.
+// Passes whichever request for memory is refused. Updates, looks, roll-overs and new handles ask for none, so that none of them is refused, and a look whose
+// members are not listed is as it was.
 #[test]
 fn refused_memory_loses_nothing_of_a_live_trie(rt: HostRuntime) -> Result<(), OpenError> {
     let alloc = rt.alloc();
-    let (live, mut hands) = opens_again(&rt, alloc, no_keys(alloc, 4)?, false, &[])?;
+    let set = Members::empty(alloc, 4).map_err(|_| OpenError::TooLarge)?;
+    let (live, mut hands) = opens_again(&rt, alloc, set, false, &[])?;
     let mut hand = hands.pop().expect(&rt, "a handle");
-    for change in [Put(3, 30), Insert(9)] {
-        equal(&rt, changed(&rt, &mut hand, true, change), Came(Accepted));
+    for (key, request) in [(3, Put(30)), (9, Insert)] {
+        let reply = changed(&rt, &mut hand, true, (key, request));
+        equal(&rt, reply, Came(Accepted));
     }
-    let (set, _) = ended(&rt, live);
-    equal(&rt, set.as_slice(), PAIRS);
+    let mut look = looked(&rt, &mut hand, true).ok().expect(&rt, "a look");
+    let first = look.ask(AllMembers(alloc));
+    let again = look.ask(AllMembers(alloc));
+    equal(&rt, look.ask(descent::Size), 2);
+    let list = first.or(again).map_err(|_| OpenError::OutOfMemory)?;
+    equal(&rt, list.as_slice(), PAIRS);
+    let (set, _) = live.close(&rt);
     let (live, hands) = opens_again(&rt, alloc, set, true, PAIRS)?;
-    rows(&rt, state_of(live, hands), true, 0, LINES)
+    plays(&rt, state_of(Some(live), hands), true, LINES)
 }

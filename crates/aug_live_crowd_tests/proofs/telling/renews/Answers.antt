@@ -1,5 +1,0 @@
-use Rattle.aug_live.proofs.Lanes.{ids_more}
-use Rattle.aug_live_crowd_tests.proofs.telling.renews.Goals as goal
-
-pub returns-clause-ids : goal.returns-clause-ids
-returns-clause-ids g c = ids_more c.args.live.now c.handle.new.self c.handle.ensures.more

@@ -1,0 +1,187 @@
+//! The player of tables: a trie and two of its users.
+
+use crate::acting::{
+    Act, HandleOf, LiveOf, LookOf, Reply, Waits, does, looked, opened, renewed, rolled, shown,
+};
+use crate::assertions::equal;
+use aug_live::OpenError;
+
+/// A line of a table: a row begins, which shows this; a trie with two tables opens, with the bits of its keys, its handles, its spare lanes, and the updates of
+/// a lane; what the user of the last lane does, or that of the one before it; and the same by calls that wait for nobody.
+#[derive(Clone, Copy)]
+pub(crate) enum Line {
+    Row(&'static str),
+    Live(u32, u32, u32, u32),
+    A(Act, Reply),
+    B(Act, Reply),
+    TryA(Act, Reply),
+    TryB(Act, Reply),
+}
+
+/// A handle, unless there is none, and a look of its lane, if one is open.
+#[derive(Drop)]
+pub(crate) struct User {
+    pub(crate) hand: Option<HandleOf>,
+    pub(crate) look: Option<LookOf>,
+}
+
+/// A trie, unless there is none, and two users.
+#[derive(Drop)]
+pub(crate) struct State {
+    live: Option<LiveOf>,
+    a: User,
+    b: User,
+}
+
+/// A user of a handle, or nobody.
+pub(crate) fn user_of(hand: Option<HandleOf>) -> User {
+    User { hand, look: None }
+}
+
+/// The state of a trie that was opened. Of its handles the last two stay.
+pub(crate) fn state_of(live: Option<LiveOf>, hands: Vec<HandleOf>) -> State {
+    let mut hands = hands;
+    let (a, b) = (user_of(hands.pop()), user_of(hands.pop()));
+    State { live, a, b }
+}
+
+// Takes a look, which stays open, or asks the open one, or else one that is taken for that.
+fn looks<R: Waits>(rt: &R, user: &mut User, waits: bool, act: Act) -> Reply {
+    let stays = matches!(act, Act::Look);
+    match (&mut user.look, &mut user.hand) {
+        (Some(look), _) if !stays => shown(rt.alloc(), look, act),
+        (_, Some(hand)) => match looked(rt, hand, waits) {
+            Ok(look) if stays => {
+                user.look = Some(look);
+                Reply::Done
+            }
+            Ok(mut look) => shown(rt.alloc(), &mut look, act),
+            Err(reply) => reply,
+        },
+        _ => Reply::Not,
+    }
+}
+
+// Closes a trie, unless that has to wait.
+fn ends<R: Waits>(rt: &R, live: LiveOf, waits: bool) -> Result<Reply, LiveOf> {
+    let (set, it) = if waits {
+        live.close(rt)
+    } else {
+        live.try_close().map_err(|held| held.0)?
+    };
+    Ok(Reply::Closed(set.size(), it.rounds, it.inserts, it.removals))
+}
+
+// What is done with a trie. That it has to be closed later leaves it there.
+fn with_trie<R: Waits>(
+    rt: &R,
+    live: LiveOf,
+    user: &mut User,
+    waits: bool,
+    act: Act,
+) -> (Option<LiveOf>, Reply) {
+    let mut live = live;
+    let reply = match act {
+        Act::DropTrie => return (None, Reply::Done),
+        Act::Close => match ends(rt, live, waits) {
+            Ok(end) => return (None, end),
+            Err(same) => return (Some(same), Reply::Later),
+        },
+        Act::Renew(lane) => match renewed(rt, &mut live, waits, lane) {
+            Ok(hand) => {
+                user.hand = Some(hand);
+                Reply::Done
+            }
+            Err(reply) => reply,
+        },
+        Act::Roll => rolled(rt, &mut live, waits),
+        _ => {
+            live.tend();
+            Reply::Done
+        }
+    };
+    (Some(live), reply)
+}
+
+/// What is done with a trie, or by a user of it.
+pub(crate) fn done<R: Waits>(
+    rt: &R,
+    live: &mut Option<LiveOf>,
+    user: &mut User,
+    waits: bool,
+    act: Act,
+) -> Reply {
+    match act {
+        Act::Close | Act::DropTrie | Act::Renew(_) | Act::Roll | Act::Tend => {
+            let Some(it) = live.take() else {
+                return Reply::Not;
+            };
+            let (it, reply) = with_trie(rt, it, user, waits, act);
+            *live = it;
+            reply
+        }
+        Act::Over => user.look.take().map_or(Reply::Not, |_| Reply::Done),
+        Act::GiveUp => user.hand.take().map_or(Reply::Not, |_| Reply::Done),
+        Act::Look | Act::Size | Act::Shows(_) | Act::Band(_, _) | Act::LastOf(_, _) => {
+            looks(rt, user, waits, act)
+        }
+        _ => match &mut user.hand {
+            Some(hand) => does(rt, hand, waits, act),
+            None => Reply::Not,
+        },
+    }
+}
+
+// All of these acts, or one. The first reply that is another one than expected, or else that.
+fn all_done<R: Waits>(
+    rt: &R,
+    live: &mut Option<LiveOf>,
+    user: &mut User,
+    waits: bool,
+    (act, expected): (Act, Reply),
+) -> Reply {
+    let one = [act];
+    for act in if let Act::Each(acts) = act {
+        acts
+    } else {
+        &one
+    } {
+        let reply = done(rt, live, user, waits, *act);
+        if reply != expected {
+            return reply;
+        }
+    }
+    expected
+}
+
+/// Plays a table, from a state on, by calls that wait or by those that wait for nobody, but for lines that say how.
+pub(crate) fn plays<R: Waits>(
+    rt: &R,
+    state: State,
+    waits: bool,
+    table: &[Line],
+) -> Result<(), OpenError> {
+    let (mut shows, mut state) = ("", state);
+    for (number, line) in table.iter().enumerate() {
+        let State { live, a, b } = &mut state;
+        let (user, waits, it) = match *line {
+            Line::A(act, expected) => (a, waits, (act, expected)),
+            Line::B(act, expected) => (b, waits, (act, expected)),
+            Line::TryA(act, expected) => (a, false, (act, expected)),
+            Line::TryB(act, expected) => (b, false, (act, expected)),
+            Line::Row(name) => {
+                shows = name;
+                continue;
+            }
+            Line::Live(bits, handles, spare, updates) => {
+                let lanes = (handles, handles.saturating_add(spare));
+                let (live, hands) = opened(rt.alloc(), bits, lanes, (updates, 2))?;
+                state = state_of(Some(live), hands);
+                continue;
+            }
+        };
+        let reply = all_done(rt, live, user, waits, it);
+        equal(rt, (shows, number, reply), (shows, number, it.1));
+    }
+    Ok(())
+}

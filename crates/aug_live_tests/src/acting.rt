@@ -1,14 +1,13 @@
 //! What is done with a trie, a handle and a look, and what that comes to: each public call once, as those that wait, and as those that wait for nobody and
 //! answer where they would have to. What these calls promise is met here, in functions that promise nothing, so that the proof of a test is that of its data.
-ghost use Rattle.std.specs.Prelude.{◌^◌, ◌<◌};
+ghost use Rattle.std.specs.Prelude.{◌≡◌, ◌^◌, ◌<◌};
 
 use crate::own::Band;
 use aug_live::{Busy, Handle, Live, LiveError, Look, OpenError, Plan, TryError};
 use aug_monoid::Extent;
-use aug_query::descent::{Pairs, Range, Size};
+use aug_query::descent::{Has, Pairs, Range, Size};
 use aug_testing::{Host, Last};
 use aug_trie::{Members, Outcome, Request, Told};
-use ruled_lock::WasOut;
 use std::alloc::Global;
 use std::sync::Wait;
 
@@ -29,7 +28,7 @@ pub(crate) type Update = (u32, Request);
 
 /// What is done. A handle makes an update, takes out a member, puts keys in from the first number on, as many as the second, gives three keys the weight 7 by
 /// one call, makes a note, tells how many updates are left to its lane, or takes a look, which stays open beside it until it is over. The open look, or else one
-/// that is taken for that, tells how many members there are, whether they are these, or asks a query of a caller's own, or one of the first monoid. A handle is
+/// that is taken for that, tells how many members there are, whether a key is one, whether they are these, or asks a query of a caller's own, or one of the first monoid. A handle is
 /// given up, and one of this lane comes in its place. A trie rolls over, lays a piece of the next round out, and is closed or dropped.
 #[derive(Clone, Copy)]
 pub(crate) enum Act {
@@ -43,6 +42,7 @@ pub(crate) enum Act {
     Look,
     Over,
     Size,
+    Has(u32),
     Shows(&'static [(u32, u32)]),
     Band(u32, u32),
     LastOf(u32, u32),
@@ -76,6 +76,17 @@ pub(crate) enum Reply {
     Closed(u32, u64, u64, u64),
 }
 
+/// A plan of so many lanes, updates of each, and tables.
+pub(crate) fn plan_of(lanes: u32, updates: u32, tables: u32) -> Plan
+    ensures { result.lanes ≡ lanes }
+{
+    Plan {
+        lanes,
+        updates,
+        tables,
+    }
+}
+
 /// A trie over no keys of `bits` bits, the first of whose lanes have handles, with so many updates in each and so many tables.
 pub(crate) fn opened(
     alloc: Global,
@@ -87,12 +98,8 @@ pub(crate) fn opened(
     if handles > lanes {
         return Err(OpenError::BadLanes);
     }
-    let plan = Plan {
-        lanes,
-        updates,
-        tables,
-    };
-    Live::open_with(alloc, set, handles, plan).map_err(|refused| refused.1)
+    let opened = Live::open_with(alloc, set, handles, plan_of(lanes, updates, tables));
+    opened.map_err(|refused| refused.1)
 }
 
 fn refused(cause: LiveError) -> Reply {
@@ -105,21 +112,17 @@ fn refused(cause: LiveError) -> Reply {
     }
 }
 
-// Why a call of a trie was not made.
-fn held_up(cause: TryError<WasOut>) -> Reply {
-    match cause {
-        TryError::Again(_) => Reply::Later,
-        TryError::Refused(cause) => refused(cause),
-    }
-}
-
-// Why a call of a handle was not made.
+// Why a call was not made.
 fn missed(cause: TryError<Busy>) -> Reply {
     match cause {
         TryError::Again(Busy::Lock(_) | Busy::Look) => Reply::Later,
         TryError::Again(Busy::Round) => Reply::Anew,
         TryError::Refused(cause) => refused(cause),
     }
+}
+
+fn yes(is: bool) -> Reply {
+    if is { Reply::Done } else { Reply::Not }
 }
 
 fn outcome_of(told: Told) -> Reply {
@@ -203,14 +206,15 @@ pub(crate) fn looked<R: Wait>(rt: &R, hand: &mut HandleOf, waits: bool) -> Resul
 pub(crate) fn shown(alloc: Global, look: &mut LookOf, act: Act) -> Reply {
     match act {
         Act::Size => Reply::Number(look.ask(Size)),
+        Act::Has(k) => yes(look.ask(Has(k))),
         Act::Band(level, band) => Reply::Number(look.ask(Band { level, band })),
         Act::LastOf(from, to) => {
             let last = look.ask(Range(from, to)).a.value();
             last.map_or(Reply::Not, Reply::Number)
         }
         Act::Shows(pairs) => match look.ask(Pairs(alloc)) {
-            Ok(list) if list.as_slice() == pairs => Reply::Done,
-            _ => Reply::Not,
+            Ok(list) => yes(list.as_slice() == pairs),
+            Err(_) => Reply::Fails,
         },
         _ => Reply::Not,
     }
@@ -226,7 +230,10 @@ pub(crate) fn renewed<R: Wait>(
     if waits {
         return live.handle(rt, lane).map_err(refused);
     }
-    live.try_handle(lane).map_err(held_up)
+    live.try_handle(lane).map_err(|cause| match cause {
+        TryError::Again(lock) => missed(TryError::Again(Busy::Lock(lock))),
+        TryError::Refused(cause) => refused(cause),
+    })
 }
 
 /// Rolls the round over.

@@ -1,6 +1,6 @@
 //! Tries that are opened while there is enough memory: none is refused for want of it, whatever its plan and its set are.
 
-use crate::acting::{LiveOf, Waits, fill};
+use crate::acting::{LiveOf, Waits, fill, plan_of};
 use crate::assertions::equal;
 use aug_live::{Live, OpenError, Plan};
 use aug_trie::Members;
@@ -21,25 +21,22 @@ fn opens<R: Waits>(rt: &R, set: Members, plan: Plan, count: u32) -> Result<Membe
 }
 
 // The plan with this number, of 337: all numbers of lanes with one to five updates, and one lane with all powers of 2.
-fn plan_of(number: u32) -> Plan {
-    let power = 1 << number.saturating_sub(320).min(16);
-    let few = (number % 64 + 1, number / 64 + 1);
-    let (lanes, updates) = if number < 320 { few } else { (1, power) };
-    let tables = 2;
-    Plan {
-        lanes,
-        updates,
-        tables,
+fn plan_by(number: u32) -> Plan {
+    if number < 320 {
+        return plan_of(number % 64 + 1, number / 64 + 1, 2);
     }
+    plan_of(1, 1 << (number - 320).min(16), 2)
 }
 
-// Tries with all of these plans, in which the set grows to that of all keys.
+// Tries with all of these plans, or of more than 10 bits each eighth of the first ones, in which the set grows to that of all keys.
 fn assert_opens<R: Waits>(rt: &R, bits: u32) -> Result<(), OpenError> {
     let mut set = Members::empty(rt.alloc(), bits).map_err(|_| OpenError::TooLarge)?;
     for number in 0..337 {
-        let plan = plan_of(number);
-        let left = set.universe().saturating_sub(set.size());
-        let few = if number < 320 { 1 } else { left / 2 + 1 };
+        if bits > 10 && number < 320 && number % 8 > 0 {
+            continue;
+        }
+        let (plan, left) = (plan_by(number), set.universe().saturating_sub(set.size()));
+        let few = [1, left / 2 + 1, left][usize::from(number >= 320) + usize::from(number == 336)];
         set = opens(rt, set, plan, few.min(left).min(plan.updates))?;
     }
     equal(rt, set.size(), set.universe());

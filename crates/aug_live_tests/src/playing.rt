@@ -25,24 +25,9 @@ pub(crate) struct User {
     pub(crate) look: Option<LookOf>,
 }
 
-/// A trie, unless there is none, and two users.
-#[derive(Drop)]
-pub(crate) struct State {
-    live: Option<LiveOf>,
-    a: User,
-    b: User,
-}
-
 /// A user of a handle, or nobody.
 pub(crate) fn user_of(hand: Option<HandleOf>) -> User {
     User { hand, look: None }
-}
-
-/// The state of a trie that was opened. Of its handles the last two stay.
-pub(crate) fn state_of(live: Option<LiveOf>, hands: Vec<HandleOf>) -> State {
-    let mut hands = hands;
-    let (a, b) = (user_of(hands.pop()), user_of(hands.pop()));
-    State { live, a, b }
 }
 
 // Takes a look, which stays open, or asks the open one, or else one that is taken for that.
@@ -122,7 +107,7 @@ pub(crate) fn done<R: Waits>(
         }
         Act::Over => user.look.take().map_or(Reply::Not, |_| Reply::Done),
         Act::GiveUp => user.hand.take().map_or(Reply::Not, |_| Reply::Done),
-        Act::Look | Act::Size | Act::Shows(_) | Act::Band(_, _) | Act::LastOf(_, _) => {
+        Act::Look | Act::Size | Act::Has(_) | Act::Shows(_) | Act::Band(..) | Act::LastOf(..) => {
             looks(rt, user, waits, act)
         }
         _ => match &mut user.hand {
@@ -132,56 +117,44 @@ pub(crate) fn done<R: Waits>(
     }
 }
 
-// All of these acts, or one. The first reply that is another one than expected, or else that.
-fn all_done<R: Waits>(
-    rt: &R,
-    live: &mut Option<LiveOf>,
-    user: &mut User,
-    waits: bool,
-    (act, expected): (Act, Reply),
-) -> Reply {
-    let one = [act];
-    for act in if let Act::Each(acts) = act {
-        acts
-    } else {
-        &one
-    } {
-        let reply = done(rt, live, user, waits, *act);
-        if reply != expected {
-            return reply;
-        }
-    }
-    expected
-}
-
-/// Plays a table, from a state on, by calls that wait or by those that wait for nobody, but for lines that say how.
+/// Plays a table, over a trie that was opened or none, by calls that wait or by those that wait for nobody, but for lines that say how. Of the handles the last two
+/// have users.
 pub(crate) fn plays<R: Waits>(
     rt: &R,
-    state: State,
+    live: Option<LiveOf>,
+    hands: Vec<HandleOf>,
     waits: bool,
     table: &[Line],
 ) -> Result<(), OpenError> {
-    let (mut shows, mut state) = ("", state);
+    let (mut shows, mut live, mut hands) = ("", live, hands);
+    let (mut a, mut b) = (user_of(hands.pop()), user_of(hands.pop()));
     for (number, line) in table.iter().enumerate() {
-        let State { live, a, b } = &mut state;
         let (user, waits, it) = match *line {
-            Line::A(act, expected) => (a, waits, (act, expected)),
-            Line::B(act, expected) => (b, waits, (act, expected)),
-            Line::TryA(act, expected) => (a, false, (act, expected)),
-            Line::TryB(act, expected) => (b, false, (act, expected)),
+            Line::A(act, expected) => (&mut a, waits, (act, expected)),
+            Line::B(act, expected) => (&mut b, waits, (act, expected)),
+            Line::TryA(act, expected) => (&mut a, false, (act, expected)),
+            Line::TryB(act, expected) => (&mut b, false, (act, expected)),
             Line::Row(name) => {
                 shows = name;
                 continue;
             }
             Line::Live(bits, handles, spare, updates) => {
                 let lanes = (handles, handles.saturating_add(spare));
-                let (live, hands) = opened(rt.alloc(), bits, lanes, (updates, 2))?;
-                state = state_of(Some(live), hands);
+                let (next, mut hands) = opened(rt.alloc(), bits, lanes, (updates, 2))?;
+                live = Some(next);
+                (a, b) = (user_of(hands.pop()), user_of(hands.pop()));
                 continue;
             }
         };
-        let reply = all_done(rt, live, user, waits, it);
-        equal(rt, (shows, number, reply), (shows, number, it.1));
+        let one = [it.0];
+        for act in if let Act::Each(acts) = it.0 {
+            acts
+        } else {
+            &one
+        } {
+            let reply = done(rt, &mut live, user, waits, *act);
+            equal(rt, (shows, number, reply), (shows, number, it.1));
+        }
     }
     Ok(())
 }

@@ -2,11 +2,11 @@
 
 use crate::acting::Act::*;
 use crate::acting::Reply::*;
-use crate::acting::{HandleOf, LiveOf, changed, looked};
+use crate::acting::{HandleOf, LiveOf, changed, looked, plan_of};
 use crate::assertions::equal;
 use crate::playing::Line::*;
 use crate::playing::{Line, plays, state_of};
-use aug_live::{Live, OpenError, Plan};
+use aug_live::{Live, OpenError};
 use aug_query::descent;
 use aug_trie::Outcome::{Accepted, Refused};
 use aug_trie::Request::{Insert, Put, Remove};
@@ -19,13 +19,7 @@ type Opened = (LiveOf, Vec<HandleOf>);
 // Opens a trie over a set, for rounds of two updates of one handle, or within so many bytes.
 fn opens(alloc: Global, set: Members, by_plan: bool) -> Result<Opened, (Members, OpenError)> {
     if by_plan {
-        let (lanes, updates, tables) = (1, 2, 2);
-        let plan = Plan {
-            lanes,
-            updates,
-            tables,
-        };
-        return Live::open_with(alloc, set, 1, plan);
+        return Live::open_with(alloc, set, 1, plan_of(1, 2, 2));
     }
     Live::open(alloc, set, 2, 1 << 16)
 }
@@ -83,5 +77,5 @@ fn refused_memory_loses_nothing_of_a_live_trie(rt: HostRuntime) -> Result<(), Op
     equal(&rt, list.as_slice(), PAIRS);
     let (set, _) = live.close(&rt);
     let (live, hands) = opens_again(&rt, alloc, set, true, PAIRS)?;
-    plays(&rt, state_of(Some(live), hands), true, LINES)
+    plays(&rt, Some(live), hands, true, LINES)
 }

@@ -181,8 +181,7 @@ fn handles_and_looks_go_on_over_rounds_and_behind_refusals(
 ) -> Result<(), OpenError> {
     for waits in [true, false] {
         for table in [CALLS, LANES, REFUSALS] {
-            let nothing = state_of(None, Vec::new(rt.alloc()));
-            plays(&rt, nothing, waits, table)?;
+            plays(&rt, None, Vec::new(rt.alloc()), waits, table)?;
         }
     }
     Ok(())
@@ -226,22 +225,6 @@ const LATER: &[Line] = &[
     B(DropTrie, Done),
     TryB(Fill(6, 6), Number(4)),
     B(Size, Number(1)),
-    Row("lanes are given on while looks are open and a roll-over waits for them"),
-    Live(6, 2, 0, 3),
-    A(Do(7, Insert), Came(Accepted)),
-    A(Look, Done),
-    TryB(Roll, Done),
-    TryB(Roll, Later),
-    TryB(Renew(0), Done),
-    TryB(Do(8, Insert), Came(Accepted)),
-    TryB(Renew(1), Done),
-    TryB(Fill(10, 4), Number(3)),
-    TryB(Look, IsLooking),
-    A(Size, Number(1)),
-    A(Over, Done),
-    TryB(Fill(13, 1), Number(1)),
-    TryB(Size, Number(6)),
-    TryB(Close, Closed(6, 3, 6, 0)),
     Row("an end waits for no look, also if a roll-over does"),
     Live(6, 2, 0, 3),
     TryA(Do(7, Insert), Came(Accepted)),
@@ -255,6 +238,5 @@ const LATER: &[Line] = &[
 
 #[test]
 fn what_has_to_wait_for_a_look_comes_once_that_is_over(rt: HostRuntime) -> Result<(), OpenError> {
-    let nothing = state_of(None, Vec::new(rt.alloc()));
-    plays(&rt, nothing, true, LATER)
+    plays(&rt, None, Vec::new(rt.alloc()), true, LATER)
 }

@@ -5,9 +5,9 @@ ghost use Rattle.aug_live.specs.LiveHandles.{IsLookOf};
 ghost use Rattle.aug_live.specs.LiveTries.{ids_of};
 
 use crate::acting::Reply::Done;
-use crate::acting::{HandleOf, LiveOf, LookOf, Waits, opened, renewed, rolled};
+use crate::acting::{HandleOf, LiveOf, LookOf, Waits, opened, plan_of, renewed, rolled};
 use crate::assertions::{equal, holds};
-use aug_live::{Live, LiveError, OpenError, Plan, TryError};
+use aug_live::{Live, LiveError, OpenError, TryError};
 use aug_query::descent::{Has, Size};
 use aug_trie::Members;
 use std::process::Abort;
@@ -19,14 +19,7 @@ fn two<R: Waits>(rt: &R, bits: u32) -> Result<(LiveOf, HandleOf, HandleOf), Open
     ensures lanes { IfOk result (λ t. (ids_of t.1.who.trie ≡ ids_of t.0) × (ids_of t.2.who.trie ≡ ids_of t.0)) }
 {
     let set = Members::empty(rt.alloc(), bits).map_err(|_| OpenError::TooLarge)?;
-    let (lanes, updates, tables) = (2, 9, 2);
-    let plan = Plan {
-        lanes,
-        updates,
-        tables,
-    };
-    let opened = Live::open_with(rt.alloc(), set, lanes, plan);
-    let (live, mut hands) = match opened {
+    let (live, mut hands) = match Live::open_with(rt.alloc(), set, 2, plan_of(2, 9, 2)) {
         Ok(opened) => opened,
         Err((_, cause)) => return Err(cause),
     };
@@ -60,50 +53,19 @@ fn look_of<R: Wait + Abort>(rt: &R, hand: &mut HandleOf) -> LookOf
     look
 }
 
-// One handle puts a key in and makes a note, and another learns it, which comes back then. The round rolls over before the note is made and before it is
-// learnt, or a new handle comes for the lane 0.
-fn learnt<R: Wait + Abort>(
-    rt: &R,
-    live: &mut LiveOf,
-    from: HandleOf,
-    to: HandleOf,
-    rolls: bool,
-) -> Result<HandleOf, LiveError>
-    requires { to.half.round.table ≡ from.half.round.table }
-{
-    let (mut from, mut to) = (from, to);
-    insert(rt, &mut from, 1);
-    if rolls {
-        equal(rt, rolled(rt, live, true), Done);
-    }
-    let Ok(note) = from.note(rt) else {
-        panic!(rt; "no note");
-    };
-    if rolls {
-        equal(rt, rolled(rt, live, true), Done);
-    } else {
-        drop(renewed(rt, live, true, 0));
-    }
-    match to.learn(rt, note) {
-        Ok(()) => Ok(to),
-        Err((_, cause)) => Err(cause),
-    }
-}
-
+// One handle puts a key in and makes a note, and another learns it. The round rolls over before the note is made and before it is learnt.
 #[test]
-fn a_note_tells_what_its_maker_did_over_roll_overs_and_no_handle_that_was_replaced(
-    rt: HostRuntime,
-) -> Result<(), OpenError> {
-    for (bits, rolls) in [(1, true), (6, true), (16, true), (6, false)] {
-        let (mut live, a, b) = two(&rt, bits)?;
-        let (from, to) = if rolls { (a, b) } else { (b, a) };
-        match learnt(&rt, &mut live, from, to, rolls) {
-            Ok(mut hand) => {
-                let has = look_of(&rt, &mut hand).ask(Has(1));
-                equal(&rt, (rolls, has), (true, true));
-            }
-            Err(cause) => equal(&rt, (rolls, cause), (false, LiveError::Replaced)),
-        }
+fn a_note_tells_what_its_maker_did_over_roll_overs(rt: HostRuntime) -> Result<(), OpenError> {
+    for bits in [1, 6, 16] {
+        let (mut live, mut from, mut to) = two(&rt, bits)?;
+        insert(&rt, &mut from, 1);
+        equal(&rt, rolled(&rt, &mut live, true), Done);
+        let Ok(note) = from.note(&rt) else {
+            panic!(rt; "no note");
+        };
+        equal(&rt, rolled(&rt, &mut live, true), Done);
+        holds(&rt, to.learn(&rt, note).is_ok());
+        holds(&rt, look_of(&rt, &mut to).ask(Has(1)));
     }
     Ok(())
 }
@@ -117,7 +79,8 @@ fn differs(look: &mut LookOf) -> (u32, usize)
     (size, look.changes(0).len())
 }
 
-// A look takes a newer snapshot behind an insertion of the other handle, and one behind a roll-over, and none once its handle was replaced. Then it answers on.
+// A look takes a newer snapshot behind an insertion of the other handle, and one behind a roll-over, and none once its handle was replaced, which learns no note
+// then either. It answers on.
 #[test]
 fn a_look_takes_newer_snapshots_with_its_handle(rt: HostRuntime) -> Result<(), OpenError> {
     let (mut live, mut other, mut hand) = two(&rt, 6)?;
@@ -137,6 +100,9 @@ fn a_look_takes_newer_snapshots_with_its_handle(rt: HostRuntime) -> Result<(), O
     equal(&rt, refused, Err(LiveError::Replaced));
     let refused = look.try_again(&mut hand);
     equal(&rt, refused, Err(TryError::Refused(LiveError::Replaced)));
+    if let Ok(note) = other.note(&rt) {
+        holds(&rt, hand.learn(&rt, note).is_err());
+    }
     equal(&rt, differs(&mut look), (2, 0));
     Ok(())
 }

@@ -1,7 +1,7 @@
 //! Threads that update and look, while rounds roll over, handles are made anew and the trie is closed, by calls that wait and by those that wait for nobody;
 //! and one that waits for a look, and sleeps meanwhile.
 
-use crate::acting::Act::{Close, Do, Renew, Roll, Tend};
+use crate::acting::Act::{Close, Do, Has, Renew, Roll, Tend};
 use crate::acting::Reply::{Anew, Came, Closed, Done, IsClosed, Later, Not};
 use crate::acting::{
     Act, HandleOf, LiveOf, LookOf, Reply, Update, Waits, changed, fill, looked, opened,
@@ -9,7 +9,7 @@ use crate::acting::{
 use crate::assertions::{equal, holds};
 use crate::playing::{User, done, user_of};
 use aug_live::OpenError;
-use aug_query::descent::{Has, Size};
+use aug_query::descent::Size;
 use aug_trie::Outcome::Accepted;
 use aug_trie::Request::{Insert, Remove};
 use crossbeam_channel::{Receiver, Sender, unbounded};
@@ -59,45 +59,6 @@ fn a_thread_that_waits_for_a_look_sleeps_for_1_second(rt: HostRuntime) -> Result
 // A thread's handle, the number of its lane, whether its updates wait, and how many it makes.
 type Job = (HandleOf, u32, bool, u32);
 
-// An update, again until it need not wait.
-fn makes<R: Waits>(rt: &R, hand: &mut HandleOf, waits: bool, it: Update) -> Reply {
-    for _ in rt.forever() {
-        let reply = changed(rt, hand, waits, it);
-        if !matches!(reply, Later | Anew) {
-            return reply;
-        }
-        yield_now();
-    }
-    unreachable!()
-}
-
-// Puts 16 own keys in and takes them out, in turn, each of which leaves the number of the lane as the remainder divided by 4, and looks for each eighth one. How many
-// updates were made before the trie was closed, and whether all was right.
-fn works<R: Waits>(rt: &R, job: Job) -> (u32, bool) {
-    let (mut hand, lane, waits, steps) = job;
-    let mut right = true;
-    for number in 0..steps {
-        let key = (number % 16).saturating_mul(4).saturating_add(lane);
-        let inserts = number / 16 % 2 == 0;
-        let request = if inserts { Insert } else { Remove };
-        let reply = makes(rt, &mut hand, waits, (key, request));
-        if reply == IsClosed {
-            return (number, right);
-        }
-        right &= reply == Came(Accepted);
-        if number % 8 == 0 {
-            right &= match looked(rt, &mut hand, true) {
-                Ok(mut look) => look.ask(Has(key)) == inserts,
-                Err(reply) => reply == IsClosed,
-            };
-        }
-    }
-    (steps, right)
-}
-
-// What is done with a trie while threads work with its handles, and what each act comes to: all of it so often, by calls that wait or by those that do not.
-type Beside = (&'static [(Act, Reply)], u32, bool);
-
 // Does an act, again until it need not wait.
 fn at_last<R: Waits>(rt: &R, live: &mut Option<LiveOf>, user: &mut User, it: (bool, Act)) -> Reply {
     for _ in rt.forever() {
@@ -109,6 +70,31 @@ fn at_last<R: Waits>(rt: &R, live: &mut Option<LiveOf>, user: &mut User, it: (bo
     }
     unreachable!()
 }
+
+// Puts 16 own keys in and takes them out, in turn, each of which leaves the number of the lane as the remainder divided by 4, and looks for each eighth one. How many
+// updates were made before the trie was closed, and whether all was right.
+fn works<R: Waits>(rt: &R, job: Job) -> (u32, bool) {
+    let (hand, lane, waits, steps) = job;
+    let (mut user, mut right) = (user_of(Some(hand)), true);
+    for number in 0..steps {
+        let key = (number % 16).saturating_mul(4).saturating_add(lane);
+        let inserts = number / 16 % 2 == 0;
+        let request = if inserts { Insert } else { Remove };
+        let reply = at_last(rt, &mut None, &mut user, (waits, Do(key, request)));
+        if reply == IsClosed {
+            return (number, right);
+        }
+        right &= reply == Came(Accepted);
+        if number % 8 == 0 {
+            let seen = at_last(rt, &mut None, &mut user, (waits, Has(key)));
+            right &= seen == IsClosed || seen == if inserts { Done } else { Not };
+        }
+    }
+    (steps, right)
+}
+
+// What is done with a trie while threads work with its handles, and what each act comes to: all of it so often, by calls that wait or by those that do not.
+type Beside = (&'static [(Act, Reply)], u32, bool);
 
 // Does all of that. The trie, unless it was closed, what the last act came to, and whether all else was right.
 fn besides<R: Waits>(rt: &R, live: LiveOf, it: Beside) -> (Option<LiveOf>, Reply, bool) {

@@ -5,7 +5,7 @@ use crate::acting::Reply::*;
 use crate::acting::{HandleOf, LiveOf, changed, looked, plan_of};
 use crate::assertions::equal;
 use crate::playing::Line::*;
-use crate::playing::{Line, plays, state_of};
+use crate::playing::{Line, plays};
 use aug_live::{Live, OpenError};
 use aug_query::descent;
 use aug_trie::Outcome::{Accepted, Refused};

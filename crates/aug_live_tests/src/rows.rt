@@ -4,7 +4,7 @@
 use crate::acting::Act::*;
 use crate::acting::Reply::*;
 use crate::playing::Line::*;
-use crate::playing::{Line, plays, state_of};
+use crate::playing::{Line, plays};
 use aug_live::OpenError;
 use aug_trie::Outcome::{Accepted, Refused, Replaced};
 use aug_trie::Request::{Add, Insert, Put, Remove, Sub, Take};

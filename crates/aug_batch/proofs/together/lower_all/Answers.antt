@@ -3,15 +3,6 @@ use Rattle.aug_query.proofs.Descending.{within}
 use Rattle.aug_batch.proofs.FourWays.{four, way_stays}
 use Rattle.aug_batch.proofs.together.lower_all.Goals as goal
 
-pub lower-p-requires : goal.lower-p-requires
-lower-p-requires g c = c.requires.way_p
-
-pub lower-q-requires : goal.lower-q-requires
-lower-q-requires g c = way_stays c.lower-p.ensures.descends c.requires.way_q
-
-pub lower-r-requires : goal.lower-r-requires
-lower-r-requires g c = way_stays c.lower-q.ensures.descends (way_stays c.lower-p.ensures.descends c.requires.way_r)
-
 pub lower-s-requires : goal.lower-s-requires
 lower-s-requires g c = way_stays c.lower-r.ensures.descends (way_stays c.lower-q.ensures.descends (way_stays c.lower-p.ensures.descends c.requires.way_s))
 

@@ -1,0 +1,2 @@
+-- The proofs of the tests of `aug_trie`.
+mod Crewing

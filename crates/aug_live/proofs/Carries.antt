@@ -309,17 +309,6 @@ module _ (lane rest new : LaneFacts) (work pass after half : PassFacts) (works :
   pub worked_by : rounds_at after ≡ rounds_at pass → IsPrefix pass.knows.accepted after.knows.accepted → Worked lane new
   worked_by rounds accepts = subst (Worked lane) (sym now) (worked_here lane after works (rounds ∙ ap rounds_at was) (subst (λ (z : PassFacts). IsPrefix z.knows.accepted after.knows.accepted) was accepts))
 
--- a lane that stays as it was, and one that gets the pass back that was taken out of it
-pub worked_self : (lane : LaneFacts) → Worked lane lane
-worked_self lane = record { era = refl; number = refl; is_out = refl; round = refl; works = refl; at_rest = λ _. refl; accepts = prefix_refl lane.at.half.knows.accepted }
-
-module _ (lane rest new : LaneFacts) (work : PassFacts) where
-  pub put_again : lane.works ≡ true → work ≡ lane.at.half → rest ≡ record lane { works = false } → new ≡ record rest { works = true; at = record rest.at { half = work } } → Worked lane new
-  put_again works same left put = let is : new ≡ lane = put ∙ (λ i. record (left i) { works = sym works i; at = record (left i).at { half = same i } }) in subst (Worked lane) (sym is) (worked_self lane)
-
-  pub place_again : work ≡ lane.at.half → rest ≡ record lane { works = false } → new ≡ record rest { works = true; at = record rest.at { half = work } } → new.at ≡ lane.at
-  place_again same left put = ap (λ (z : LaneFacts). z.at) put ∙ (λ i. record (left i).at { half = same i })
-
 -- one that got the next pass of its round in the place of one that went back to their crew
 pub replaced_follows : (a : HandleFacts) (b : PassFacts) (history : List Cut) → rounds_at b ≡ rounds_at a.half → IsPrefix a.half.knows.history history → IsPrefix history b.knows.history → Follows a (record a { half = b })
 replaced_follows a b history rounds one two = follows_pass a b record {

@@ -18,6 +18,5 @@ mod Handing
 mod Slotted
 mod Shown
 mod Looking
-mod Batching
 mod Planning
 mod Rolled

@@ -39,9 +39,6 @@ module _ {A : Type 0} (P : A → Type 0) where
   pub last_one : (xs ys : List A) (x : A) → ys ≡ xs ++ x ∷ [] → All P ys → P x
   last_one xs ys x is all = subst P (ap (λ (z : List A). get_or z (length xs) x) is ∙ get_or-append_seam xs x [] x) (all (length xs) x (let long = ap length is ∙ length-append xs (x ∷ []) in omega arith))
 
-  pub all_none : (xs : List A) → xs ≡ [] → All P xs
-  all_none xs is k d low = let long = ap length is in absurd (omega arith)
-
 -- how long two lists are, as elements go from one to the other; and how many went back
 pub grown_len : (a a' b b' n : ℕ) → a + b ≡ n → a' ≡ a + 1 → b' + 1 ≡ b → a' + b' ≡ n
 grown_len a a' b b' n was grown shrunk = omega arith
@@ -51,9 +48,6 @@ shrunk_len a a' b b' n was grown shrunk = omega arith
 
 pub counted_on : (a a' l l' n : ℕ) → a' ≡ a + 1 → a ≡ n + l → l' ≡ l + 1 → a' ≡ n + l'
 counted_on a a' l l' n on was grown = omega arith
-
-pub none_first : (a b n : ℕ) → a ≡ 0 → b ≡ n → a + b ≡ n
-none_first a b n none rest = omega arith
 
 pub none_more : (a b : ℕ) → b ≡ 0 → a ≡ a + b
 none_more a b none = omega arith

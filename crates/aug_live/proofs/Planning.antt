@@ -22,10 +22,6 @@ wants BadUpdates = false
 wants TooLarge = false
 wants BadTables = false
 
-abbrev pub wants_memory : {T A : Type 0} → Result T (A × OpenError) → Bool
-wants_memory (Ok t) = false
-wants_memory (Err e) = wants e.1
-
 -- what is not this error is right where the check that would have refused so passed
 pub passed : {T U F : Type 0} (P : ℕ → Type 0) (bits bits' : ℕ) (cause : OpenError) (ok : T) (found : Result U F) (told : F) → bits ≡ bits' → ((Ok ok ≡ Err cause) ↔ P bits) → (found ≡ Err told → ⊥) → (found ≡ Err told) ↔ P bits'
 passed P bits bits' cause ok found told same known other = (λ so. absurd (other so), λ p. absurd (false≢true (ap is_err (known.1 (subst P (sym same) p)))))
@@ -147,29 +143,3 @@ is_greatest bits handles memory words room lanes updates least not_more words_is
 
     m : IsMost (5 * bits) room handles lanes updates
     m = let some = within.0 in let w = least.laid_out.workers in most (5 * bits) room handles lanes updates (omega (arith, some)) w.0 w.1 (let a = room_is in omega arith) lanes_are updates_are
-
--- and there is room for a word of each lane
-pub some_room : (bits bits' handles handles' memory spare lanes : ℕ) → Fits bits memory (least_plan handles) → bits' ≡ bits → handles' ≡ handles → lanes ≡ max (min ((spare + handles' * (1 + 64 * (5 * bits'))) / (1 + 256 * (5 * bits'))) 64) handles
-    → 1 ≤ (spare + handles' * (1 + 64 * (5 * bits'))) / lanes
-some_room bits bits' handles handles' memory spare lanes least is same lanes_are = (le-div_iff_mul-le {k = lanes} {x = 1} {y = room} (omega (arith, enough, w.0))).1 (omega (arith, fits, less))
-  where
-    room : ℕ
-    room = spare + handles' * (1 + 64 * (5 * bits'))
-
-    updates : ℕ
-    updates = min ((room / lanes - 1) / (5 * bits')) 65536
-
-    w : IsWithin 1 64 handles
-    w = least.laid_out.workers
-
-    m : IsMost (5 * bits') room handles' lanes updates
-    m = let some = least.laid_out.bits.0 in let one = w.0 in let few = w.1 in most (5 * bits') room handles' lanes updates (omega (arith, some, is)) (omega (arith, one, same)) (omega (arith, few, same)) (omega arith) (lanes_are ∙ ap (λ (z : ℕ). max (min (room / (1 + 256 * (5 * bits'))) 64) z) (sym same)) refl
-
-    enough : handles ≤ lanes
-    enough = omega (arith, lanes_are)
-
-    fits : lanes * (1 + 5 * bits' * updates) ≤ room
-    fits = m.fits
-
-    less : lanes * 1 ≤ lanes * (1 + 5 * bits' * updates)
-    less = mul-le lanes 1 lanes (1 + 5 * bits' * updates) (omega arith) (omega arith)

@@ -1,7 +1,6 @@
 -- The desk as a round rolls over: how many lanes and rounds there are, over plain values.
-use Rattle.std.proofs.Common.{◌≡◌, ◌≢◌, All, Bool, ℕ, ◌+◌, ◌^◌, ◌<◌, ◌≤◌, List, [], ◌∷◌, ◌++◌, length, length-append, sym, ap, ◌∙◌, subst, arith}
+use Rattle.std.proofs.Common.{◌≡◌, All, Bool, ℕ, ◌+◌, ◌^◌, ◌<◌, ◌≤◌, List, [], ◌∷◌, ◌++◌, length, length-append, sym, ap, ◌∙◌, subst, arith}
 use Rattle.std.specs.Prelude.{map, reverse}
-use Rattle.std.proofs.lemmas.List.{length-map}
 use Rattle.aug_trie.specs.Chains.{Chapter, IsPart}
 use Rattle.aug_trie.specs.Crew.{CrewFacts, RollsOver, crew_chain}
 use Rattle.aug_trie.specs.Round.{RoundFacts, TableFacts, table_of}
@@ -30,18 +29,8 @@ all_held {A} {p} {h} {q} {n} {ports} none long len same = let zero = ap length n
 pub none_held : {A : Type 0} {n h m : ℕ} {held : List A} → held ≡ [] → h ≡ length held → n ≡ m → n + h ≡ m
 none_held {A} {n} {h} {m} {held} none long same = let zero = ap length none in omega (arith, zero, long, same)
 
--- a count goes on
-pub fits_on : {n m k : ℕ} → n ≤ 18446744065119617025 → m ≡ k → k < 2 ^ 32 → n + m < 2 ^ 64
-fits_on {n} {m} {k} low e few = omega (arith, low, e, few)
-
 pub may_go_on : {n m k : ℕ} → n ≤ 18446744065119617025 → m ≡ k → k < 2 ^ 32 → (n + m) + 2 ^ 32 ≤ 2 ^ 64
 may_go_on {n} {m} {k} low e few = omega (arith, low, e, few)
-
-pub fits_more : (n : ℕ) {m k : ℕ} → n + 2 ^ 32 ≤ 2 ^ 64 → m ≡ k → k < 2 ^ 32 → n + m < 2 ^ 64
-fits_more n {m} {k} low e few = omega (arith, low, e, few)
-
-pub below_last : {n : ℕ} → n < 2 ^ 64 → n ≢ 18446744073709551615 → n + 1 < 2 ^ 64
-below_last {n} low other = omega (arith, low, other)
 
 -- a lane and a number that are low enough
 pub below : {l n m : ℕ} → l < n → n ≡ m → l < m
@@ -63,10 +52,6 @@ none_more {n} {m} same = omega (arith, same)
 pub one_more : (n a : ℕ) {b : ℕ} → b ≡ a + 1 → (n + 1) + a ≡ n + b
 one_more n a {b} next = omega (arith, next)
 
--- what was put in and taken out
-pub sizes_on : (pairs members opened ins outs : ℕ) {put took inserts removals : ℕ} → pairs + removals ≡ members + inserts → members + outs ≡ opened + ins → put ≡ inserts → took ≡ removals → pairs + (outs + took) ≡ opened + (ins + put)
-sizes_on pairs members opened ins outs {put} {took} {inserts} {removals} sum before in_now out_now = omega (arith, sum, before, in_now, out_now)
-
 -- one more round is over
 pub longer : {inserts removals : ℕ} {free : Bool} {self view : TrieFacts} (crew : CrewFacts) {asked end first : CrewFacts} (now : CrewFacts) → view ≡ self → view.rounds.past ≡ crew.past → asked ≡ record crew { free = free } → rounds_in end ≡ rounds_in asked → RollsOver end first inserts removals
     → rounds_in now ≡ rounds_in first → length self.rounds.past < length now.past
@@ -77,24 +62,8 @@ longer {inserts} {removals} {free} {self} {view} crew {asked} {end} {first} now 
     let before = ap length was in let after = ap length more in let one = length-append end.past (over ∷ []) in omega (arith, before, after, one)
 
 module _ {lanes updates : ℕ} {counts : LiveCounts} {table : TableFacts} {crew : CrewFacts} {ports : List EndFacts} {count : ℕ} (w : IsWorking lanes updates counts table crew ports count) where
-  -- all passes are back
-  pub all_came : (end : CrewFacts) {n : ℕ} → n ≡ count → end.back ≡ crew.back + n → end.handed ≡ crew.handed → end.back ≡ end.handed
-  all_came end {n} many back handed = let out = w.all_out in omega (arith, many, back, handed, out)
-
   same_table : (end : CrewFacts) → rounds_in end ≡ rounds_in crew → table ≡ table_of end.round
   same_table end same = sym (ap (λ (z : RoundFacts × List Chapter). table_of z.0) same ∙ w.together)
-
-  pub end_room : (end : CrewFacts) → rounds_in end ≡ rounds_in crew → 2 ^ end.round.bits ≤ end.round.room
-  end_room end same = subst (λ (z : TableFacts). 2 ^ z.bits ≤ z.room) (same_table end same) w.room
-
-  pub all_out_so : {n : ℕ} → n ≡ count → crew.handed ≡ n + crew.back
-  all_out_so {n} many = let out = w.all_out in omega (arith, many, out)
-
-  -- and there are lanes enough in the next round
-  pub few_lanes : {end first : CrewFacts} {inserts removals n : ℕ} → rounds_in end ≡ rounds_in crew → RollsOver end first inserts removals → n ≡ count → n ≤ first.round.workers
-  few_lanes {end} {first} {inserts} {removals} {n} same r many =
-      let workers : first.round.workers ≡ lanes = ap (λ (z : RoundFacts). z.workers) r.round_is ∙ sym (ap (λ (z : TableFacts). z.workers) (same_table end same)) ∙ w.workers in
-      let out = w.all_out in let within = w.within in omega (arith, many, workers, out, within)
 
   -- which begins in the same table, behind the one that ended
   module _ (end first : CrewFacts) {inserts removals : ℕ} (same : rounds_in end ≡ rounds_in crew) (r : RollsOver end first inserts removals) where
@@ -127,16 +96,6 @@ all_part was asked end first now {free} ask same more r next on =
 pub lanes_rolled : (all ports held idle ports' held' : List EndFacts) → ports ≡ [] → ports ++ reverse held ≡ all → map kept_of idle ≡ map kept_of held → map kept_of ports' ≡ map given_all (reverse idle) → held' ≡ [] → LanesGoOn (map lane_by all) (map lane_by (ports' ++ reverse held'))
 lanes_rolled all ports held idle ports' held' none same gave dealt left = subst (λ (z : List EndFacts). LanesGoOn (map lane_by all) (map lane_by z)) (sym (no_lanes ports' held' (ap length left)))
     (rolled_lanes all ports' idle (kept_taken idle held all gave (ap (λ (z : List EndFacts). z ++ reverse held) (sym none) ∙ same)) dealt)
-
--- a crew that stands where it stood
-pub crew_as : {lanes updates : ℕ} {counts : LiveCounts} {table : TableFacts} {crew crew' : CrewFacts} {ports : List EndFacts} {count : ℕ} → crew' ≡ crew → IsWorking lanes updates counts table crew ports count → IsWorking lanes updates counts table crew' ports count
-crew_as {lanes} {updates} {counts} {table} {crew} {crew'} {ports} {count} is w = subst (λ (z : CrewFacts). IsWorking lanes updates counts table z ports count) (sym is) w
-
--- there is no such lane, where none is taken
-pub lane_high : {t view : TrieFacts} (ports held : List EndFacts) {n lane : ℕ} → view ≡ t → view.lanes ≡ map lane_by (ports ++ reverse held) → view.held ≡ length held → t.held ≡ 0 → n ≡ length ports → n ≤ lane → length t.lanes ≤ lane
-lane_high {t} {view} ports held {n} {lane} is are taken none many high =
-    let empty : length held ≡ 0 = sym taken ∙ ap (λ (z : TrieFacts). z.held) is ∙ none in
-    let long : length t.lanes ≡ n = ap (λ (z : TrieFacts). length z.lanes) (sym is) ∙ ap length are ∙ length-map (ports ++ reverse held) lane_by ∙ ap length (no_lanes ports held empty) ∙ sym many in omega (arith, long, high)
 
 -- and its lanes, named in another way
 pub ports_as : {lanes updates : ℕ} {counts : LiveCounts} {table : TableFacts} {crew : CrewFacts} {ports ports' : List EndFacts} {count count' : ℕ} → ports' ≡ ports → count' ≡ count → IsWorking lanes updates counts table crew ports count → IsWorking lanes updates counts table crew ports' count'

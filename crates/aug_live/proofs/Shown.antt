@@ -12,7 +12,7 @@ use Rattle.aug_trie.specs.Reader.{Lends, TakesUp}
 use Rattle.aug_trie.specs.Snapshot.{HasSnapshot, set_at, snapshot_cut}
 use Rattle.aug_trie.specs.Updates.{TakesSnapshot}
 use Rattle.aug_trie.specs.declared.queries.snapshot.Snapshot.{Snapshot}
-use Rattle.aug_live.specs.LiveHandles.{Follows, HandleFacts, IsLookOf, OpensLook, LooksAgain, LookFacts, Runs, ShowsTo, WhoFacts}
+use Rattle.aug_live.specs.LiveHandles.{Follows, HandleFacts, IsLookOf, LooksAgain, LookFacts, Runs, ShowsTo, WhoFacts}
 use Rattle.aug_live.specs.LiveTries.{TrieFacts}
 use Rattle.aug_live.specs.inside.LaneKnowledge.{EndFacts, EndRuns, IsSameEnd, half_in, handle_by, no_trie}
 use Rattle.aug_live.specs.inside.Looks.{EndShows, HandleShows, HasReaders, HoldsLook, IsReaderOf, IsShownIn, ShowsOrNot}
@@ -134,19 +134,6 @@ shows_to old new era held before a b lane s of_lane = record {
   lends = subst (λ (z : Option PassFacts). Lends b.half (half_in z)) (sym s.shown.there) s.shown.lends;
   of_lane = of_lane;
 }
-
-pub looks_to : (old new : Option PassFacts) (era : ℕ) (held : Snapshot) (a b : HandleFacts) (lane : ℕ) → HandleShows old new era held a b → lane ≡ b.who.lane → OpensLook a b (record { lane = lane; reader = half_in new; snapshot = held; before = held })
-looks_to old new era held a b lane s of_lane = record { shows = shows_to old new era held held a b lane s of_lane; first = refl }
-
--- by what the handle holds then, which was as it was before
-pub lane_by_end : (trie : TrieFacts) (place : ℕ) (inside : Option EndFacts) → place ≡ (handle_by trie place inside).who.lane
-lane_by_end trie place None = refl
-lane_by_end trie place (Some e) = refl
-
-pub looks_by : (old new : Option PassFacts) (era : ℕ) (held : Snapshot) (first a b : HandleFacts) (trie : TrieFacts) (place : ℕ) (inside : Option EndFacts) → HandleShows old new era held a b → a ≡ first → handle_by trie place inside ≡ b
-    → OpensLook first b (record { lane = place; reader = half_in new; snapshot = held; before = held })
-looks_by old new era held first a b trie place inside s same view =
-    subst (λ (z : HandleFacts). OpensLook z b (record { lane = place; reader = half_in new; snapshot = held; before = held })) same (looks_to old new era held a b place s (lane_by_end trie place inside ∙ ap (λ (z : HandleFacts). z.who.lane) view))
 
 -- a handle that took one is at the same table, and has the same lane
 pub shows_table : (old new : Option PassFacts) (era : ℕ) (held : Snapshot) (a b : HandleFacts) → HandleShows old new era held a b → table_of b.half.round ≡ table_of a.half.round

@@ -1,25 +1,14 @@
-use Rattle.std.proofs.Common.{◌≡◌, ◌+◌, ◌<◌, ◌∙◌, ℕ, List, [], ◌∷◌, ◌++◌, length, map, vec_len, ap, refl, subst, sym}
-use Rattle.std.specs.Prelude.{All, Option, flat_map, option_to_list, reverse}
-use Rattle.std.proofs.lemmas.List.{append-nil, nil_from_length}
+use Rattle.std.proofs.Common.{◌≡◌, ◌+◌, ◌∙◌, List, [], ◌∷◌, ◌++◌, map, vec_len, ap, subst, sym}
+use Rattle.std.specs.Prelude.{Option, option_to_list, reverse}
+use Rattle.std.proofs.lemmas.List.{nil_from_length}
 use Rattle.aug_trie.specs.Chains.{Chapter}
 use Rattle.aug_trie.specs.Round.{RoundFacts}
-use Rattle.aug_core.proofs.PrefixLemmas.{prefix_refl, prefix_trans}
+use Rattle.aug_core.proofs.PrefixLemmas.{prefix_trans}
 use Rattle.aug_live.specs.inside.LaneKnowledge.{EndFacts}
-use Rattle.aug_live.specs.inside.Rolls.{IsOf, IsBackIn, accepted_by, kept_of, rounds_in}
-use Rattle.aug_live.proofs.Accounting.{all_reversed}
+use Rattle.aug_live.specs.inside.Rolls.{IsOf, IsBackIn, kept_of, rounds_in}
 use Rattle.aug_live.proofs.Dealing.{gave_one, kept_in_order, took_one}
-use Rattle.aug_live.proofs.Moving.{all_back_on, all_but_last, all_none, counted_on, grown_len, last_one, none_first, none_more, one_more, same_era}
+use Rattle.aug_live.proofs.Moving.{all_back_on, all_but_last, counted_on, grown_len, last_one, one_more, same_era}
 use Rattle.aug_live.proofs.rolling.give_all.Goals as goal
-
-pub give_back-requires-clause-of_round : goal.give_back-requires-clause-of_round
-give_back-requires-clause-of_round g c = let was = c.loop-one.invariant in let round = rounds_in c.args.crew.now in
-    let mine = last_one (IsOf round c.args.era) c.pop.new.self.items c.loop-one.held.items c.in-Some.one c.in-Some.ensures.items was.1 in
-    subst (λ (z : (RoundFacts × List Chapter) × ℕ). IsOf z.0 z.1 c.in-Some.one) (λ i. (sym was.3 i, sym mine.era_is i)) mine
-
-pub give_back-requires-clause-some : goal.give_back-requires-clause-some
-give_back-requires-clause-some g c =
-    let mine = last_one (IsOf (rounds_in c.args.crew.now) c.args.era) c.pop.new.self.items c.loop-one.held.items c.in-Some.one c.in-Some.ensures.items c.loop-one.invariant.1 in
-    subst (λ z. 0 < z) (sym mine.era_is) c.requires.some
 
 pub loop-one-preserved : goal.loop-one-preserved
 loop-one-preserved g c =
@@ -45,22 +34,3 @@ loop-one-preserved g c =
 pub returns-clause-kept : goal.returns-clause-kept
 returns-clause-kept g c = let was = c.loop-one.invariant in let none : c.loop-one.held.items ≡ [] = nil_from_length c.loop-one.held.items (sym c.loop-one.held.ok.0 ∙ c.in_default.ensures.cases.0) in
     kept_in_order c.loop-one.idle.items c.args.held.now.items (ap (λ (z : List EndFacts). map kept_of z ++ map kept_of (reverse c.loop-one.idle.items)) (sym none) ∙ was.9)
-
-pub returns-clause-none_left : goal.returns-clause-none_left
-returns-clause-none_left g c = nil_from_length c.pop.new.self.items (sym c.pop.new.self.ok.0 ∙ c.in_default.ensures.cases.1)
-
-pub loop-one-init : goal.loop-one-init
-loop-one-init g c = let crew = c.args.crew.now in let empty = c.requires.empty in let len : vec_len c.args.idle.now ≡ 0 = c.args.idle.now.ok.0 ∙ ap length empty in (
-  none_first _ _ _ len c.reverse.ensures.len,
-  subst (All (IsOf (rounds_in crew) c.args.era)) (sym c.reverse.ensures.items) (all_reversed (IsOf (rounds_in crew) c.args.era) c.args.held.now.items c.requires.of_round),
-  all_none (IsBackIn (rounds_in crew) c.args.era crew.knows.history) c.args.idle.now.items empty,
-  refl,
-  refl,
-  c.reverse.ensures.capacity,
-  refl,
-  none_more _ _ len,
-  prefix_refl crew.knows.history,
-  ap (λ (z : List EndFacts). map kept_of c.reverse.new.self.items ++ map kept_of (reverse z)) empty ∙ append-nil (map kept_of c.reverse.new.self.items) ∙ ap (map kept_of) c.reverse.ensures.items,
-  sym (ap (λ (z : List EndFacts). crew.knows.accepted ++ flat_map accepted_by z) empty ∙ append-nil crew.knows.accepted),
-  refl,
-)

@@ -1,6 +1,5 @@
-use Rattle.std.proofs.Common.{◌≡◌, ◌+◌, ◌<◌, ◌∙◌, List, [], ◌∷◌, ◌++◌, true, vec_len, ap, subst, sym}
-use Rattle.std.specs.Prelude.{Option, option_to_list, reverse}
-use Rattle.std.proofs.lemmas.List.{append-nil, nil_from_length}
+use Rattle.std.proofs.Common.{◌≡◌, ◌+◌, ◌<◌, ◌∙◌, [], ◌∷◌, ◌++◌, true, vec_len, ap, subst, sym}
+use Rattle.std.specs.Prelude.{Option, option_to_list}
 use Rattle.aug_live.specs.inside.LaneKnowledge.{EndFacts, KnownFacts, Rolls, rolls}
 use Rattle.aug_live.proofs.Dealing.{moved_one}
 use Rattle.aug_live.proofs.Moving.{all_but_last, last_one, shrunk_len}
@@ -28,13 +27,3 @@ invariant_of-push_reserved g c =
       ap (λ (z : KnownFacts). rolls z.whose) learnt.known ∙ mine.0,
       subst (λ (z : KnownFacts). Rolls z z.before c.in-Ok.lane) (sym learnt.known) (rolls_on port.known c.in-Ok.lane learnt.knows mine.0 mine.1),
     )
-
-pub returns-in-Err-clause-same : goal.returns-in-Err-clause-same
-returns-in-Err-clause-same g c = let pop = c.pop.new.self.items in let held = reverse c.loop-port.held.items in
-    ap (λ (z : List EndFacts). z ++ held) (c.push_reserved-in-Err.ensures.items ∙ ap (λ (z : EndFacts). pop ++ z ∷ []) c.in-Err.ensures.same ∙ sym c.in-Some.ensures.items) ∙ c.loop-port.invariant.0
-
-pub returns-clause-same : goal.returns-clause-same
-returns-clause-same g c = let held = reverse c.loop-port.held.items in ap (λ (z : List EndFacts). z ++ held) (sym (c.in_default.ensures.items ∙ append-nil c.pop.new.self.items)) ∙ c.loop-port.invariant.0
-
-pub returns-clause-all : goal.returns-clause-all
-returns-clause-all g c = nil_from_length c.pop.new.self.items (sym c.pop.new.self.ok.0 ∙ c.in_default.ensures.cases.1)

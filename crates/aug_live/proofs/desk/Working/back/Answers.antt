@@ -18,7 +18,6 @@ use Rattle.aug_live.proofs.Dealing.{taken_counts}
 use Rattle.aug_live.proofs.Desks.{port_low}
 use Rattle.aug_live.proofs.Lanes.{lanes_same}
 use Rattle.aug_live.proofs.OneLane.{as_before, begun, handles_on, id_stood, lane_is, lanes_on, mine, missing_low, number_low, stays, stood}
-use Rattle.aug_live.proofs.Rolled.{below}
 use Rattle.aug_live.proofs.desk.Working.back.Goals as goal
 
 pub take_in-requires-clause-port : goal.take_in-requires-clause-port
@@ -87,6 +86,3 @@ returns-in-Err-clause-refused g c = let w = c.self.inside in let low = port_low 
       there = lane_is w.ports.items (reverse w.held.items) c.self.invariant.0 c.args.lane c.index_mut.result.now low c.index_mut.ensures.value port;
       other = subst (λ (e : EndFacts). (e.known.number ≢ c.args.number) ⊎ (is_out_by e.known.whose ≡ false)) (sym same) why.1;
     })) c.in-Err.ensures.refused
-
-pub index_mut-requires : goal.index_mut-requires
-index_mut-requires g c = let w = c.self.inside in below (port_low c.args.self.now w.ports.items w.held.items c.args.lane (ap (λ (z : TrieFacts). z.lanes) c.self.view_is) (sym w.held.ok.0 ∙ ap (λ (z : TrieFacts). z.held) c.self.view_is) c.requires.settled c.requires.lane) (sym w.ports.ok.0)

@@ -20,7 +20,7 @@ use Rattle.aug_live.proofs.Desks.{slots_as}
 use Rattle.aug_live.proofs.Dealing.{gets_counts, gets_lane}
 use Rattle.aug_live.proofs.Lanes.{ids_same, lanes_same, more_self}
 use Rattle.aug_live.proofs.OneLane.{as_before, begun, handles_on, id_stood, lane_is, lanes_on, mine, number_low, stays}
-use Rattle.aug_live.proofs.Rolled.{at_most, below, below_last, below_next, lane_high, more, one_more}
+use Rattle.aug_live.proofs.Rolled.{at_most, below, below_next, more, one_more}
 use Rattle.aug_live.proofs.desk.Working.give.Goals as goal
 use Rattle.aug_live.proofs.desk.Working.give.Goals.{then-self-via-then-self, then-self-via-else-self+then-self-2}
 
@@ -129,21 +129,3 @@ pub returns-in-Err-clause-more : goal.returns-in-Err-clause-more
 returns-in-Err-clause-more g c = let w = c.self.inside in
     desk_on _ (arc_value w.round) w.crew c.renew.new.crew _ _ c.self.view_is (lanes_same _ _ (ap (map lane_by) (as_before w.ports.items (reverse w.held.items) c.self.invariant.0 c.args.lane c.index_mut.result.now (below c.if-lane-len.false (c.len.ensures ∙ w.ports.ok.0)) c.index_mut.ensures.value c.renew.new.self c.in-Err.ensures.missed)))
     (subst (λ (z : CrewFacts). IsPart (crew_chain w.crew) (crew_chain z)) (sym c.renew.ensures.same) (part_refl (crew_chain w.crew)))
-
-pub returns-in-Ok-renew-clause-given : goal.returns-in-Ok-renew-clause-given
-returns-in-Ok-renew-clause-given g c = ap (λ (z : TrieFacts). z.given + 1) c.self.view_is
-
-pub returns-then-lane-len-clause-refused : goal.returns-then-lane-len-clause-refused
-returns-then-lane-len-clause-refused g c = let w = c.self.inside in lane_high w.ports.items w.held.items c.self.view_is refl w.held.ok.0 c.requires.settled (c.len.ensures ∙ w.ports.ok.0) c.if-lane-len.true
-
-pub returns-in-Err-clause-none_given : goal.returns-in-Err-clause-none_given
-returns-in-Err-clause-none_given g c = ap (λ (z : TrieFacts). z.given) c.self.view_is
-
-pub returns-in_default-end_of-clause-none_given : goal.returns-in_default-end_of-clause-none_given
-returns-in_default-end_of-clause-none_given g c = ap (λ (z : TrieFacts). z.given) c.self.view_is
-
-pub same-desk : goal.same-desk
-same-desk g c = refl
-
-pub overflow_add-self : goal.overflow_add-self
-overflow_add-self g c = let low : c.self.inside.counts.missing < 2 ^ 64 = c.self.ranges.1.0.1.1.1.1.1.1.1.0.1 in record { fits = below_last low c.if-self-2.false }

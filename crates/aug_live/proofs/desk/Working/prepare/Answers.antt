@@ -10,7 +10,7 @@ use Rattle.aug_live.proofs.Accounting.{accounts_kept}
 use Rattle.aug_live.proofs.Counted.{crew_part, desk_keeps}
 use Rattle.aug_live.proofs.Desks.{asked_on, asked_part, kept_on, slots_as}
 use Rattle.aug_live.proofs.Lanes.{keeps_self, lanes_refl}
-use Rattle.aug_live.proofs.Rolled.{end_room, none_more, roomy}
+use Rattle.aug_live.proofs.Rolled.{none_more, roomy}
 use Rattle.aug_live.proofs.desk.Working.prepare.Goals as goal
 
 pub returns-then-not-is_empty-clause-goes_on : goal.returns-then-not-is_empty-clause-goes_on
@@ -47,12 +47,3 @@ returns-clause-goes_on g c = let w = c.self.inside in let m : CrewFacts = c.may_
 
 pub returns-clause-past : goal.returns-clause-past
 returns-clause-past g c = ap (λ (z : CrewFacts). z.past) c.prepare-done.ensures.crew_is ∙ ap (λ (z : CrewFacts). z.past) c.may_renew.ensures.crew ∙ ap (λ (z : TrieFacts). z.rounds.past) c.self.view_is
-
-pub may_renew-requires-clause-room : goal.may_renew-requires-clause-room
-may_renew-requires-clause-room g c = end_room c.self.invariant.0 c.self.inside.crew refl
-
-pub prepare-done-requires-clause-room : goal.prepare-done-requires-clause-room
-prepare-done-requires-clause-room g c = end_room c.self.invariant.0 c.may_renew.new.crew (ap rounds_in c.may_renew.ensures.crew)
-
-pub returns-clause-held : goal.returns-clause-held
-returns-clause-held g c = ap (λ (z : TrieFacts). z.held) c.self.view_is

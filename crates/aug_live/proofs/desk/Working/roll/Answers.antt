@@ -7,7 +7,7 @@ use Rattle.aug_live.proofs.Counted.{desk_keeps, exhausted_so}
 use Rattle.aug_trie.specs.Crew.{CrewFacts}
 use Rattle.aug_live.proofs.Desks.{all_taken, asked_on, asked_part, kept_taken, may_take, rolled_on, taken_of, unsettled, slots_as}
 use Rattle.aug_live.proofs.Lanes.{lanes_same, keeps_self}
-use Rattle.aug_live.proofs.Rolled.{all_came, all_held, all_part, below_last, end_room, few_lanes, fits_on, lanes_rolled, longer, may_go_on, next_ended, next_era, next_leads, next_table_as, none_held, ports_as, roomy}
+use Rattle.aug_live.proofs.Rolled.{all_held, all_part, lanes_rolled, longer, may_go_on, next_ended, next_era, next_leads, next_table_as, none_held, ports_as, roomy}
 use Rattle.aug_live.proofs.desk.Working.roll.Goals as goal
 use Rattle.aug_live.proofs.desk.Working.roll.Goals.{then-counts-via-then-counts, then-counts-via-else-counts+then-counts-gt-MOST_BEFORE, then-counts-via-else-counts+else-counts-gt-MOST_BEFORE+then-counts-gt-MOST_BEFORE-2}
 
@@ -100,44 +100,6 @@ invariant_of-working-2 g c =
 
 pub returns-clause-rolls : goal.returns-clause-rolls
 returns-clause-rolls g c = λ _. longer c.working.inside.crew c.deal_all.new.crew c.working.view_is refl c.may_renew.ensures.crew c.give_all.ensures.round c.renew-crew.ensures c.deal_all.ensures.round
-
-pub overflow_add-working-2 : goal.overflow_add-working-2
-overflow_add-working-2 g c = record { fits = fits_on c.if-counts-gt-MOST_BEFORE.false c.from.ensures c.renew-crew.type_inv.1.1.1.1.0.1 }
-
-pub overflow_add-working-3 : goal.overflow_add-working-3
-overflow_add-working-3 g c = record { fits = fits_on c.if-counts-gt-MOST_BEFORE-2.false c.from-2.ensures c.renew-crew.type_inv.1.1.1.1.1.0.1 }
-
-pub returns-clause-settled : goal.returns-clause-settled
-returns-clause-settled g c = c.give_all.new.held.ok.0 ∙ ap length c.give_all.ensures.none_left
-
-pub give_all-requires-clause-some : goal.give_all-requires-clause-some
-give_all-requires-clause-some g c = c.working.invariant.0.counted.some
-
-pub renew-crew-requires-clause-all_back : goal.renew-crew-requires-clause-all_back
-renew-crew-requires-clause-all_back g c = let w = c.working.inside in let m : CrewFacts = c.may_renew.new.crew in let now_working = asked_on w.crew m c.may_renew.result c.may_renew.ensures.crew c.working.invariant.0 in
-    all_came now_working c.give_all.new.crew (all_held c.in_default.ensures.all c.take_all.new.ports.ok.0 c.take_all.ensures.len refl) c.give_all.ensures.counted c.give_all.ensures.handed
-
-pub renew-crew-requires-clause-room : goal.renew-crew-requires-clause-room
-renew-crew-requires-clause-room g c = let w = c.working.inside in let m : CrewFacts = c.may_renew.new.crew in let now_working = asked_on w.crew m c.may_renew.result c.may_renew.ensures.crew c.working.invariant.0 in end_room now_working c.give_all.new.crew c.give_all.ensures.round
-
-pub deal_all-requires-clause-some : goal.deal_all-requires-clause-some
-deal_all-requires-clause-some g c = c.working.invariant.0.counted.some
-
-pub deal_all-requires-clause-small : goal.deal_all-requires-clause-small
-deal_all-requires-clause-small g c = let low : c.working.inside.counts.rounds < 2 ^ 64 = c.working.ranges.1.0.1.1.0.1 in below_last low c.if-counts.false
-
-pub deal_all-requires-clause-none_out : goal.deal_all-requires-clause-none_out
-deal_all-requires-clause-none_out g c = ap (λ (z : CrewFacts). z.handed) c.renew-crew.ensures.crew_is
-
-pub deal_all-requires-clause-lanes : goal.deal_all-requires-clause-lanes
-deal_all-requires-clause-lanes g c = let w = c.working.inside in let m : CrewFacts = c.may_renew.new.crew in let now_working = asked_on w.crew m c.may_renew.result c.may_renew.ensures.crew c.working.invariant.0 in
-    few_lanes now_working c.give_all.ensures.round c.renew-crew.ensures (all_held c.in_default.ensures.all c.take_all.new.ports.ok.0 c.take_all.ensures.len c.give_all.ensures.len)
-
-pub overflow_add-working : goal.overflow_add-working
-overflow_add-working g c = let low : c.working.inside.counts.rounds < 2 ^ 64 = c.working.ranges.1.0.1.1.0.1 in record { fits = below_last low c.if-counts.false }
-
-pub deal_all-requires-clause-room : goal.deal_all-requires-clause-room
-deal_all-requires-clause-room g c = roomy (all_held c.in_default.ensures.all c.take_all.new.ports.ok.0 c.take_all.ensures.len c.give_all.ensures.len) c.take_all.ensures.room c.working.invariant.2
 
 pub deal_all-requires-clause-ready : goal.deal_all-requires-clause-ready
 deal_all-requires-clause-ready g c = let w = c.working.inside in let m : CrewFacts = c.may_renew.new.crew in let now_working = asked_on w.crew m c.may_renew.result c.may_renew.ensures.crew c.working.invariant.0 in

@@ -1,12 +1,11 @@
 use Rattle.std.proofs.Common.{◌≡◌, ◌∙◌, ap, sym, subst}
-use Rattle.std.specs.Prelude.{IfErr, IfOk, Result}
+use Rattle.std.specs.Prelude.{IfOk, Result}
 use Rattle.atomic_table.specs.Seated.{TableId}
 use Rattle.aug_trie.specs.Round.{TableFacts}
 use Rattle.aug_live.specs.LiveTries.{TrieFacts}
-use Rattle.aug_live.specs.inside.LaneKnowledge.{EndFollows, EndRuns}
+use Rattle.aug_live.specs.inside.LaneKnowledge.{EndRuns}
 use Rattle.aug_live.specs.inside.Looks.{IsReaderOf, ShowsOrNot}
 use Rattle.aug_live.proofs.Carries.{err_map}
-use Rattle.aug_live.proofs.Rolled.{crew_as}
 use Rattle.aug_live.proofs.Shown.{end_shows, left_after}
 use Rattle.aug_live.proofs.desk.Working.show.Goals as goal
 
@@ -23,19 +22,3 @@ returns-in-Ok-clause-shows g c =
     let ran = subst (λ (r : Result _ _). IfOk r (λ shown. EndRuns (ShowsOrNot c.args.show.now.reader c.run-end.new.op.reader c.run-end.new.op.left c.run-end.new.op.era shown) c.args.end c.run-end.result.0)) c.in-Ok.is c.run-end.ensures.made in
     end_shows c.in-Ok.shown c.args.show.now.reader c.run-end.new.op.reader c.run-end.new.op.left c.take.new.self c.run-end.new.op.era c.args.end c.run-end.result.0 ran
     (subst (IsReaderOf c.run-end.result.0.known.at.half.round.table) (sym c.take.ensures.after) tt)
-
-pub invariant_of-self : goal.invariant_of-self
-invariant_of-self g c = let inv = c.self.invariant in (crew_as c.take_reader.ensures.crew inv.0, inv.1, inv.2, inv.3, inv.4, inv.5, inv.6, inv.7, inv.8, inv.9)
-
-pub invariant_of-self-in-Some-2 : goal.invariant_of-self-in-Some-2
-invariant_of-self-in-Some-2 g c = let inv = c.self.invariant in (crew_as c.take_reader.ensures.crew inv.0, inv.1, inv.2, inv.3, inv.4, inv.5, inv.6, inv.7, inv.8, inv.9)
-
-pub invariant_of-self-in-Some-3 : goal.invariant_of-self-in-Some-3
-invariant_of-self-in-Some-3 g c = let inv = c.self.invariant in (crew_as c.take_reader.ensures.crew inv.0, inv.1, inv.2, inv.3, inv.4, inv.5, inv.6, inv.7, inv.8, inv.9)
-
-pub returns-in-Err-clause-shows : goal.returns-in-Err-clause-shows
-returns-in-Err-clause-shows g c = (
-  subst (λ (r : Result _ _). IfErr r (λ _. EndFollows c.args.end c.run-end.result.0)) c.in-Err.is c.run-end.ensures.not_made,
-  subst (λ (r : Result _ _). IfErr r (λ _. c.run-end.new.op.reader ≡ c.args.show.now.reader)) c.in-Err.is (err_map _ _ c.run-end.result.1 (λ _ kept. ap (λ z. z.reader) kept) c.run-end.ensures.kept),
-  subst (IsReaderOf c.run-end.result.0.known.at.half.round.table) (sym c.take.ensures.after) tt,
-)

@@ -1,5 +1,5 @@
-use Rattle.std.proofs.Common.{◌≡◌, ◌∙◌, ◌+◌, ◌≤◌, ◌^◌, ◌++◌, [], ℕ, List, ap, map, refl, subst, sym}
-use Rattle.std.specs.Prelude.{reverse, vec_capacity}
+use Rattle.std.proofs.Common.{◌≡◌, ◌∙◌, ◌+◌, ◌++◌, [], ℕ, List, ap, map, refl, subst, sym}
+use Rattle.std.specs.Prelude.{reverse}
 use Rattle.std.specs.Arc.{arc_value}
 use Rattle.aug_trie.specs.Crew.{crew_chain}
 use Rattle.aug_trie.proofs.Chaining.{part_refl}
@@ -12,8 +12,6 @@ use Rattle.aug_live.proofs.Accounting.{closed_lane, handles_closed, lanes_close,
 use Rattle.aug_live.proofs.Counted.{closed_so, desk_keeps}
 use Rattle.aug_live.proofs.Desks.{all_taken, eras_of, may_take, taken_of, wholes_of}
 use Rattle.aug_live.proofs.Lanes.{lanes_same}
-use Rattle.aug_trie.specs.Round.{TableFacts}
-use Rattle.aug_live.proofs.Rolled.{all_held, all_out_so, end_room, fits_more, ports_as, roomy, sizes_on}
 use Rattle.aug_live.proofs.desk.Working.stop.Goals as goal
 
 pub take_all-requires-clause-rolls : goal.take_all-requires-clause-rolls
@@ -45,22 +43,3 @@ returns-clause-closes g c =
     (ap (λ n. w.counts.inserts + n) (c.from.ensures ∙ ends.3)) (ap (λ n. w.counts.removals + n) (c.from-2.ensures ∙ ends.4))
     refl
     (handles_closed bits w.counts w.crew fin.last all fin.lanes was.0.accounts kept eras was.0.rounds_are fin.changes) (missing_closed bits w.counts w.crew fin.last all fin.lanes was.0.accounts kept eras was.0.rounds_are fin.changes)
-
-pub invariant_of-working : goal.invariant_of-working
-invariant_of-working g c = let inv = c.working.invariant in let took = c.take_all.ensures in
-    (ports_as took.same took.len inv.0, inv.1, roomy took.len took.room inv.2, roomy took.len took.held_room inv.3, roomy took.len refl inv.4, inv.5, inv.6, inv.7, inv.8, inv.9 ∙ sym took.len)
-
-pub returns-clause-sizes : goal.returns-clause-sizes
-returns-clause-sizes g c = sizes_on _ _ _ _ _ c.finish-set.ensures.sizes c.working.invariant.0.counted.sizes c.from.ensures c.from-2.ensures
-
-pub overflow_add-removals : goal.overflow_add-removals
-overflow_add-removals g c = record { fits = fits_more _ c.working.invariant.0.few_removals c.from-2.ensures c.finish-set.type_inv.1.1.1.1.1.0.1 }
-
-pub finish-set-requires-clause-list_room : goal.finish-set-requires-clause-list_room
-finish-set-requires-clause-list_room g c = subst (λ (z : TableFacts). 2 ^ z.bits ≤ vec_capacity c.working.inside.list) (sym c.working.invariant.0.together) c.working.invariant.6
-
-pub finish-set-requires-clause-all_keys : goal.finish-set-requires-clause-all_keys
-finish-set-requires-clause-all_keys g c = end_room c.working.invariant.0 c.working.inside.crew refl
-
-pub finish-set-requires-clause-all_out : goal.finish-set-requires-clause-all_out
-finish-set-requires-clause-all_out g c = all_out_so c.working.invariant.0 (all_held c.in_default.ensures.all c.take_all.new.ports.ok.0 c.take_all.ensures.len refl)

@@ -1,4 +1,4 @@
-use Rattle.std.proofs.Common.{◌∙◌, ap, refl, subst, sym}
+use Rattle.std.proofs.Common.{ap, refl, subst, sym}
 use Rattle.std.specs.Prelude.{None, Option, Some}
 use Rattle.ruled_lock.specs.Locks.{client_of}
 use Rattle.aug_live.specs.LiveTries.{TrieFacts}
@@ -29,9 +29,3 @@ put-requires-in-None-clause-holds g c = let taken = c.in-Ok.field-0 in (
 
 pub returns-in-None-clause-shows : goal.returns-in-None-clause-shows
 returns-in-None-clause-shows g c = end_still _ _ c.args.show.now.era c.args.end (subst (λ (t : TableId). IsReaderOf t c.args.show.now.left) (sym (ap (λ (z : TableFacts). z.table) c.requires.together)) c.requires.readers.1)
-
-pub invariant_of-self : goal.invariant_of-self
-invariant_of-self g c = (c.put.ensures.same.0 ∙ c.take.ensures.same.0 ∙ c.self.invariant.0, c.put.ensures.free)
-
-pub invariant_of-self-in-None : goal.invariant_of-self-in-None
-invariant_of-self-in-None g c = (c.put-in-None.ensures.same.0 ∙ c.take.ensures.same.0 ∙ c.self.invariant.0, c.put-in-None.ensures.free)

@@ -1,6 +1,5 @@
 use Rattle.std.proofs.Common.{◌≡◌, ◌∙◌, List, true, ap, sym, subst}
 use Rattle.aug_core.specs.Prefixes.{IsPrefix}
-use Rattle.aug_core.proofs.PrefixLemmas.{prefix_trans}
 use Rattle.aug_trie.specs.Chains.{Chapter}
 use Rattle.aug_trie.specs.Pass.{PassFacts}
 use Rattle.aug_trie.specs.Round.{RoundFacts, table_of}
@@ -9,7 +8,7 @@ use Rattle.aug_live.specs.LiveHandles.{Follows}
 use Rattle.aug_live.specs.inside.LaneKnowledge.{EndFacts, KnownFacts, LaneFacts, Learnt, dealt, rounds_at}
 use Rattle.aug_live.specs.inside.Rolls.{rounds_in}
 use Rattle.aug_live.proofs.Carries.{replaced_follows}
-use Rattle.aug_live.proofs.Dealing.{knows_of, port_rolls, replaced_kept, replaced_of}
+use Rattle.aug_live.proofs.Dealing.{port_rolls}
 use Rattle.aug_live.proofs.Tied.{roller_deals, rolls_on, turn_by}
 use Rattle.aug_live.proofs.end.End.replace.Goals as goal
 
@@ -26,27 +25,3 @@ put-requires-clause-holds g c =
       turn_by dealt _ _ own lane new (c.take.ensures.view ∙ was) (λ views ties at. roller_deals _ own lane new views ties at roller c.requires.some (ap (λ (z : LaneFacts). z.number) is) (ap (λ (z : LaneFacts). z.is_out) is)
           (subst (λ (z : LaneFacts). Follows lane.at z.at) (sym is) follows) (ap (λ (z : LaneFacts). table_of z.at.half.round) is ∙ ap (λ (z : RoundFacts × List Chapter). table_of z.0) rounds) (ap (λ (z : LaneFacts). z.at.half.knows.accepted) is ∙ fresh.none_accepted)),
     )
-
-pub with-requires-clause-round : goal.with-requires-clause-round
-with-requires-clause-round g c =
-    let knows = knows_of _ c.args.self.now _ c.in-Ok.lane c.requires.of_round c.requires.some (ap (λ (z : EndFacts). z.known) c.self.view_is) c.in-Ok.ensures.fact in
-    ap (λ (z : RoundFacts × List Chapter). z.0.era) (c.start-work.ensures.fresh.round_is ∙ ap rounds_in c.back.ensures.crew_is ∙ sym knows.1) ∙ sym (ap (λ (z : LaneFacts). z.at.half.round.era) c.into_work-spent.ensures.rest)
-
-pub returns-in-Ok-clause-of_round : goal.returns-in-Ok-clause-of_round
-returns-in-Ok-clause-of_round g c =
-    replaced_of (rounds_in c.args.crew.now) c.args.self.now _ _ _ _ _ c.in-Ok.lane c.into_work-spent.result.1 c.with.result c.start-work.result c.requires.of_round c.requires.some c.self.view_is
-    c.take.ensures.view c.in-Ok.ensures.fact c.in-Ok.ensures.holds.0 c.put.ensures.then c.into_work-spent.ensures.rest c.with.ensures (c.start-work.ensures.fresh.round_is ∙ ap rounds_in c.back.ensures.crew_is)
-
-pub returns-in-Ok-clause-changes : goal.returns-in-Ok-clause-changes
-returns-in-Ok-clause-changes g c = (
-  c.pass.result.knows.accepted,
-  c.start-work.ensures.same_changes ∙ c.back.ensures.knows.changes_of_both,
-  replaced_kept (rounds_in c.args.crew.now) c.args.self.now _ _ _ _ _ c.in-Ok.lane c.into_work-spent.result.1 c.with.result c.start-work.result c.requires.of_round c.requires.some c.self.view_is
-      c.take.ensures.view c.in-Ok.ensures.fact c.in-Ok.ensures.holds.0 c.put.ensures.then c.into_work-spent.ensures.rest c.with.ensures _ (ap (λ (z : PassFacts). z.knows.accepted) (c.pass.ensures ∙ c.into_work-spent.ensures.work)),
-)
-
-pub returns-in-Ok-clause-goes_on : goal.returns-in-Ok-clause-goes_on
-returns-in-Ok-clause-goes_on g c = prefix_trans _ _ _ c.back.ensures.knows.goes_on c.start-work.ensures.goes_on
-
-pub invariant_of-self : goal.invariant_of-self
-invariant_of-self g c = (c.put.ensures.same.0 ∙ c.take.ensures.same.0 ∙ c.self.invariant.0, c.put.ensures.free)

@@ -1,5 +1,3 @@
-use Rattle.std.proofs.Common.{sym, subst}
-use Rattle.aug_live.specs.inside.LaneKnowledge.{LaneFacts, Worked}
 use Rattle.aug_live.proofs.Carries.{ran_anywhere, seen_by, stays_follow, stays_same, unmade_anywhere, worked_same}
 use Rattle.aug_live.proofs.end.End.run.Goals as goal
 
@@ -20,6 +18,3 @@ returns-clause-not_made g c = unmade_anywhere c.args.self c.put.result c.in-Ok.t
 
 pub returns-clause-seen : goal.returns-clause-seen
 returns-clause-seen g c = seen_by c.run-lane.result.1 _ c.run-lane.ensures.seen
-
-pub put-requires-clause-worked : goal.put-requires-clause-worked
-put-requires-clause-worked g c = subst (λ (z : LaneFacts). Worked z c.run-lane.result.0) (sym c.in-Ok.ensures.taken) c.run-lane.ensures.worked

@@ -1,5 +1,4 @@
 use Rattle.std.proofs.Common.{◌∙◌, refl, subst, sym}
-use Rattle.std.proofs.lemmas.Bool.{false≢true}
 use Rattle.aug_live.specs.LiveHandles.{HandleFacts, Runs}
 use Rattle.aug_live.proofs.Carries.{follows_self, follows_on, runs_on}
 use Rattle.aug_live.proofs.handle.Handle.make.Goals as goal
@@ -17,24 +16,3 @@ pub returns-in-Ok-clause-made : goal.returns-in-Ok-clause-made
 returns-in-Ok-clause-made g c = subst (λ (h : HandleFacts). Runs (g.O.Operation.Does c.args.op.now c.attempt.new.op c.in-Ok.answer) c.args.self.now h) (sym c.count.ensures)
     (subst (λ (z : g.row.O.Denot). Runs (g.O.Operation.Does z c.attempt.new.op c.in-Ok.answer) c.args.self.now c.attempt.new.self) c.loop.invariant.1
     (runs_on _ c.args.self.now c.loop.self c.attempt.new.self c.loop.invariant.0 c.in-Ok.ensures.made))
-
-pub returns-in-Err-wait_to_refill-clause-kept : goal.returns-in-Err-wait_to_refill-clause-kept
-returns-in-Err-wait_to_refill-clause-kept g c = c.in-Err.ensures.kept ∙ c.loop.invariant.1
-
-pub returns-in-Err-wait_to_refill-clause-refused : goal.returns-in-Err-wait_to_refill-clause-refused
-returns-in-Err-wait_to_refill-clause-refused g c = c.in-Err-wait_to_refill.ensures.refused
-
-pub returns-in-Ok-clause-refused : goal.returns-in-Ok-clause-refused
-returns-in-Ok-clause-refused g c = tt
-
-pub returns-in-Ok-clause-kept : goal.returns-in-Ok-clause-kept
-returns-in-Ok-clause-kept g c = tt
-
-pub returns-in-Ok-clause-not_made : goal.returns-in-Ok-clause-not_made
-returns-in-Ok-clause-not_made g c = tt
-
-pub returns-in-Err-wait_to_refill-clause-made : goal.returns-in-Err-wait_to_refill-clause-made
-returns-in-Err-wait_to_refill-clause-made g c = tt
-
-pub unreachable-requires : goal.unreachable-requires
-unreachable-requires g c = false≢true c.in-None.ensures.steps

@@ -1,11 +1,8 @@
-use Rattle.std.proofs.Common.{◌≡◌, ◌∙◌, ap, refl, subst, sym}
-use Rattle.std.proofs.lemmas.Bool.{false≢true}
+use Rattle.std.proofs.Common.{◌≡◌, ◌∙◌, ap, refl, subst}
 use Rattle.std.specs.Prelude.{IfNone, IfSome, Option}
-use Rattle.atomic_table.specs.Seated.{TableId}
-use Rattle.aug_trie.specs.Pass.{PassFacts}
 use Rattle.aug_trie.specs.declared.queries.snapshot.Snapshot.{Snapshot}
 use Rattle.aug_live.specs.LiveHandles.{Follows, Runs}
-use Rattle.aug_live.specs.inside.Looks.{HandleShows, HasReaders, IsReaderOf, ShowsOrNot}
+use Rattle.aug_live.specs.inside.Looks.{HandleShows, HasReaders, ShowsOrNot}
 use Rattle.aug_live.proofs.Carries.{err_any, follows_on, follows_self}
 use Rattle.aug_live.proofs.Shown.{none_runs, shown_runs, shows_on}
 use Rattle.aug_live.proofs.handle.Handle.show.Goals as goal
@@ -34,11 +31,3 @@ loop-preserved g c = let was = c.loop.invariant in let op = c.make.new.op in let
     let later = subst (λ (z : Option Snapshot). IfNone z (Follows made c.show_at_desk.new.self × (show.reader ≡ op.reader) × HasReaders show.reader show.left made.half.round.table)) c.in-None-shown.is c.in-Ok.ensures.not_made in
     let on = follows_on c.args.self.now c.loop.self made was.0 n.0 in
     (follows_on c.args.self.now made c.show_at_desk.new.self on later.0, later.1 ∙ n.1 ∙ was.1, subst (HasReaders show.reader show.left) on.table later.2)
-
-pub show_at_desk-requires : goal.show_at_desk-requires
-show_at_desk-requires g c = let was = c.loop.invariant in let op = c.make.new.op in let old = c.loop.show.reader in let made = c.make.new.self in
-    let n = none_runs old op.reader op.left op.era c.loop.self made (subst (λ (z : Option Snapshot). Runs (ShowsOrNot old op.reader op.left op.era z) c.loop.self made) c.in-None-made.is c.in_ok-made.ensures.made) in
-    record { needs = (subst (λ (z : TableId × Option PassFacts). IsReaderOf z.0 z.1) (λ k. (sym (n.0.table ∙ was.0.table) k, sym n.1 k)) was.2.0, n.2) }
-
-pub unreachable-requires : goal.unreachable-requires
-unreachable-requires g c = false≢true c.in-None.ensures.steps

@@ -4,7 +4,7 @@ use Rattle.aug_trie.specs.declared.queries.snapshot.Snapshot.{Snapshot}
 use Rattle.aug_live.specs.LiveHandles.{Follows, Runs}
 use Rattle.aug_live.specs.inside.Looks.{HandleShows, HasReaders, ShowsOrNot}
 use Rattle.aug_live.proofs.Carries.{follows_on, follows_same}
-use Rattle.aug_live.proofs.Shown.{none_runs, shown_runs, shows_on}
+use Rattle.aug_live.proofs.Shown.{none_runs, shows_on}
 use Rattle.aug_live.proofs.handle.Handle.try_show.Goals as goal
 
 pub returns-in-Some-shown-clause-shows : goal.returns-in-Some-shown-clause-shows
@@ -23,7 +23,3 @@ pub returns-in-Err-clause-not_made : goal.returns-in-Err-clause-not_made
 returns-in-Err-clause-not_made g c = let op = c.try_make.new.op in let old = c.args.show.now.reader in let made = c.try_make.new.self in let missed = c.in-Err.ensures.missed in
     let n = none_runs old op.reader op.left op.era c.args.self.now made (subst (λ (z : Option Snapshot). Runs (ShowsOrNot old op.reader op.left op.era z) c.args.self.now made) c.in-None.is c.in_ok-made.ensures.made) in
     (follows_on c.args.self.now made c.show_at_desk.new.self n.0 (follows_same made c.show_at_desk.new.self missed.0), ap (λ z. z.reader) missed.1 ∙ n.1)
-
-pub returns-in-Some-clause-shows : goal.returns-in-Some-clause-shows
-returns-in-Some-clause-shows g c = let op = c.try_make.new.op in let old = c.args.show.now.reader in let made = c.try_make.new.self in
-    shown_runs old op.reader op.left op.era c.in-Some.held c.args.self.now made (subst (λ (z : Option Snapshot). Runs (ShowsOrNot old op.reader op.left op.era z) c.args.self.now made) c.in-Some.is c.in_ok-made.ensures.made)

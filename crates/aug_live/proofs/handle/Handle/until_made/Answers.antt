@@ -1,5 +1,3 @@
-use Rattle.std.proofs.Common.{ℕ, ◌^◌, ◌<◌, subst, sym}
-use Rattle.std.proofs.lemmas.Bool.{false≢true}
 use Rattle.aug_live.proofs.Carries.{follows_self, follows_on, runs_on, refused_follows, err_any}
 use Rattle.aug_live.proofs.handle.Handle.until_made.Goals as goal
 
@@ -19,9 +17,3 @@ returns-in_default g c = record {
   not_made = tt;
   refused = tt;
 }
-
-pub unreachable-requires : goal.unreachable-requires
-unreachable-requires g c = false≢true c.in-None.ensures.steps
-
-pub update-requires : goal.update-requires
-update-requires g c = record { key = subst (λ (z : ℕ). c.args.k < 2 ^ z) (sym c.loop.invariant.bits) c.requires.key }

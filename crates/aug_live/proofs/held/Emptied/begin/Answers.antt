@@ -1,14 +1,11 @@
-use Rattle.std.proofs.Common.{◌≡◌, ◌+◌, ◌∙◌, ℕ, List, ap, sym, subst}
-use Rattle.ruled_lock.specs.Locks.{client_of}
+use Rattle.std.proofs.Common.{◌≡◌, ◌∙◌, List, ap, sym, subst}
 use Rattle.aug_trie.specs.Chains.{Chapter}
 use Rattle.aug_trie.specs.Round.{RoundFacts, table_of}
 use Rattle.aug_live.specs.LiveHandles.{Follows, HandleFacts}
-use Rattle.aug_live.specs.inside.LaneKnowledge.{EndFacts, LaneFacts, OutFacts, dealt, rounds_at, taken_by}
-use Rattle.aug_live.specs.declared.known.Whose.{Whose}
-use Rattle.aug_live.specs.inside.Rolls.{HasEnded, IsPort}
+use Rattle.aug_live.specs.inside.LaneKnowledge.{LaneFacts, dealt}
+use Rattle.aug_live.specs.inside.Rolls.{HasEnded}
 use Rattle.aug_live.proofs.Carries.{begun_follows}
-use Rattle.aug_live.proofs.Dealing.{deals_of, emptied_kept}
-use Rattle.aug_live.proofs.Tied.{put_back, roller_deals, turn_out, what_is}
+use Rattle.aug_live.proofs.Tied.{roller_deals, turn_out}
 use Rattle.aug_live.proofs.held.Emptied.begin.Goals as goal
 
 pub put-requires-clause-holds : goal.put-requires-clause-holds
@@ -19,15 +16,3 @@ put-requires-clause-holds g c =
     let together : table_of new.at.half.round ≡ table_of rest.at.half.round = ap (λ (z : LaneFacts). table_of z.at.half.round) c.next.ensures ∙ ap (λ (z : RoundFacts × List Chapter). table_of z.0) fresh.round_is ∙ sym ready.table_is in
     turn_out dealt out new c.out.view_is c.out.invariant.1 c.out.invariant.2 (λ views ties at. roller_deals _ out.known out.taken new views ties at inv.3 inv.4 (ap (λ (z : LaneFacts). z.number) c.next.ensures ∙ inv.1) (ap (λ (z : LaneFacts). z.is_out) c.next.ensures ∙ inv.2) follows
     (together ∙ ap (λ (z : HandleFacts). table_of z.half.round) inv.0) (ap (λ (z : LaneFacts). z.at.half.knows.accepted) c.next.ensures ∙ fresh.none_accepted))
-
-pub returns-clause-of_round : goal.returns-clause-of_round
-returns-clause-of_round g c = let o = c.out.inside.key.me.0.taken in let v = client_of c.out.inside.key in let new : LaneFacts = c.next.result in
-    let is = put_back (client_of c.put.new.key) (λ t. dealt v t new) o (taken_by o) (what_is o _ c.out.invariant.1) c.put.ensures.then in
-    let whose = ap (λ (z : OutFacts). z.known.whose) c.out.view_is ∙ ap (λ (z : EndFacts). z.known.whose) c.self.view_is in
-    let era = ap (λ (z : LaneFacts). z.at.era) c.next.ensures ∙ ap (λ (z : EndFacts). z.known.at.era + 1) c.self.view_is ∙ ap (λ (n : ℕ). n + 1) c.requires.ready.era_is in
-    deals_of _ _ _ v _ (taken_by o) new is (subst (λ (z : Whose). IsPort z) (sym whose) c.requires.ready.whose) (ap (λ (z : LaneFacts). z.works) c.next.ensures) era (ap (λ (z : LaneFacts). rounds_at z.at.half) c.next.ensures ∙ c.start-work.ensures.fresh.round_is)
-
-pub returns-clause-kept : goal.returns-clause-kept
-returns-clause-kept g c = let o = c.out.inside.key.me.0.taken in let v = client_of c.out.inside.key in let new : LaneFacts = c.next.result in
-    let is = put_back (client_of c.put.new.key) (λ t. dealt v t new) o (taken_by o) (what_is o _ c.out.invariant.1) c.put.ensures.then in
-    emptied_kept c.args.self c.self.inside.out c.self.inside.rest _ v _ (taken_by o) new c.self.view_is c.out.view_is c.self.invariant.0 is

@@ -1,6 +1,6 @@
-use Rattle.std.proofs.Common.{◌≡◌, ◌∙◌, ◌<◌, ◌⊎◌, length, inr, ℕ, List, ap, refl, sym, subst, arith}
+use Rattle.std.proofs.Common.{◌≡◌, ◌∙◌, ◌⊎◌, length, inr, ℕ, List, ap, refl, sym, subst, arith}
 use Rattle.std.specs.Arc.{arc_value}
-use Rattle.std.specs.Prelude.{Option, Some, Result, IfErr, IfOk}
+use Rattle.std.specs.Prelude.{Some, Result, IfErr, IfOk}
 use Rattle.std.proofs.lemmas.List.{length-map}
 use lib.ListN.{get_elem?}
 use Rattle.atomic_table.specs.Seated.{TableId}
@@ -10,19 +10,18 @@ use Rattle.aug_trie.specs.Note.{NoteFacts, chain_of_note}
 use Rattle.aug_trie.specs.Pass.{chain_of}
 use Rattle.aug_trie.proofs.Chaining.{part_trans}
 use Rattle.aug_live.specs.Ledgers.{Made}
-use Rattle.aug_live.specs.LiveHandles.{Follows, HandleFacts}
+use Rattle.aug_live.specs.LiveHandles.{HandleFacts}
 use Rattle.aug_live.specs.LiveErrors.{IfRefused, RefusesBack, RefusesCall, RefusesRoll}
 use Rattle.aug_live.specs.LiveTries.{CameBack, LaneKnown, TrieFacts, ids_of}
 use Rattle.aug_live.specs.declared.error.LiveError.{LiveError}
 use Rattle.aug_live.specs.declared.error.LiveError.TheVariants.{Closed, Exhausted, Replaced, NoLane, TooMany, Looking}
-use Rattle.aug_live.specs.inside.LaneKnowledge.{EndFacts, handle_by}
-use Rattle.aug_live.specs.inside.Looks.{HoldsHandle}
+use Rattle.aug_live.specs.inside.LaneKnowledge.{handle_by}
 use Rattle.aug_live.proofs.Carries.{ok_any}
 use Rattle.aug_live.proofs.Counted.{came_from}
 use Rattle.aug_live.proofs.DeskSteps.{keeps_from, knows_on_from}
 use Rattle.aug_live.proofs.Handing.{is_below}
 use Rattle.aug_live.proofs.Lanes.{ids_more, keeps_by, keeps_on, keeps_self, more_on}
-use Rattle.aug_live.proofs.Looked.{lock_of, mine_of}
+use Rattle.aug_live.proofs.Looked.{lock_of}
 use Rattle.aug_live.proofs.live.Live.back.Goals as goal
 use Rattle.aug_live.proofs.live.Live.back.Goals.{in-Ok-done, in-Err-done+in-Refused}
 
@@ -101,34 +100,3 @@ returns-clause-refused g c = let i = c.handle.inside in let now = c.back-done.ne
       | in-Err-done+in-Refused w ↦ subst (λ (r : Result _ _). IfErr r (λ e. RefusesCall e.0 e.1 ⊎ RefusesBack h.who.lane h.who.number new e.1)) (sym w.result-is)
           (inr (subst (λ (z : (ℕ × ℕ) × TrieFacts). RefusesBack z.0.0 z.0.1 z.1 w.in-Refused.cause) (λ k. ((lane k, number k), sym c.lay_on.ensures.view k)) (subst (IfRefused (RefusesBack i.lane i.number now)) w.in-Refused.is w.in-Err-done.ensures.refused)))
     ]
-
-pub returns-clause-same : goal.returns-clause-same
-returns-clause-same g c = let i = c.handle.inside in let h = c.args.handle in let there : i.end ≡ Some c.in-Some.end = sym c.take.ensures.value ∙ c.in-Some.is in elim c.match-done.branch [
-  | in-Ok-done w ↦ subst (λ (r : Result _ _). IfErr r (λ e. Follows h e.0)) (sym w.result-is) tt
-  | in-Err-done+in-Refused w ↦ subst (λ (r : Result _ _). IfErr r (λ e. Follows h e.0)) (sym w.result-is)
-      (subst (Follows h) (sym (ap (handle_by i.desk i.lane) (ap Some w.in-Err-done.ensures.same ∙ sym there) ∙ c.handle.view_is)) c.in-Ok.ensures.follows)
-]
-
-pub invariant_of-self-2 : goal.invariant_of-self-2
-invariant_of-self-2 g c = (c.lay_on.ensures.same.0 ∙ c.take_settled.ensures.same.0 ∙ c.self.invariant.0, c.lay_on.ensures.free, c.lay_on.ensures.owner c.take_settled.ensures.owner)
-
-pub invariant_of-handle : goal.invariant_of-handle
-invariant_of-handle g c = let i = c.handle.inside in let there : i.end ≡ Some c.in-Some.end = sym c.take.ensures.value ∙ c.in-Some.is in
-    (subst (λ (z : Option EndFacts). HoldsHandle z (arc_value i.round) i.bits i.lane i.number (ids_of i.desk)) (there ∙ ap Some (sym c.in-Err-done.ensures.same)) c.handle.invariant.0, c.handle.invariant.1, c.handle.invariant.2)
-
-pub back-done-requires-clause-number : goal.back-done-requires-clause-number
-back-done-requires-clause-number g c = let i = c.handle.inside in let held = c.handle.invariant.0 in
-    ap (λ (e : EndFacts). e.known.number) (mine_of c.in-Some.end i.end (arc_value i.round) i.bits i.number i.lane (ids_of i.desk) held (sym c.take.ensures.value ∙ c.in-Some.is)) ∙ held.number_is
-
-pub back-done-requires-clause-some : goal.back-done-requires-clause-some
-back-done-requires-clause-some g c = let i = c.handle.inside in let held = c.handle.invariant.0 in
-    subst (λ (e : EndFacts). 0 < e.known.at.era) (sym (mine_of c.in-Some.end i.end (arc_value i.round) i.bits i.number i.lane (ids_of i.desk) held (sym c.take.ensures.value ∙ c.in-Some.is))) held.some_era
-
-pub invariant_of-self : goal.invariant_of-self
-invariant_of-self g c = (c.take_settled.ensures.same.0 ∙ c.self.invariant.0, c.in-Err-Refused.ensures.free.0, c.take_settled.ensures.owner)
-
-pub lay_on-requires-clause-lock : goal.lay_on-requires-clause-lock
-lay_on-requires-clause-lock g c = c.take_settled.ensures.same.0 ∙ c.self.invariant.0 ∙ (λ k. (sym c.deref-2.ensures k).table.shared.table_id)
-
-pub unreachable-requires : goal.unreachable-requires
-unreachable-requires g c = c.in_default.not-Some c.handle.invariant.0.mine (c.take.ensures.value ∙ c.handle.invariant.0.there)

@@ -1,12 +1,9 @@
-use Rattle.std.proofs.Common.{ℕ, ◌≡◌, ◌∙◌, ◌^◌, ◌<◌, [], Global, Vec, length, vec_capacity, vec_len, All, List, map, ap, refl, sym, subst, rules, arith}
+use Rattle.std.proofs.Common.{ℕ, ◌≡◌, ◌∙◌, ◌^◌, [], Global, Vec, length, vec_capacity, vec_len, All, List, map, ap, refl, sym, subst, rules, arith}
 use Rattle.std.specs.Arc.{arc_value}
-use Rattle.std.specs.Result.{is_err}
-use Rattle.std.proofs.lemmas.Bool.{false≢true}
 use Rattle.std.proofs.lemmas.List.{length-map}
 use Rattle.std.proofs.lemmas.List.Elements.{All-map}
 use Rattle.ruled_lock.specs.Locks.{client_of}
-use Rattle.aug_core.specs.Layout.{IsLayout, IsRefused}
-use Rattle.aug_core.specs.declared.layout.LayoutError.TheVariants as layout
+use Rattle.aug_core.specs.Layout.{IsLayout}
 use Rattle.aug_core.specs.Places.{shape_of}
 use Rattle.aug_model.proofs.Boundaries.{IsKeySet-few}
 use Rattle.aug_model.proofs.Pairs.{length-keys_of}
@@ -22,18 +19,10 @@ use Rattle.aug_live.proofs.Desks.{all_new, no_lanes, opened_at, unsettled}
 use Rattle.aug_live.specs.inside.DeskKnowledge.{IsOwner}
 use Rattle.aug_live.proofs.Handing.{handles_all, handles_long, lanes_are}
 use Rattle.aug_live.proofs.Lanes.{ids_are}
-use Rattle.aug_live.proofs.Planning.{passed, wants_memory}
 use Rattle.aug_live.proofs.live.Live.open_with.Goals as goal
 
 pub next_round-requires-clause-few : goal.next_round-requires-clause-few
 next_round-requires-clause-few g c = omega (arith, IsKeySet-few _ _ c.universe-universe.ensures.keys, length-keys_of c.args.set.pairs)
-
-pub next_round-requires-clause-laid_out : goal.next_round-requires-clause-laid_out
-next_round-requires-clause-laid_out g c = subst (λ (b : ℕ). IsLayout (shape_of b c.args.plan.lanes c.args.plan.updates (2 ^ b))) c.bits-bits.ensures c.in_default.ensures.ok.0
-
-pub hand_out-handles-requires-clause-bits : goal.hand_out-handles-requires-clause-bits
-hand_out-handles-requires-clause-bits g c =
-    let begun = c.in-Ok-next_round.ensures.begun in c.bits-bits.ensures ∙ sym (ap (λ (z : TableFacts). z.bits) (ap arc_value c.of-of.ensures ∙ sym begun.together) ∙ ap (λ (z : RoundFacts). z.bits) begun.round_is)
 
 pub open_lanes-ports-requires-clause-first_era : goal.open_lanes-ports-requires-clause-first_era
 open_lanes-ports-requires-clause-first_era g c = ap (λ (z : RoundFacts). z.era) c.in-Ok-next_round.ensures.begun.round_is
@@ -120,59 +109,3 @@ invariant_of-result g c = let out = c.hand_out-handles.ensures in let placed = c
   out.free,
   subst (λ (z : ℕ × TrieFacts). IsOwner z.0 z.1) (λ i. (sym out.same.1 i, sym out.knows i)) placed.owner,
 )
-
-pub returns-clause-bad_lanes : goal.returns-clause-bad_lanes
-returns-clause-bad_lanes g c = passed (λ b. IsRefused layout.BadWorkers b c.args.plan.lanes c.args.plan.updates (2 ^ b)) _ _ _ _ _ _ c.bits-bits.ensures c.in_default.ensures.bad_lanes (λ so. false≢true (ap is_err so))
-
-pub returns-clause-bad_updates : goal.returns-clause-bad_updates
-returns-clause-bad_updates g c = passed (λ b. IsRefused layout.BadUpdates b c.args.plan.lanes c.args.plan.updates (2 ^ b)) _ _ _ _ _ _ c.bits-bits.ensures c.in_default.ensures.bad_updates (λ so. false≢true (ap is_err so))
-
-pub returns-clause-too_large : goal.returns-clause-too_large
-returns-clause-too_large g c = passed (λ b. IsRefused layout.TooLarge b c.args.plan.lanes c.args.plan.updates (2 ^ b)) _ _ _ _ _ _ c.bits-bits.ensures c.in_default.ensures.too_large (λ so. false≢true (ap is_err so))
-
-pub returns-clause-bad_tables : goal.returns-clause-bad_tables
-returns-clause-bad_tables g c = passed (λ b. IsLayout (shape_of b c.args.plan.lanes c.args.plan.updates (2 ^ b)) × (c.args.plan.tables < 2)) _ _ _ _ _ _ c.bits-bits.ensures c.in_default.ensures.bad_tables (λ so. false≢true (ap is_err so))
-
-pub returns-in-Err-next_round-clause-bad_lanes : goal.returns-in-Err-next_round-clause-bad_lanes
-returns-in-Err-next_round-clause-bad_lanes g c = passed (λ b. IsRefused layout.BadWorkers b c.args.plan.lanes c.args.plan.updates (2 ^ b)) _ _ _ _ _ _ c.bits-bits.ensures c.in_default.ensures.bad_lanes (λ so. false≢true (sym (ap wants_memory so)))
-
-pub returns-in-Err-next_round-clause-bad_updates : goal.returns-in-Err-next_round-clause-bad_updates
-returns-in-Err-next_round-clause-bad_updates g c = passed (λ b. IsRefused layout.BadUpdates b c.args.plan.lanes c.args.plan.updates (2 ^ b)) _ _ _ _ _ _ c.bits-bits.ensures c.in_default.ensures.bad_updates (λ so. false≢true (sym (ap wants_memory so)))
-
-pub returns-in-Err-next_round-clause-too_large : goal.returns-in-Err-next_round-clause-too_large
-returns-in-Err-next_round-clause-too_large g c = passed (λ b. IsRefused layout.TooLarge b c.args.plan.lanes c.args.plan.updates (2 ^ b)) _ _ _ _ _ _ c.bits-bits.ensures c.in_default.ensures.too_large (λ so. false≢true (sym (ap wants_memory so)))
-
-pub returns-in-Err-next_round-clause-bad_tables : goal.returns-in-Err-next_round-clause-bad_tables
-returns-in-Err-next_round-clause-bad_tables g c = passed (λ b. IsLayout (shape_of b c.args.plan.lanes c.args.plan.updates (2 ^ b)) × (c.args.plan.tables < 2)) _ _ _ _ _ _ c.bits-bits.ensures c.in_default.ensures.bad_tables (λ so. false≢true (sym (ap wants_memory so)))
-
-pub returns-in_default-new-clause-bad_lanes : goal.returns-in_default-new-clause-bad_lanes
-returns-in_default-new-clause-bad_lanes g c = passed (λ b. IsRefused layout.BadWorkers b c.args.plan.lanes c.args.plan.updates (2 ^ b)) _ _ _ _ _ _ c.bits-bits.ensures c.in_default.ensures.bad_lanes (λ so. false≢true (sym (ap wants_memory so)))
-
-pub returns-in_default-new-clause-bad_updates : goal.returns-in_default-new-clause-bad_updates
-returns-in_default-new-clause-bad_updates g c = passed (λ b. IsRefused layout.BadUpdates b c.args.plan.lanes c.args.plan.updates (2 ^ b)) _ _ _ _ _ _ c.bits-bits.ensures c.in_default.ensures.bad_updates (λ so. false≢true (sym (ap wants_memory so)))
-
-pub returns-in_default-new-clause-too_large : goal.returns-in_default-new-clause-too_large
-returns-in_default-new-clause-too_large g c = passed (λ b. IsRefused layout.TooLarge b c.args.plan.lanes c.args.plan.updates (2 ^ b)) _ _ _ _ _ _ c.bits-bits.ensures c.in_default.ensures.too_large (λ so. false≢true (sym (ap wants_memory so)))
-
-pub returns-in_default-new-clause-bad_tables : goal.returns-in_default-new-clause-bad_tables
-returns-in_default-new-clause-bad_tables g c = passed (λ b. IsLayout (shape_of b c.args.plan.lanes c.args.plan.updates (2 ^ b)) × (c.args.plan.tables < 2)) _ _ _ _ _ _ c.bits-bits.ensures c.in_default.ensures.bad_tables (λ so. false≢true (sym (ap wants_memory so)))
-
-pub hand_out-handles-requires-clause-handles : goal.hand_out-handles-requires-clause-handles
-hand_out-handles-requires-clause-handles g c = let room = c.in-Ok.ensures in (room.handles.0, omega (arith, c.open_lanes-ports.ensures.len.1, room.berths.1, room.handles.1))
-
-pub open_lanes-ports-requires-clause-lanes : goal.open_lanes-ports-requires-clause-lanes
-open_lanes-ports-requires-clause-lanes g c = omega (arith, c.in-Ok.ensures.berths.1, c.requires.lanes, ap (λ (z : RoundFacts). z.workers) c.in-Ok-next_round.ensures.begun.round_is)
-
-pub open_lanes-ports-requires-clause-none_out : goal.open_lanes-ports-requires-clause-none_out
-open_lanes-ports-requires-clause-none_out g c = ap (λ (z : CrewFacts). z.handed) c.in-Ok-next_round.ensures.begun.crew_is
-
-pub open_lanes-ports-requires-clause-ports : goal.open_lanes-ports-requires-clause-ports
-open_lanes-ports-requires-clause-ports g c = let room = c.in-Ok.ensures in (room.ports.0, omega (arith, room.berths.1, room.ports.1))
-
-pub open_lanes-ports-requires-clause-ends : goal.open_lanes-ports-requires-clause-ends
-open_lanes-ports-requires-clause-ends g c = let room = c.in-Ok.ensures in (room.ends.0, omega (arith, room.berths.1, room.ends.1))
-
-pub place-lock-requires : goal.place-lock-requires
-place-lock-requires g c =
-    let begun = c.in-Ok-next_round.ensures.begun in let bits : (arc_value c.in-Ok-next_round.begun.round).bits ≡ c.args.set.bits = ap (λ (z : TableFacts). z.bits) (sym begun.together) ∙ ap (λ (z : RoundFacts). z.bits) begun.round_is in
-    record { some = omega (arith, c.in_default.ensures.ok.0.bits.0, c.bits-bits.ensures, bits) }

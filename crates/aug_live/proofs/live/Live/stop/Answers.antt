@@ -1,8 +1,7 @@
-use Rattle.std.proofs.Common.{ℕ, ◌∙◌, refl, subst, sym, true}
+use Rattle.std.proofs.Common.{◌∙◌, refl, subst, sym, true}
 use Rattle.std.specs.Prelude.{None, Some}
 use Rattle.ruled_lock.specs.Locks.{client_of}
 use Rattle.aug_live.specs.LiveTries.{KeepsHandles, TrieFacts}
-use Rattle.aug_live.specs.inside.DeskKnowledge.{IsOwner}
 use Rattle.aug_live.proofs.Counted.{closes_from}
 use Rattle.aug_live.proofs.DeskSteps.{keeps_from, turns}
 use Rattle.aug_live.proofs.Lanes.{keeps_by, keeps_on, keeps_self}
@@ -27,10 +26,3 @@ returns-in-Err-stop-clause-goes_on g c = keeps_by _ _ _ _ c.self.view_is (keeps_
 
 pub returns-in-Err-clause-goes_on : goal.returns-in-Err-clause-goes_on
 returns-in-Err-clause-goes_on g c = subst (KeepsHandles c.args.self) (sym (c.take_own.ensures.view ∙ c.self.view_is)) (keeps_self c.args.self)
-
-pub invariant_of-result : goal.invariant_of-result
-invariant_of-result g c = let was = c.take_own.ensures in (
-  c.lay_on.ensures.same.0 ∙ was.same.0 ∙ c.self.invariant.0,
-  c.lay_on.ensures.free,
-  c.lay_on.ensures.owner (subst (λ (z : ℕ × TrieFacts). IsOwner z.0 z.1) (λ k. (sym was.same.1 k, sym was.view k)) c.self.invariant.2),
-)

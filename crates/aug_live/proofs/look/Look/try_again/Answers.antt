@@ -3,9 +3,9 @@ use Rattle.std.specs.Arc.{arc_value}
 use Rattle.std.specs.Prelude.{Option}
 use Rattle.aug_trie.specs.Pass.{PassFacts}
 use Rattle.aug_live.specs.LiveHandles.{IsLookOf}
-use Rattle.aug_live.specs.inside.Looks.{HandleShows, HoldsLook}
+use Rattle.aug_live.specs.inside.Looks.{HandleShows}
 use Rattle.aug_live.proofs.Shown.{holds_other, holds_same_round}
-use Rattle.aug_live.proofs.Looking.{again_not, again_other, again_same}
+use Rattle.aug_live.proofs.Looking.{again_same}
 use Rattle.aug_live.proofs.look.Look.try_again.Goals as goal
 
 pub invariant_of-self : goal.invariant_of-self
@@ -23,16 +23,3 @@ pub returns-in-Ok-clause-looks : goal.returns-in-Ok-clause-looks
 returns-in-Ok-clause-looks g c = let i = c.self.inside in let show = c.try_show-done.new.show in let was = c.after-show in let now = c.args.self.now in
     again_same i.reader c.take.result was.result.reader show.reader i.held i.before i.lane c.args.handle.now c.try_show-done.new.self now was.ensures.reader c.take.ensures.value c.self.view_is
     i.out (arc_value i.round) c.in-Ok.held i.era show.era c.self.invariant c.requires.own c.in-Ok.ensures.shows c.if-show-self.false
-
-pub returns-then-show-self-clause-looks : goal.returns-then-show-self-clause-looks
-returns-then-show-self-clause-looks g c = let i = c.self.inside in let show = c.try_show-done.new.show in let was = c.after-show in let now = c.args.self.now in
-    again_other i.reader c.take.result was.result.reader show.reader i.held i.before i.lane c.args.handle.now c.try_show-done.new.self now was.ensures.reader c.take.ensures.value c.self.view_is
-    i.out (arc_value i.round) c.in-Ok.held i.era show.era c.self.invariant c.requires.own c.in-Ok.ensures.shows c.if-show-self.true
-
-pub returns-clause-not_made : goal.returns-clause-not_made
-returns-clause-not_made g c = let i = c.self.inside in let show = c.try_show-done.new.show in let was = c.after-show in let now = c.args.self.now in
-    again_not i.reader c.take.result was.result.reader show.reader i.held i.before i.lane c.args.handle.now c.try_show-done.new.self now was.ensures.reader c.take.ensures.value c.self.view_is c.in-Err.ensures.not_made
-
-pub invariant_of-self-in-Err : goal.invariant_of-self-in-Err
-invariant_of-self-in-Err g c = let i = c.self.inside in
-    subst (λ (z : Option PassFacts). HoldsLook i.out (arc_value i.round) z i.held i.before i.era) (sym (c.in-Err.ensures.not_made.1 ∙ c.after-show.ensures.reader ∙ c.take.ensures.value)) c.self.invariant

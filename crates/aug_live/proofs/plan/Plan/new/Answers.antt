@@ -1,5 +1,5 @@
 use Rattle.std.proofs.Common.{◌∙◌, ℕ, ◌+◌, ◌-◌, ◌*◌, ◌/◌, ap, arith, max, min}
-use Rattle.aug_live.proofs.Planning.{is_greatest, some_room}
+use Rattle.aug_live.proofs.Planning.{is_greatest}
 use Rattle.aug_live.proofs.plan.Plan.new.Goals as goal
 
 pub returns-clause-greatest : goal.returns-clause-greatest
@@ -10,7 +10,3 @@ returns-clause-greatest c =
     (λ i. c.args.memory / 24 - words + c.from-2.ensures i * (1 + 64 * (5 * update i)))
     (c.max-lanes.ensures ∙ ap (λ (z : ℕ). max z c.args.handles) (c.min.ensures ∙ (λ i. min (room / (1 + 256 * (5 * update i))) 64)))
     (c.min-updates.ensures ∙ (λ i. min ((room / c.from-3.ensures i - 1) / (5 * update i)) 65536))
-
-pub overflow_sub-room-2 : goal.overflow_sub-room-2
-overflow_sub-room-2 c = some_room c.args.bits c.from.result c.args.handles c.from-2.result c.args.memory (c.args.memory / 24 - c.in_ok-words.words) c.from-3.result c.in_ok-words.ensures.fits.0 c.from.ensures c.from-2.ensures
-    (c.from-3.ensures ∙ c.max-lanes.ensures ∙ ap (λ (z : ℕ). max z c.args.handles) c.min.ensures)

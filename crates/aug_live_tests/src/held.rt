@@ -1,7 +1,7 @@
-//! Looks of as many earlier rounds as there are tables to spare, and of more.
+//! Looks of as many earlier rounds as there are tables to spare, and of more; and looks that ended, which hold no round up.
 
 use crate::acting::Reply::Done;
-use crate::acting::{LookOf, Waits, fill, looked, opened, rolled};
+use crate::acting::{HandleOf, LookOf, Waits, fill, looked, opened, rolled};
 use crate::assertions::{equal, holds};
 use aug_live::{Busy, OpenError, TryError};
 use aug_query::descent::Size;
@@ -62,6 +62,48 @@ fn roll_overs_wait_for_looks_of_as_many_rounds_as_there_are_other_tables(
 ) -> Result<(), OpenError> {
     for it in HELD {
         assert_held(&rt, it)?;
+    }
+    Ok(())
+}
+
+// How many members a look shows that is over at once.
+fn seen<R: Waits>(rt: &R, hand: &mut HandleOf) -> u32 {
+    let mut look = looked(rt, hand, false).ok().expect(rt, "a look");
+    look.ask(Size)
+}
+
+// A handle takes a look in one round, and the other two take looks in the next, which end: one of them goes on in another lane, a roll-over finds that it has
+// to wait, and the same handle takes a look once more. Once the first look is over as well, each round rolls over. The handles are in one of six orders.
+fn assert_none_lost<R: Waits>(rt: &R, order: u32) -> Result<(), OpenError> {
+    let (mut live, mut hands) = opened(rt.alloc(), 6, (3, 5), (2, 2))?;
+    let mut a = hands.pop().expect(rt, "a handle");
+    let mut b = hands.pop().expect(rt, "another one");
+    let mut c = hands.pop().expect(rt, "a third one");
+    if order % 2 == 1 {
+        (a, b) = (b, a);
+    }
+    for _ in 0..order / 2 {
+        (a, b, c) = (b, c, a);
+    }
+    let look = looked(rt, &mut c, false).ok().expect(rt, "a look");
+    equal(rt, rolled(rt, &mut live, false), Done);
+    equal(rt, seen(rt, &mut b), 0);
+    equal(rt, fill(rt, &mut b, false, (0, 3)), 3);
+    equal(rt, seen(rt, &mut a), 3);
+    let waits = matches!(live.try_roll(), Err(TryError::Again(Busy::Look)));
+    holds(rt, waits);
+    equal(rt, seen(rt, &mut b), 3);
+    drop(look);
+    for _ in 0..4 {
+        equal(rt, rolled(rt, &mut live, false), Done);
+    }
+    Ok(())
+}
+
+#[test]
+fn no_look_that_ended_holds_a_round_up(rt: HostRuntime) -> Result<(), OpenError> {
+    for order in 0..6 {
+        assert_none_lost(&rt, order)?;
     }
     Ok(())
 }

@@ -2,10 +2,10 @@
 arguments may name more files. What the module does in another way is passed over here, and test_augtrie.py has it. The last line is 'ok: N rows, M passed over'."""
 
 import bisect
+import concurrent.futures
 import glob
 import itertools
 import os
-import queue
 import re
 import sys
 import threading
@@ -68,33 +68,17 @@ class User:
 
     def __init__(self, trie):
         self.trie, self.now = trie, None
-        self.calls, self.told = queue.SimpleQueue(), queue.SimpleQueue()
-        self.thread = threading.Thread(target=self.work, daemon=True)
-        self.thread.start()
-
-    def work(self):
-        for call in iter(self.calls.get, None):
-            try:
-                self.told.put((call(), None))
-            except BaseException as fault:
-                self.told.put((None, fault))
-            del call
+        self.thread = concurrent.futures.ThreadPoolExecutor(1)
+        self.ident = self.thread.submit(threading.get_ident).result()
 
     def do(self, call):
-        if self.is_this_thread():
-            return call()
-        self.calls.put(call)
-        answer, fault = self.told.get()
-        if fault:
-            raise fault
-        return answer
+        return call() if self.is_this_thread() else self.thread.submit(call).result()
 
     def is_this_thread(self):
-        return self.thread is threading.current_thread()
+        return threading.get_ident() == self.ident
 
     def close(self):
-        self.calls.put(None)
-        self.thread.join()
+        self.thread.shutdown()
 
 
 def code_of(fault):
@@ -107,9 +91,11 @@ def code_of(fault):
 
 
 def update(user, call, args):
-    trie = user.trie
-    if call == "insert":
-        return int(trie.add(*args)), ()
+    trie, keys = user.trie, [it[0] for it in args[0]] if call.endswith("_all") else ()
+    counts = {"insert": lambda: int(trie.add(*args)), "insert_all": lambda: trie.update(keys), "remove_all": lambda: trie.difference_update(keys),
+              "put_all": lambda: trie.put_all(keys, [it[-1] for it in args[0]]), "room": trie.room}
+    if call in counts:
+        return counts[call](), ()
     if call == "remove":
         before = trie.pop(args[0], None)
         return int(before is not None), (NONE if before is None else before, NONE)
@@ -127,14 +113,6 @@ def update(user, call, args):
             return 1, trie.popitem(0 if call == "pop_first" else -1)
         except KeyError:
             return NONE, ()
-    if call == "insert_all":
-        return trie.update(it[0] for it in args[0]), ()
-    if call == "remove_all":
-        return trie.difference_update(it[0] for it in args[0]), ()
-    if call == "put_all":
-        return trie.put_all([it[0] for it in args[0]], [it[-1] for it in args[0]]), ()
-    if call == "room":
-        return trie.room(), ()
     if call == "look":
         user.now = trie.snapshot()
         return 0, ()
@@ -156,10 +134,7 @@ def at(now, index):
 def query(now, call, args):
     one = {"has": lambda key: key in now, "weight": now.weight, "rank": now.bisect_left, "select_by_weight": now.select_by_weight, "before": now.before,
            "after": now.after, "size": lambda: len(now), "first": lambda: at(now, 0), "last": lambda: at(now, -1), "select": lambda index: at(now, index),
-           "look_again": lambda: not now.renew(), "look_done": now.close}
-    if call == "look_done":
-        now.close()
-        return 0, ()
+           "look_again": lambda: not now.renew(), "look_done": lambda: now.close() or 0, "shows": lambda items: shows(now, weighing(items)) or 0}
     if call in one:
         return number(one[call](*args))
     if call == "range":
@@ -175,9 +150,6 @@ def query(now, call, args):
     if call in walks:
         *_, from_, room = args
         return 0, [tuple(NONE if it is None else it for it in row) for row in itertools.islice(walks[call](from_), room)]
-    if call == "shows":
-        shows(now, weighing(args[0]))
-        return 0, ()
     raise AssertionError(f"there is no call '{call}'")
 
 

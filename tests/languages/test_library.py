@@ -55,7 +55,7 @@ ROWS = sorted(glob.glob(os.path.join(TOP, "tests", "rows", "*.rows")))
 LEAST_ROWS = {"c": 320000, "rust": 170000, "python": 90000}
 
 # The fewest tests that each part must have run in one folder, and the fewest answers that the benchmark compares of an engine and a workload.
-LEAST_PYTHON, LEAST_RUST, LEAST_ANSWERS = 40, 25, 2001
+LEAST_PYTHON, LEAST_RUST, LEAST_ANSWERS = 35, 25, 2001
 
 # The engines of the benchmark, and the types that their threads work with. The last one needs a crate that may not be there.
 ENGINES = {

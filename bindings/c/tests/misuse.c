@@ -212,8 +212,6 @@ static void go_on_later(void) {
     WANT(so_far.made == SOME && so_far.changed == SOME, 1);
     WANT(aug_size(&looks), ROOM + 1);
     WANT(aug_size(&other), 1);
-    so_far.made = SOME + 1;
-    WANT(aug_try_remove_all(&user, keys, SOME, &so_far), AUG_BAD_LENGTH);
     WANT(aug_close(&trie, NULL), AUG_OK);
     WANT(aug_try_remove_all(&user, keys, 0, &(aug_progress){0, 0}), 0);
     WANT(aug_user_close(&looks), AUG_OK);

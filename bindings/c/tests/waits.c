@@ -1,6 +1,6 @@
 /* What others do while a call waits for them: the calls by which the library waits are those of this program, in which the others have their turn. An
    update that old looks hold up tells what it finds when it is made, an array that they hold up in its middle goes on from there, the end of a look
-   leaves time to whoever waits, a trie is closed at once, whatever looks are open, and a thread that is cancelled while its call waits ends after it. */
+   leaves time to whoever waits, and a thread that is cancelled while its call waits ends after it. */
 #define _POSIX_C_SOURCE 200809L
 #include "augtrie.h"
 #include "want.h"
@@ -148,27 +148,6 @@ static void arrays_go_on(void) {
     WANT(report.size == KEYS && report.inserts == 2 * KEYS + 1 && report.removals == KEYS + 1, 1);
 }
 
-static void nobody(void) {
-}
-
-/* No call waits, and the look shows what it showed until its user goes, which is the last to have the trie. */
-static void trie_is_closed(void) {
-    WANT(aug_open(&trie, BITS, 1, BYTES), AUG_OK);
-    WANT(aug_user_open(&trie, &looks), AUG_OK);
-    WANT(aug_insert(&looks, 7), 1);
-    WANT(aug_look(&looks), AUG_OK);
-    others = nobody;
-    WANT(aug_close(&trie, NULL), AUG_OK);
-    WANT(aug_close(&trie, NULL), AUG_CLOSED);
-    WANT(aug_insert(&looks, 8), AUG_CLOSED);
-    WANT(aug_look_again(&looks), AUG_CLOSED);
-    WANT(aug_look(&looks), AUG_LOOKING);
-    WANT(aug_first(&looks), 7);
-    WANT(aug_size(&looks), 1);
-    WANT(aug_user_close(&looks), AUG_OK);
-    WANT(others == nobody, 1);
-}
-
 /* So long does this take that a call which waits then sleeps, and meanwhile the look ends. */
 static void yield_long(void) {
     struct timespec begin, now;
@@ -240,7 +219,6 @@ int main(void) {
     who_waits();
     updates_tell();
     arrays_go_on();
-    trie_is_closed();
     is_cancelled_after_its_call();
     printf("ok: %u answers\n", wanted);
     return 0;

@@ -29,15 +29,21 @@ fn small(bits: u32, users: u32) -> Trie {
     (0..25).find_map(|power| Trie::new(bits, users, 1 << power).ok()).expect("so many bytes are plenty")
 }
 
-/// What an iterator lists, taken from either end at will. It counts down what is left, and stays at its end.
+/// What an iterator lists, taken from either end at will. It counts down what is left, stays at its end, and goes on from where it was cloned.
 fn from_both_ends(mut iter: augtrie::Iter, drawn: &mut Drawn) -> Vec<(u32, u32)> {
-    let (mut front, mut back) = (Vec::new(), Vec::new());
+    let (mut front, mut back, mut cloned) = (Vec::new(), Vec::new(), None);
+    let (cloned_at, kind) = (drawn.below(iter.len() as u32 + 1) as usize, drawn.below(3));
     for left in (0..=iter.len()).rev() {
         assert_eq!(iter.len(), left);
-        if drawn.below(2) == 0 { front.extend(iter.next()) } else { back.extend(iter.next_back()) }
+        if left == cloned_at {
+            cloned = Some((iter.clone(), front.len()));
+        }
+        if kind == 0 || (kind == 1 && drawn.below(2) == 0) { front.extend(iter.next()) } else { back.extend(iter.next_back()) }
     }
     assert_eq!((iter.next(), iter.next_back(), iter.len()), (None, None, 0));
     front.extend(back.into_iter().rev());
+    let (iter, at) = cloned.expect("it comes to each count");
+    assert!(iter.clone().eq(front[at..][..cloned_at].iter().copied()) && iter.rev().eq(front[at..][..cloned_at].iter().rev().copied()));
     front
 }
 
@@ -113,28 +119,6 @@ fn slices_are_of_any_length_but_of_the_same() -> Result<(), Error> {
     Ok(())
 }
 
-#[test]
-fn both_ends_of_a_list_meet() -> Result<(), Error> {
-    for (first, step, count) in [(0, 1, 0), (0, 1, 1), (65_535, 1, 1), (0, 1, 100), (65_436, 1, 100), (15, 1024, 64), (7, 655, 101)] {
-        let trie = Trie::new(16, 1, PLENTY)?;
-        let mut user = trie.user()?;
-        let members: Vec<(u32, u32)> = (0..count).map(|i| (first + i * step, i)).collect();
-        for (key, weight) in &members {
-            assert_eq!(user.put(*key, *weight), Ok(Put::Accepted));
-        }
-        let look = user.look()?;
-        assert!(look.iter().eq(members.iter().copied()) && look.iter().rev().eq(members.iter().rev().copied()));
-        for at_front in 0..members.len() {
-            let mut iter = look.keys(first..);
-            assert!(iter.by_ref().take(at_front).eq(members[..at_front].iter().copied()));
-            assert!(iter.clone().eq(members[at_front..].iter().copied()));
-            assert!(iter.by_ref().rev().eq(members[at_front..].iter().rev().copied()));
-            assert_eq!((iter.next(), iter.next_back(), iter.len()), (None, None, 0));
-        }
-    }
-    Ok(())
-}
-
 /// Runs threads with a user each.
 fn each(trie: &Trie, threads: u32, run: impl Fn(u32, User) + Sync) {
     thread::scope(|scope| {
@@ -199,20 +183,7 @@ fn users_come_and_go_in_six_threads_until_the_trie_is_closed() -> Result<(), Err
 }
 
 #[test]
-fn a_look_outlives_the_last_trie() -> Result<(), Error> {
-    let trie = Trie::new(4, 1, PLENTY)?;
-    let mut user = trie.user()?;
-    assert_eq!(user.insert(3), Ok(true));
-    let look = user.look()?;
-    drop(trie);
-    assert_eq!(look.get(3), Some(3));
-    drop(look);
-    assert_eq!(user.insert(4), Ok(true));
-    Ok(())
-}
-
-#[test]
-fn a_look_outlives_the_close_of_its_trie_which_waits_for_none() -> Result<(), Error> {
+fn a_look_outlives_its_trie_which_waits_for_none() -> Result<(), Error> {
     let trie = Trie::new(4, 2, PLENTY)?;
     let (mut user, other) = (trie.user()?, trie.user()?);
     assert_eq!((user.insert(3), trie.clone().bits()), (Ok(true), 4));
@@ -230,6 +201,14 @@ fn a_look_outlives_the_close_of_its_trie_which_waits_for_none() -> Result<(), Er
     }
     drop(look);
     assert_eq!(user.look().err(), Some(Error::Closed));
+    // And the last trie that nobody closed.
+    let trie = Trie::new(4, 1, PLENTY)?;
+    let mut user = trie.user()?;
+    let mut look = user.look()?;
+    drop(trie);
+    assert_eq!((look.insert(3), look.len()), (Ok(true), 0));
+    drop(look);
+    assert_eq!(user.look()?.get(3), Some(3));
     Ok(())
 }
 

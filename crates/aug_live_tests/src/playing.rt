@@ -117,6 +117,25 @@ pub(crate) fn done<R: Waits>(
     }
 }
 
+// What a user does comes to this, in a line of this number behind this name; and so does each of several acts.
+fn assert_done<R: Waits>(
+    rt: &R,
+    live: &mut Option<LiveOf>,
+    user: &mut User,
+    waits: bool,
+    (shows, number): (&str, usize),
+    (act, expected): (Act, Reply),
+) {
+    let Act::Each(acts) = act else {
+        let reply = done(rt, live, user, waits, act);
+        return equal(rt, (shows, number, reply), (shows, number, expected));
+    };
+    for act in acts {
+        let reply = done(rt, live, user, waits, *act);
+        equal(rt, (shows, number, reply), (shows, number, expected));
+    }
+}
+
 /// Plays a table, over a trie that was opened or none, by calls that wait or by those that wait for nobody, but for lines that say how. Of the handles the last two
 /// have users.
 pub(crate) fn plays<R: Waits>(
@@ -128,32 +147,20 @@ pub(crate) fn plays<R: Waits>(
 ) -> Result<(), OpenError> {
     let (mut shows, mut live, mut hands) = ("", live, hands);
     let (mut a, mut b) = (user_of(hands.pop()), user_of(hands.pop()));
-    for (number, line) in table.iter().enumerate() {
-        let (user, waits, it) = match *line {
-            Line::A(act, expected) => (&mut a, waits, (act, expected)),
-            Line::B(act, expected) => (&mut b, waits, (act, expected)),
-            Line::TryA(act, expected) => (&mut a, false, (act, expected)),
-            Line::TryB(act, expected) => (&mut b, false, (act, expected)),
-            Line::Row(name) => {
-                shows = name;
-                continue;
-            }
+    for number in 0..table.len() {
+        let at = (shows, number);
+        match table[number] {
+            Line::A(act, is) => assert_done(rt, &mut live, &mut a, waits, at, (act, is)),
+            Line::B(act, is) => assert_done(rt, &mut live, &mut b, waits, at, (act, is)),
+            Line::TryA(act, is) => assert_done(rt, &mut live, &mut a, false, at, (act, is)),
+            Line::TryB(act, is) => assert_done(rt, &mut live, &mut b, false, at, (act, is)),
+            Line::Row(name) => shows = name,
             Line::Live(bits, handles, spare, updates) => {
                 let lanes = (handles, handles.saturating_add(spare));
                 let (next, mut hands) = opened(rt.alloc(), bits, lanes, (updates, 2))?;
                 live = Some(next);
                 (a, b) = (user_of(hands.pop()), user_of(hands.pop()));
-                continue;
             }
-        };
-        let one = [it.0];
-        for act in if let Act::Each(acts) = it.0 {
-            acts
-        } else {
-            &one
-        } {
-            let reply = done(rt, &mut live, user, waits, *act);
-            equal(rt, (shows, number, reply), (shows, number, it.1));
         }
     }
     Ok(())

@@ -52,6 +52,42 @@ fn refused(rt: &impl Host, ended: Trie, round: (Way, Numbers, BeginError), shows
     }
 }
 
+// What the line of this number comes to over the trie before it. Lines of a pass were played with their round.
+fn played(
+    rt: &impl Host,
+    ended: Option<Trie>,
+    shows: &str,
+    table: &[Line],
+    number: usize,
+) -> Result<Option<Trie>, BeginError> {
+    let Some(line) = table.get(number) else {
+        return Ok(ended);
+    };
+    match *line {
+        Line::Row(_) => Ok(None),
+        Line::Round(way, numbers, open) => {
+            let trie = or_empty(rt, ended, numbers.0)?;
+            let stage = begun(rt, trie, way, numbers)?;
+            let lines = table.get(number.saturating_add(1)..).unwrap_or(&[]);
+            Ok(Some(steps(rt, stage, open, shows, lines)?))
+        }
+        Line::Refuses(way, numbers, cause) => {
+            let kept = or_empty(rt, ended, numbers.0)?;
+            Ok(Some(refused(rt, kept, (way, numbers, cause), shows)))
+        }
+        Line::A(_, _) | Line::B(_, _) | Line::C(_, _) => Ok(ended),
+        line => Ok(Some(rested(rt, ended.expect(rt, "a trie"), shows, line)?)),
+    }
+}
+
+// The name of the row that a line begins, or the one before.
+fn name_of(line: &Line, before: &'static str) -> &'static str {
+    match *line {
+        Line::Row(name) => name,
+        _ => before,
+    }
+}
+
 // The rows of a table, of which the first may go on over a trie: the trie after them, if there was a round.
 pub(super) fn rows_over(
     rt: &impl Host,
@@ -59,25 +95,9 @@ pub(super) fn rows_over(
     table: &[Line],
 ) -> Result<Option<Trie>, BeginError> {
     let (mut ended, mut shows) = (ended, "");
-    for (number, line) in table.iter().enumerate() {
-        match *line {
-            Line::Row(name) => {
-                ended = None;
-                shows = name;
-            }
-            Line::Round(way, numbers, open) => {
-                let stage = begun(rt, or_empty(rt, ended, numbers.0)?, way, numbers)?;
-                let lines = table.get(number.saturating_add(1)..).unwrap_or(&[]);
-                ended = Some(steps(rt, stage, open, shows, lines)?);
-            }
-            Line::Refuses(way, numbers, cause) => {
-                let kept = or_empty(rt, ended, numbers.0)?;
-                ended = Some(refused(rt, kept, (way, numbers, cause), shows));
-            }
-            // These were played with their round.
-            Line::A(_, _) | Line::B(_, _) | Line::C(_, _) => {}
-            line => ended = Some(rested(rt, ended.expect(rt, "a trie"), shows, line)?),
-        }
+    for number in 0..table.len() {
+        shows = name_of(&table[number], shows);
+        ended = played(rt, ended, shows, table, number)?;
     }
     Ok(ended)
 }

@@ -35,7 +35,7 @@ module _ (earlier : SetFacts) (first : LookFacts) (from : ℕ) (before : List We
 
   -- a page of those that are left
   module _ (listed next most : ℕ) (now after : LookFacts) (out : List WeightChange) (items : List Difference) (w : SinceWritten listed now out) (rest : changes_from earlier (set_of_look first) next ≡ drop listed (changes_from earlier (set_of_look first) from))
-    (is : items ≡ take 32 (changes_from earlier (set_of_look now) next)) where
+      (is : items ≡ take 32 (changes_from earlier (set_of_look now) next)) where
     page_is : items ≡ take 32 (drop listed all_since)
     page_is = is ∙ ap (λ (s : SetFacts). take 32 (changes_from earlier s next)) w.asked.same_set ∙ ap (take 32) rest
 

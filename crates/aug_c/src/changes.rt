@@ -109,12 +109,7 @@ fn is_rising(keys: &[u32]) -> bool
 }
 
 // Writes the first changes since a list, a page after the other, as many as there are places for, and tells how many these are.
-fn list_since(
-    look: &mut SummedLook,
-    list: &Arrays,
-    from: u32,
-    out: &mut [WeightChange],
-) -> i64
+fn list_since(look: &mut SummedLook, list: &Arrays, from: u32, out: &mut [WeightChange]) -> i64
     ensures { ListsPage (changes_since list.now.keys.now list.now.weights.now look.old from) out.old out.new look.old look.new result }
 {
     let mut next = from;

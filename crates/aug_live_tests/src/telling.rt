@@ -79,31 +79,46 @@ fn differs(look: &mut LookOf) -> (u32, usize)
     (size, look.changes(0).len())
 }
 
-// A look takes a newer snapshot behind an insertion of the other handle, and one behind a roll-over, and none once its handle was replaced, which learns no note
-// then either. It answers on.
+// A look takes a newer snapshot with its own handle.
+fn again<R: Wait>(rt: &R, look: &mut LookOf, hand: &mut HandleOf) -> Result<bool, LiveError>
+    requires { IsLookOf hand.old look.old }
+    ensures { IsLookOf hand.new look.new }
+{
+    look.again(rt, hand)
+}
+
+// A look takes a newer snapshot behind an insertion of the other handle, and one behind a roll-over, and none once its handle was replaced. It answers on.
 #[test]
 fn a_look_takes_newer_snapshots_with_its_handle(rt: HostRuntime) -> Result<(), OpenError> {
     let (mut live, mut other, mut hand) = two(&rt, 6)?;
     let mut look = look_of(&rt, &mut hand);
     insert(&rt, &mut other, 2);
     equal(&rt, differs(&mut look), (0, 0));
-    equal(&rt, look.again(&rt, &mut hand), Ok(true));
+    equal(&rt, again(&rt, &mut look, &mut hand), Ok(true));
     equal(&rt, differs(&mut look), (1, 1));
     insert(&rt, &mut other, 3);
     equal(&rt, rolled(&rt, &mut live, true), Done);
     equal(&rt, differs(&mut look), (1, 1));
-    equal(&rt, look.again(&rt, &mut hand), Ok(false));
+    equal(&rt, again(&rt, &mut look, &mut hand), Ok(false));
     equal(&rt, differs(&mut look), (2, 0));
     insert(&rt, &mut other, 5);
     drop(renewed(&rt, &mut live, true, 1));
-    let refused = look.again(&rt, &mut hand);
+    let refused = again(&rt, &mut look, &mut hand);
     equal(&rt, refused, Err(LiveError::Replaced));
     let refused = look.try_again(&mut hand);
     equal(&rt, refused, Err(TryError::Refused(LiveError::Replaced)));
-    if let Ok(note) = other.note(&rt) {
-        holds(&rt, hand.learn(&rt, note).is_err());
-    }
     equal(&rt, differs(&mut look), (2, 0));
+    Ok(())
+}
+
+#[test]
+fn a_handle_that_was_replaced_learns_no_note(rt: HostRuntime) -> Result<(), OpenError> {
+    let (mut live, mut other, mut hand) = two(&rt, 6)?;
+    drop(renewed(&rt, &mut live, true, 1));
+    let Ok(note) = other.note(&rt) else {
+        panic!(rt; "no note");
+    };
+    holds(&rt, hand.learn(&rt, note).is_err());
     Ok(())
 }
 

@@ -12,7 +12,7 @@ use Rattle.aug_c.specs.ChangeCalls.{ListsPage, change_of}
 use Rattle.aug_c.specs.UserCalls.{span_of}
 use Rattle.aug_c.specs.declared.changes.WeightChange.{WeightChange}
 use Rattle.aug_c.proofs.Listing.{Wrote, as_many, parts_are, wrote_all, wrote_more, wrote_none}
-use Rattle.aug_c.proofs.Reading.{asked_none, asked_on}
+use Rattle.aug_c.proofs.Reading.{asked_on}
 
 -- a whole page is written from the first place on
 pub page_lists : (page before out : List WeightChange) (n : ℕ) → n ≡ length page → out ≡ take 0 before ++ (take (length before - 0) page ++ drop (0 + n) before) → ListsMembers page before out (min (length before) (length page))
@@ -29,9 +29,6 @@ module _ (earlier : SetFacts) (first : LookFacts) (from : ℕ) (before : List We
     pub wrote : Wrote (map change_of (changes_from earlier (set_of_look first) from)) before out listed
     pub most : ℕ
     pub asked : IsAsked span_of most first now
-
-  pub none_since : SinceWritten 0 first before
-  none_since = record { few = omega arith; wrote = wrote_none _ before; most = 0; asked = asked_none span_of first }
 
   -- a page of those that are left
   module _ (listed next most : ℕ) (now after : LookFacts) (out : List WeightChange) (items : List Difference) (w : SinceWritten listed now out) (rest : changes_from earlier (set_of_look first) next ≡ drop listed (changes_from earlier (set_of_look first) from))

@@ -186,13 +186,6 @@ module _ (slot : Option TableFacts) (table : TableFacts) (reader new : Option Pa
   pub holds_other : HoldsLook slot table new held' held' era'
   holds_other = record { slot_is = h.slot_is; shown = shown; showed = shown.shows }
 
-  pub looks_other : era' ≢ era → LooksAgain false looked (record { lane = lane; reader = half_in new; snapshot = held'; before = held' }) a b
-  looks_other other = record {
-    shows = shows_it held';
-    same_round = λ t. absurd (false≢true t);
-    other_round = λ _. ((λ same. let dated = s.shown.dated in let was_dated = h.shown.dated in let here = ap (λ (z : PassFacts). z.round.era) was in other (omega (arith, dated, was_dated, here, same, is_era))), refl);
-  }
-
   module _ (same : era' ≡ era) where
     of_round : mine.round.era ≡ b.half.round.era
     of_round = let dated = s.shown.dated in let was_dated = h.shown.dated in omega (arith, dated, was_dated, same)

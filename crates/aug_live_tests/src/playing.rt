@@ -136,6 +136,39 @@ fn assert_done<R: Waits>(
     }
 }
 
+// What a line comes to, over a trie and its two users.
+fn played<R: Waits>(
+    rt: &R,
+    live: &mut Option<LiveOf>,
+    users: &mut (User, User),
+    waits: bool,
+    at: (&str, usize),
+    line: &Line,
+) -> Result<(), OpenError> {
+    match *line {
+        Line::A(act, is) => assert_done(rt, live, &mut users.0, waits, at, (act, is)),
+        Line::B(act, is) => assert_done(rt, live, &mut users.1, waits, at, (act, is)),
+        Line::TryA(act, is) => assert_done(rt, live, &mut users.0, false, at, (act, is)),
+        Line::TryB(act, is) => assert_done(rt, live, &mut users.1, false, at, (act, is)),
+        Line::Row(_) => {}
+        Line::Live(bits, handles, spare, updates) => {
+            let lanes = (handles, handles.saturating_add(spare));
+            let (next, mut hands) = opened(rt.alloc(), bits, lanes, (updates, 2))?;
+            *live = Some(next);
+            *users = (user_of(hands.pop()), user_of(hands.pop()));
+        }
+    }
+    Ok(())
+}
+
+// The name of the row that a line begins, or the one before.
+fn name_of(line: &Line, before: &'static str) -> &'static str {
+    match *line {
+        Line::Row(name) => name,
+        _ => before,
+    }
+}
+
 /// Plays a table, over a trie that was opened or none, by calls that wait or by those that wait for nobody, but for lines that say how. Of the handles the last two
 /// have users.
 pub(crate) fn plays<R: Waits>(
@@ -146,22 +179,11 @@ pub(crate) fn plays<R: Waits>(
     table: &[Line],
 ) -> Result<(), OpenError> {
     let (mut shows, mut live, mut hands) = ("", live, hands);
-    let (mut a, mut b) = (user_of(hands.pop()), user_of(hands.pop()));
+    let mut users = (user_of(hands.pop()), user_of(hands.pop()));
     for number in 0..table.len() {
-        let at = (shows, number);
-        match table[number] {
-            Line::A(act, is) => assert_done(rt, &mut live, &mut a, waits, at, (act, is)),
-            Line::B(act, is) => assert_done(rt, &mut live, &mut b, waits, at, (act, is)),
-            Line::TryA(act, is) => assert_done(rt, &mut live, &mut a, false, at, (act, is)),
-            Line::TryB(act, is) => assert_done(rt, &mut live, &mut b, false, at, (act, is)),
-            Line::Row(name) => shows = name,
-            Line::Live(bits, handles, spare, updates) => {
-                let lanes = (handles, handles.saturating_add(spare));
-                let (next, mut hands) = opened(rt.alloc(), bits, lanes, (updates, 2))?;
-                live = Some(next);
-                (a, b) = (user_of(hands.pop()), user_of(hands.pop()));
-            }
-        }
+        let line = &table[number];
+        shows = name_of(line, shows);
+        played(rt, &mut live, &mut users, waits, (shows, number), line)?;
     }
     Ok(())
 }

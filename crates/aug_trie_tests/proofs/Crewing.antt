@@ -1,7 +1,7 @@
 -- What crews keep from step to step, for the answers of the tests that look at them.
 use Rattle.std.proofs.Common.{◌≡◌, ◌∙◌, ◌+◌, ℕ, Result, Ok, ap, sym, subst, arith}
 use Rattle.std.specs.Prelude.{IfOk}
-use Rattle.aug_trie.specs.Crew.{CrewFacts, HandsOut, TakesBack}
+use Rattle.aug_trie.specs.Crew.{CrewFacts, HandsOut}
 use Rattle.aug_trie.specs.Pass.{PassFacts}
 
 -- the crew is of the same round, and handed out and took back so many passes more
@@ -52,7 +52,3 @@ one_out was now since none = omega (arith, since.out_is, since.home_is, none)
 pub half_of : (half first pass : PassFacts) (was now : CrewFacts) → half ≡ first → first.round ≡ pass.round → pass.round ≡ was.round
     → now.round ≡ was.round → half.round ≡ now.round
 half_of half first pass was now is one of same = ap (λ (z : PassFacts). z.round) is ∙ one ∙ of ∙ sym same
-
--- the one that was out is back
-pub home_again : {entry : PassFacts} (old new : CrewFacts) → TakesBack old new entry → old.back + 1 ≡ old.handed → new.back ≡ new.handed
-home_again old new takes one = ap (λ (z : CrewFacts). z.back) takes.crew_is ∙ one ∙ sym (ap (λ (z : CrewFacts). z.handed) takes.crew_is)

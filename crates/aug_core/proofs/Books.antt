@@ -5,9 +5,9 @@ use Rattle.std.proofs.lemmas.List.{append-nil}
 use mathlib.Core.Option.{some, some-injective, some-ne-none}
 use lib.ListN.{get_elem?}
 use Rattle.atomic_table.proofs.Lists.{at_last}
-use Rattle.aug_core.specs.Places.{Shape, opening_count, record_count}
+use Rattle.aug_core.specs.Places.{Shape, record_count}
 use Rattle.aug_core.specs.Addresses.{place_count, IsInner, left_of, right_of}
-use Rattle.aug_core.specs.Book.{Book, history_of, At, IsNewest, ArePrefixes, GoesOnFromBoth, StandsOver, IsSerial, IsBook, IsFresh}
+use Rattle.aug_core.specs.Book.{Book, history_of, At, IsNewest, ArePrefixes, GoesOnFromBoth, StandsOver, IsSerial, IsBook, NamesOnce, IsFresh}
 use Rattle.aug_core.specs.declared.view.Entry.{Entry}
 use Rattle.aug_core.proofs.PrefixLemmas.{either_prefix, prefix_long, entry_stays}
 
@@ -62,20 +62,19 @@ pub second_covers : (face : ℕ → ℕ → List (ℕ × ℕ) → List ℕ) (s :
 second_covers face s book seen b h q i e f inner past p p' = let a = h.covers q i e inner past p in let c = b.floored q i e f inner p p' in let a0 = a.left in let a1 = a.right in let c0 = c.0 in let c1 = c.1 in
     record { left = omega arith; right = omega arith }
 
--- an entry of a book has one number, and a number one place
+-- an index of a history has one entry
 pub one_entry : (book : Book) (q i : ℕ) (e f : Entry) → At book q i e → At book q i f → e ≡ f
 one_entry book q i e f p p' = some-injective e f (sym p ∙ p')
 
--- within one history a record's number stands once: an opening record's at the first entry, a lane's once in the whole book
-pub one_index : (face : ℕ → ℕ → List (ℕ × ℕ) → List ℕ) (s : Shape) (book : Book) → IsBook face s book → (q i j : ℕ) (e f : Entry) → IsInner s q → At book q i e → At book q j f → e.number ≡ f.number → i ≡ j
-one_index face s book b q i j e f inner p p' same = ⊎_elim
-    (λ (low : e.number < opening_count s). b.opens q i e inner p low ∙ sym (b.opens q j f inner p' (subst (λ (z : ℕ). z < opening_count s) same low)))
-    (λ (own : opening_count s ≤ e.number). (b.distinct q q i j e f inner inner p p' own same).1) (cases_lt e.number (opening_count s))
-
-pub same_index : (face : ℕ → ℕ → List (ℕ × ℕ) → List ℕ) (s : Shape) (book : Book) → IsBook face s book → (q i j : ℕ) (e f : Entry) → q < place_count s → At book q i e → At book q j f → e.number ≡ f.number → i ≡ j
-same_index face s book b q i j e f inside p p' same = ⊎_elim
+-- so is an entry of a leaf or an inner node by its number
+pub same_index : (face : ℕ → ℕ → List (ℕ × ℕ) → List ℕ) (s : Shape) (book : Book) → IsBook face s book → NamesOnce s book → (q i j : ℕ) (e f : Entry) → q < place_count s → At book q i e → At book q j f → e.number ≡ f.number → i ≡ j
+same_index face s book b named q i j e f inside p p' same = ⊎_elim
     (λ (leaf : q < 2 ^ s.bits). let x = (b.serials q i e leaf p).counted in let y = (b.serials q j f leaf p').counted in omega arith)
-    (λ (past : 2 ^ s.bits ≤ q). one_index face s book b q i j e f record { past_leaves = past; inside = inside } p p' same) (cases_lt q (2 ^ s.bits))
+    (λ (past : 2 ^ s.bits ≤ q). named.once q i j e f record { past_leaves = past; inside = inside } p p' same) (cases_lt q (2 ^ s.bits))
+
+-- what is named once in a later book is named once in an earlier one
+pub named_before : (s : Shape) (seen book : Book) → ArePrefixes seen book → NamesOnce s book → NamesOnce s seen
+named_before s seen book later named = record { once = λ q i j e f inner p p' same. named.once q i j e f inner (entry_stays later q i e p) (entry_stays later q j f p') same }
 
 -- no older than the newest
 pub newest_is_last : (book : Book) (q i j : ℕ) (e f : Entry) → IsNewest book q i e → At book q j f → j ≤ i
@@ -137,16 +136,12 @@ module _ (book : Book) (q : ℕ) (in_book : q < length book) (e : Entry) where
 
     -- an inner node has a new entry
     module _ (inner : IsInner s q) (i0 : ℕ) (top : Entry) (newest : IsNewest book q i0 top) where
-      pub grows : e.word ≡ e.number → e.number < record_count s → opening_count s ≤ e.number → ((p i : ℕ) (f : Entry) → IsInner s p → At book p i f → f.number ≢ e.number) → StandsOver face s book q e → top.left ≤ e.left → top.right ≤ e.right
+      pub grows : e.word ≡ e.number → e.number < record_count s → StandsOver face s book q e → top.left ≤ e.left → top.right ≤ e.right
           → top.left_floor ≤ e.left → top.right_floor ≤ e.right → Floors book q e → IsBook face s grow
-      grows named under past_opening fresh over up up' kn kn' fl = record {
+      grows named under over up up' kn kn' fl = record {
         long = length-set book q (history_of book q ++ e ∷ []) ∙ b.long;
         named = λ p i x low at. ⊎_elim (λ t. b.named p i x low t) (λ t. subst (λ (z : Entry). z.word ≡ z.number) t.2 named) (at_grown p i x at);
         below = λ p i x low at. ⊎_elim (λ t. b.below p i x low t) (λ t. subst (λ (z : Entry). z.number < record_count s) t.2 under) (at_grown p i x at);
-        opens = λ p i x low at few. ⊎_elim (λ t. b.opens p i x low t few) (λ t. let is : e.number ≡ x.number = ap (λ (z : Entry). z.number) t.2 in absurd (omega arith)) (at_grown p i x at);
-        distinct = λ p o i j x y low low' at at' own same. ⊎_elim
-            (λ t. ⊎_elim (λ t'. b.distinct p o i j x y low low' t t' own same) (λ t'. absurd (fresh p i x low t (same ∙ ap (λ (z : Entry). z.number) (sym t'.2)))) (at_grown o j y at'))
-            (λ t. ⊎_elim (λ t'. absurd (fresh o j y low' t' (sym same ∙ ap (λ (z : Entry). z.number) (sym t.2)))) (λ t'. (t.0 ∙ sym t'.0, t.1 ∙ sym t'.1)) (at_grown o j y at')) (at_grown p i x at);
         over = λ p i x low at. stands_over p x (⊎_elim (λ t. b.over p i x low t) (λ t. subst (λ (z : ℕ × Entry). StandsOver face s book z.0 z.1) (λ k. (sym t.0 k, t.2 k)) over) (at_grown p i x at));
         rises = λ p i j x y low at at' le. ⊎_elim
             (λ t. ⊎_elim (λ t'. b.rises p i j x y low t t' le)
@@ -179,8 +174,6 @@ module _ (book : Book) (q : ℕ) (in_book : q < length book) (e : Entry) where
         long = length-set book q (history_of book q ++ e ∷ []) ∙ b.long;
         named = λ p i x low at. b.named p i x low (old_inner p i x low at);
         below = λ p i x low at. b.below p i x low (old_inner p i x low at);
-        opens = λ p i x low at few. b.opens p i x low (old_inner p i x low at) few;
-        distinct = λ p o i j x y low low' at at' own same. b.distinct p o i j x y low low' (old_inner p i x low at) (old_inner o j y low' at') own same;
         over = λ p i x low at. stands_over p x (b.over p i x low (old_inner p i x low at));
         rises = λ p i j x y low at at' le. b.rises p i j x y low (old_inner p i x low at) (old_inner p j y low at') le;
         floors = λ p i x low at. floors_on p x (b.floors p i x low (old_inner p i x low at));

@@ -127,7 +127,7 @@ module _ (face : ℕ → ℕ → List (ℕ × ℕ) → List ℕ) (shape : Shape)
     finds_now here q i k e inner seen small =
         let at' : At w.kept.book q i e = entry_stays (w.kept.each_view id v stands_now).saw q i e seen in
         let few = w.kept.tree.is_book.below q i e inner at' in let inside : record_start shape e.number + k < word_count shape = omega arith in
-        (inside, ap (λ (z : ℕ). get_or s.words (z + (record_start shape e.number + k)) 0) here ∙ sym (part_get w.base (word_count shape) (record_start shape e.number + k) s.words inside) ∙ w.kept.tree.written q i k e inner at' small)
+        (inside, ap (λ (z : ℕ). get_or s.words (z + (record_start shape e.number + k)) 0) here ∙ sym (part_get w.base (word_count shape) (record_start shape e.number + k) s.words inside) ∙ w.kept.tree.written q i e inner at' k small)
 
     -- after a step which leaves its era the views of the era are those that were, with its new one
     module _ (u : SeatView) (era : u.era ≡ v.era) where

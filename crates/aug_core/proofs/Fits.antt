@@ -1,9 +1,9 @@
 -- No serial is past the updates of all workers, and what a step that shows the whole book tells.
-use Rattle.std.proofs.Common.{Option, ◌≡◌, ℕ, suc, ◌*◌, ◌<◌, ◌≤◌, Bool, true, false, if◌then◌else◌, List, [], ◌∷◌, length, get_or, All, sym, subst, arith, suc-mul, ap}
+use Rattle.std.proofs.Common.{Option, ◌≡◌, ℕ, suc, ◌*◌, ◌<◌, ◌≤◌, Bool, true, false, if◌then◌else◌, List, [], ◌∷◌, length, get_or, All, sym, subst, ⊎_elim, ◌∙◌, arith, suc-mul, ap}
 use Rattle.std.specs.List.{sum_by}
 use Rattle.std.proofs.lemmas.List.Sums.{sum_by-cons}
 use Rattle.aug_core.specs.Places.{Shape}
-use Rattle.aug_core.specs.Book.{Book, ArePrefixes, IsFresh, SerialsFit, IsBook}
+use Rattle.aug_core.specs.Book.{Book, ArePrefixes, IsFresh, NamesOnce, SerialsFit, IsBook}
 use Rattle.aug_model.specs.Keys.{is_member, keys_of}
 use Rattle.aug_monoid.specs.Weighted.{FitsPair}
 use Rattle.aug_core.specs.Opening.{Opening}
@@ -11,6 +11,7 @@ use Rattle.aug_core.specs.Counts.{AreTallied}
 use Rattle.aug_model.specs.Keys.{IsKeySet}
 use Rattle.aug_core.specs.Layout.{IsLayout}
 use Rattle.aug_core.specs.Opening.{opening_book}
+use Rattle.aug_core.specs.Rule.{Fate, at_opening, standing, HaveFates}
 use Rattle.aug_core.specs.Effects.{KnowsTable, Sees, taking, handed_out}
 use Rattle.aug_core.specs.declared.step.StepTaken.{StepTaken}
 use Rattle.aug_core.specs.declared.view.Beginning.{Beginning}
@@ -32,13 +33,26 @@ fits_book o words book views tally t = let all = few_in_all tally (2 * o.shape.u
     let is : length tally * (2 * o.shape.updates) ≡ o.shape.workers * (2 * o.shape.updates) = ap (λ (z : ℕ). z * (2 * o.shape.updates)) t.long in
     record { few = λ key low. let e = t.enough key low in let one = at_most_one (is_member (keys_of o.members) key) in omega arith }
 
+-- where each record has one fate, a node names it once
+pub named_once : (s : Shape) (fate : ℕ → Fate) (book : Book) → HaveFates s fate book → NamesOnce s book
+named_once s fate book f = record {
+  once = λ q i j e g inner p p' same. let named : fate e.number ≡ fate g.number = ap fate same in ⊎_elim
+      (λ (x : fate e.number ≡ standing q i). ⊎_elim
+      (λ (y : fate g.number ≡ standing q j). let is : standing q i ≡ standing q j = sym x ∙ named ∙ y in cc is)
+      (λ y. let clash : standing q i ≡ at_opening = sym x ∙ named ∙ y.0 in cc) (f.entries q j g inner p'))
+      (λ x. ⊎_elim
+      (λ (y : fate g.number ≡ standing q j). let clash : at_opening ≡ standing q j = sym x.0 ∙ named ∙ y in cc)
+      (λ y. x.1 ∙ sym y.1) (f.entries q j g inner p')) (f.entries q i e inner p);
+}
+
 module _ (face : ℕ → ℕ → List (ℕ × ℕ) → List ℕ) where
-  pub sees_after : (v w : SeatView) (s : Shape) → v.shape ≡ s → ArePrefixes v.seen w.seen → ArePrefixes v.also w.seen → IsFresh s w.seen v.seen → IsBook face s w.seen → SerialsFit s w.seen → Sees face v w
-  sees_after v w s shaped later also fresh book fits = record {
+  pub sees_after : (v w : SeatView) (s : Shape) → v.shape ≡ s → ArePrefixes v.seen w.seen → ArePrefixes v.also w.seen → IsFresh s w.seen v.seen → IsBook face s w.seen → NamesOnce s w.seen → SerialsFit s w.seen → Sees face v w
+  sees_after v w s shaped later also fresh book named fits = record {
     later = later;
     also_later = also;
     fresh = subst (λ (z : Shape). IsFresh z w.seen v.seen) (sym shaped) fresh;
     book = subst (λ (z : Shape). IsBook face z w.seen) (sym shaped) book;
+    named = subst (λ (z : Shape). NamesOnce z w.seen) (sym shaped) named;
     fits = subst (λ (z : Shape). SerialsFit z w.seen) (sym shaped) fits;
   }
 
@@ -50,6 +64,7 @@ module _ (face : ℕ → ℕ → List (ℕ × ℕ) → List ℕ) where
     members_fit = subst (All FitsPair) (sym same) kn.members_fit;
     few_members = subst (λ (z : ℕ × List (ℕ × ℕ)). length z.1 ≤ z.0) (λ i. ((sym shaped i).members, sym same i)) kn.few_members;
     book = subst (λ (z : Shape). IsBook face z w.seen) (sym shaped) sees.book;
+    named = subst (λ (z : Shape). NamesOnce z w.seen) (sym shaped) sees.named;
     opened = subst (λ (z : Opening). ArePrefixes (opening_book face z) w.seen) (λ i. record { shape = sym shaped i; members = sym same i }) (book_trans kn.opened sees.later);
     fits = subst (λ (z : Shape). SerialsFit z w.seen) (sym shaped) sees.fits;
   }
@@ -57,16 +72,16 @@ module _ (face : ℕ → ℕ → List (ℕ × ℕ) → List ℕ) where
   -- and so it does after one that showed it nothing
   pub knows_same : (v : SeatView) (live : Bool) (also : Book) (held : List Held) (spare : Option ℕ) (began : Beginning) (steps : List StepTaken) → KnowsTable face v
       → KnowsTable face record v { live = live; also = also; held = held; spare = spare; began = began; steps = steps }
-  knows_same v live also held spare began steps kn = record { laid_out = kn.laid_out; key_set = kn.key_set; members_fit = kn.members_fit; few_members = kn.few_members; book = kn.book; opened = kn.opened; fits = kn.fits }
+  knows_same v live also held spare began steps kn = record { laid_out = kn.laid_out; key_set = kn.key_set; members_fit = kn.members_fit; few_members = kn.few_members; book = kn.book; named = kn.named; opened = kn.opened; fits = kn.fits }
 
   -- and for whomever it answers
   pub knows_lent : (v : SeatView) (lent : List ℕ) → KnowsTable face v → KnowsTable face record v { lent = lent }
-  knows_lent v lent kn = record { laid_out = kn.laid_out; key_set = kn.key_set; members_fit = kn.members_fit; few_members = kn.few_members; book = kn.book; opened = kn.opened; fits = kn.fits }
+  knows_lent v lent kn = record { laid_out = kn.laid_out; key_set = kn.key_set; members_fit = kn.members_fit; few_members = kn.few_members; book = kn.book; named = kn.named; opened = kn.opened; fits = kn.fits }
 
   -- and after it took something in
   pub knows_told : (v : SeatView) (also : Book) (told : Option Learnt) → KnowsTable face v → KnowsTable face record v { also = also; told = told }
-  knows_told v also told kn = record { laid_out = kn.laid_out; key_set = kn.key_set; members_fit = kn.members_fit; few_members = kn.few_members; book = kn.book; opened = kn.opened; fits = kn.fits }
+  knows_told v also told kn = record { laid_out = kn.laid_out; key_set = kn.key_set; members_fit = kn.members_fit; few_members = kn.few_members; book = kn.book; named = kn.named; opened = kn.opened; fits = kn.fits }
 
   -- a view that was just handed a lane, and took it, knows of its table what the other knows
   pub knows_taken : (v : SeatView) (place : ℕ) → KnowsTable face v → KnowsTable face (taking (handed_out v) place)
-  knows_taken v place kn = record { laid_out = kn.laid_out; key_set = kn.key_set; members_fit = kn.members_fit; few_members = kn.few_members; book = kn.book; opened = kn.opened; fits = kn.fits }
+  knows_taken v place kn = record { laid_out = kn.laid_out; key_set = kn.key_set; members_fit = kn.members_fit; few_members = kn.few_members; book = kn.book; named = kn.named; opened = kn.opened; fits = kn.fits }

@@ -6,7 +6,7 @@ use Rattle.atomic_table.specs.Table.{Joins}
 use Rattle.atomic_table.proofs.Lists.{at_set}
 use Rattle.aug_core.specs.Book.{Book, ArePrefixes}
 use Rattle.aug_core.specs.Opening.{Opening}
-use Rattle.aug_core.specs.Rule.{Knows, Kept}
+use Rattle.aug_core.specs.Rule.{Fate, Knows, Kept}
 use Rattle.aug_core.specs.Effects.{spent}
 use Rattle.aug_core.specs.declared.view.Entry.{Entry}
 use Rattle.aug_core.specs.declared.view.Held.{Held}
@@ -34,8 +34,8 @@ module _ {A : Type 0} where
   at_right (x ∷ xs) m a j e = let is : suc (length xs + j) ≡ length (x ∷ xs) + j = omega arith in subst (λ (z : ℕ). get_elem? (x ∷ (xs ++ m)) z ≡ some a) is (at_right xs m a j e)
 
 -- the view of a seat that was joined knows nothing
-pub spent_knows : (o : Opening) (words : List ℕ) (book : List (List Entry)) → Knows o words book spent
-spent_knows o words book = record {
+pub spent_knows : (o : Opening) (words : List ℕ) (fate : ℕ → Fate) (book : List (List Entry)) → Knows o words fate book spent
+spent_knows o words fate book = record {
   shaped = λ l. let clash : false ≡ true = l in cc;
   same_members = λ l. let clash : false ≡ true = l in cc;
   saw = book_none book;
@@ -43,7 +43,6 @@ spent_knows o words book = record {
   fresh = record { covers = λ q i e inner past p. record { left = omega arith; right = omega arith } };
   holds = λ a h p. absurd (some-ne-none h (sym p));
   spares = λ n lane e le low. let clash : None ≡ Some n = e in cc;
-  blocks = λ n lane k e le low small. let clash : None ≡ Some n = e in cc;
 }
 
 module _ (face : ℕ → ℕ → List (ℕ × ℕ) → List ℕ) (o : Opening) (s : St) (r : Kept face o s) (id : ℕ) (v : SeatView) (at : get_elem? s.views id ≡ some v) (other : ℕ) (w : SeatView) (ne : other ≢ id) (at' : get_elem? s.views other ≡ some w) (also : Book) (known : ArePrefixes also r.book) (told : Option Learnt) (lent : List ℕ) where
@@ -118,11 +117,13 @@ module _ (face : ℕ → ℕ → List (ℕ × ℕ) → List ℕ) (o : Opening) (
   takes_back = let kn = r.each_view id v at in let kw = r.each_view other w at' in record {
     book = r.book;
     tree = r.tree;
-    lanes = r.lanes;
+    fate = r.fate;
+    fates = r.fates;
+    states = r.states;
     each_view = λ j u p. ⊎_elim
-        (λ t. subst (Knows o s.words r.book) t (spent_knows o s.words r.book))
+        (λ t. subst (Knows o s.words r.fate r.book) t (spent_knows o s.words r.fate r.book))
         (λ t. ⊎_elim
-        (λ t'. subst (Knows o s.words r.book) t'.1 record {
+        (λ t'. subst (Knows o s.words r.fate r.book) t'.1 record {
           shaped = kn.shaped;
           same_members = kn.same_members;
           saw = kn.saw;
@@ -130,7 +131,6 @@ module _ (face : ℕ → ℕ → List (ℕ × ℕ) → List ℕ) (o : Opening) (
           fresh = kn.fresh;
           holds = λ a h q. ⊎_elim (λ old. kn.holds a h old) (λ new. kw.holds new.0 h new.2) (append_at v.held w.held h a q);
           spares = kn.spares;
-          blocks = kn.blocks;
         }) (λ t'. r.each_view j u t'.1) t) (came j u p);
     apart = apart_on s.views views From (λ i a h. ⊥) r.apart record {
       came = λ i a x h p q. ⊎_elim

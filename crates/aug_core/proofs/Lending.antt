@@ -10,7 +10,7 @@ use Rattle.aug_core.specs.Places.{Shape, record_start, word_count}
 use Rattle.aug_core.specs.Addresses.{IsInner}
 use Rattle.aug_core.specs.Book.{Book}
 use Rattle.aug_core.specs.Opening.{Opening}
-use Rattle.aug_core.specs.Rule.{Knows, Kept}
+use Rattle.aug_core.specs.Rule.{Fate, Knows, Kept}
 use Rattle.aug_core.specs.Kinds.{load_record_word}
 use Rattle.aug_core.specs.Effects.{Sat, in_part, stepping, ReadsRecord, read_record, spent}
 use Rattle.aug_core.specs.Readers.{times_in, reads_at, FindsRecords, ReadsOn, lending, reader_of, taking_reader}
@@ -30,8 +30,8 @@ module _ (face : ℕ → ℕ → List (ℕ × ℕ) → List ℕ) (o : Opening) w
   -- for whom a view answers is no matter of an era's own rule
   lends_as : (s : St) (r : Kept face o s) (id : ℕ) (v : SeatView) → get_elem? s.views id ≡ some v → (lent : List ℕ) → Kept face o record { words = s.words; homes = s.homes; views = set s.views id record v { lent = lent } }
   lends_as s r id v at lent = let kn = r.each_view id v at in
-      moves_on face o s r id v s.words r.book (rests face o s r id v at) at record v { lent = lent } record { back = λ a h p. (h, p, refl, refl); forth = λ a h p. (h, p, refl, refl); spare = refl }
-      record { shaped = kn.shaped; same_members = kn.same_members; saw = kn.saw; also_saw = kn.also_saw; fresh = kn.fresh; holds = kn.holds; spares = kn.spares; blocks = kn.blocks } (λ key low. refl)
+      moves_on face o s r id v s.words r.book r.fate (rests face o s r id v at) at record v { lent = lent } record { back = λ a h p. (h, p, refl, refl); forth = λ a h p. (h, p, refl, refl); spare = refl }
+      record { shaped = kn.shaped; same_members = kn.same_members; saw = kn.saw; also_saw = kn.also_saw; fresh = kn.fresh; holds = kn.holds; spares = kn.spares } (λ key low. refl)
 
   lends_seat : (id : ℕ) (v : SeatView) → Splits (Kept face o) id v (lending v) (reader_of v)
   lends_seat id v s r at =
@@ -125,8 +125,8 @@ module _ (face : ℕ → ℕ → List (ℕ × ℕ) → List ℕ) (shape : Shape)
   -- ---- a reader loads
 
   -- a view with more steps knows the same
-  stepped_knows : (o : Opening) (words : List ℕ) (book : Book) (v : SeatView) (place found : ℕ) → Knows o words book v → Knows o words book (stepping v (load_record_word place found))
-  stepped_knows o words book v place found k = record { shaped = k.shaped; same_members = k.same_members; saw = k.saw; also_saw = k.also_saw; fresh = k.fresh; holds = k.holds; spares = k.spares; blocks = k.blocks }
+  stepped_knows : (o : Opening) (words : List ℕ) (fate : ℕ → Fate) (book : Book) (v : SeatView) (place found : ℕ) → Knows o words fate book v → Knows o words fate book (stepping v (load_record_word place found))
+  stepped_knows o words fate book v place found k = record { shaped = k.shaped; same_members = k.same_members; saw = k.saw; also_saw = k.also_saw; fresh = k.fresh; holds = k.holds; spares = k.spares }
 
   stepped_remembers : (era : ℕ) (past : List PastEra) (v : SeatView) (place found : ℕ) → Remembers shape era past v → Remembers shape era past (stepping v (load_record_word place found))
   stepped_remembers era past v place found r = record { shaped = r.shaped; present = r.present; learnt = r.learnt; earlier = r.earlier }
@@ -135,10 +135,10 @@ module _ (face : ℕ → ℕ → List (ℕ × ℕ) → List ℕ) (shape : Shape)
   says_found : (words : List ℕ) (v : SeatView) (place i : ℕ) → v.shape ≡ shape → v.held ≡ [] → FindsRecords shape words v → i ≡ v.base + place → ReadsRecord v place (get_or words i 0) (stepping v (load_record_word place (get_or words i 0)))
   says_found words v place i shaped no_lane finds is = record {
     stepped = refl;
-    known = λ number field small at q k e inner seen numbered.
+    known = λ number field small at q k e guards numbered.
         let there : i ≡ v.base + (record_start shape e.number + field) = is ∙ ap (λ (z : ℕ). v.base + z) (at ∙ (λ j. record_start (shaped j) (sym numbered j) + field)) in
-        ap (λ (z : ℕ). get_or words z 0) there ∙ (finds q k field e (subst (λ (z : Shape). IsInner z q) shaped inner) seen small).1;
-    own = λ number field small at a h held. absurd (some-ne-none h (sym (subst (λ (z : List Held). get_elem? z a ≡ some h) no_lane held)));
+        ap (λ (z : ℕ). get_or words z 0) there ∙ (finds q k field e (subst (λ (z : Shape). IsInner z q) shaped guards.inner) guards.at small).1;
+    own = λ number field small at x owns. absurd (some-ne-none owns.lane (sym (subst (λ (z : List Held). get_elem? z owns.index ≡ some owns.lane) no_lane owns.at)));
   }
 
   module _ (s : St) (id : ℕ) (v : SeatView) (at : get_elem? s.views id ≡ some v) (place found : ℕ) where
@@ -152,7 +152,7 @@ module _ (face : ℕ → ℕ → List (ℕ × ℕ) → List ℕ) (shape : Shape)
     kept_on : (w : Ruled face shape s) → Kept face (opening_with shape w.members) (table_in w.era w.base (word_count shape) record { words = s.words; homes = s.homes; views = after })
     kept_on w = let o : Opening = opening_with shape w.members in let t : St = table_in w.era w.base (word_count shape) s in ⊎_elim
         (λ (present : v.era ≡ w.era). let here = stands_now face shape s id v at w present in
-        let kept = stands face o t w.kept id v here u (record { back = λ a h p. (h, p, refl, refl); forth = λ a h p. (h, p, refl, refl); spare = refl }) (stepped_knows o t.words w.kept.book v place found (w.kept.each_view id v here)) 0 in
+        let kept = stands face o t w.kept id v here u (record { back = λ a h p. (h, p, refl, refl); forth = λ a h p. (h, p, refl, refl); spare = refl }) (stepped_knows o t.words w.kept.fate w.kept.book v place found (w.kept.each_view id v here)) 0 in
         subst (λ (z : List ℕ × List SeatView). Kept face o record { words = z.0; homes = s.homes; views = z.1 }) (λ j. (set-get_or t.words 0 0 j, views_now face shape s id v at w present u refl j)) kept)
         (λ (ne : v.era ≢ w.era). let seen : SeatView → SeatView = seen_in w.era in
         let here : get_elem? (map seen s.views) id ≡ some spent = at_map seen s.views id v at ∙ ap (λ (z : SeatView). some z) (seen_past w.era v ne) in

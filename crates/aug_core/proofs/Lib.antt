@@ -5,6 +5,7 @@ pub mod Levels
 pub mod Below
 pub mod PrefixLemmas
 pub mod Books
+pub mod Owning
 pub mod Views
 pub mod Moves
 pub mod Fits

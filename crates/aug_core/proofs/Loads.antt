@@ -5,47 +5,43 @@ use lib.ListN.{get_elem?}
 use Rattle.atomic_table.specs.Table.{step, keeps, Allows}
 use Rattle.aug_core.specs.Places.{Shape, record_start, record_words}
 use Rattle.aug_core.specs.Addresses.{IsInner}
-use Rattle.aug_core.specs.Lanes.{first_record, IsOfLane}
-use Rattle.aug_core.specs.Book.{At, ArePrefixes, IsFresh, SerialsFit, IsBook}
+use Rattle.aug_core.specs.Book.{ArePrefixes, IsFresh, NamesOnce, SerialsFit, IsBook}
 use Rattle.aug_core.specs.Opening.{Opening}
 use Rattle.aug_core.specs.Rule.{NamesNewest, Knows, Kept}
 use Rattle.aug_core.specs.Kinds.{load_leaf, load_node, load_record_word}
-use Rattle.aug_core.specs.Effects.{Sat, stepping, held_word, read_record, seeing, beginning, Sees, LoadsNode, loaded_leaf, began_at_leaf, loaded_node}
+use Rattle.aug_core.specs.Effects.{Sat, stepping, Says, SaysOwn, read_record, seeing, beginning, Sees, LoadsNode, loaded_leaf, began_at_leaf, loaded_node}
 use Rattle.aug_core.specs.inside.EraSteps.{WithEra}
 use Rattle.aug_core.specs.declared.view.Entry.{Entry}
 use Rattle.aug_core.specs.declared.view.Held.{Held}
 use Rattle.aug_core.specs.declared.view.SeatView.{SeatView}
-use Rattle.aug_core.proofs.Sizes.{in_block}
 use Rattle.aug_core.proofs.Moves.{St, knows_keeping, rests, stands, watches}
-use Rattle.aug_core.proofs.Fits.{fits_book, sees_after}
+use Rattle.aug_core.proofs.Fits.{fits_book, named_once, sees_after}
 use Rattle.aug_core.proofs.Sizes.{twice}
 use Rattle.aug_core.proofs.PrefixLemmas.{entry_stays}
 
 module _ (face : ℕ → ℕ → List (ℕ × ℕ) → List ℕ) (o : Opening) where
-  module _ (s : St) (r : Kept face o s) (v : SeatView) (kn : Knows o s.words r.book v) (place : ℕ) where
-    of_entry : (number field : ℕ) → field < record_words → place ≡ record_start o.shape number + field → (q i : ℕ) (e : Entry) → IsInner o.shape q → At v.seen q i e → e.number ≡ number → get_or s.words place 0 ≡ get_or e.words field 0
-    of_entry number field small is q i e inner p numbered = ap (λ (z : ℕ). get_or s.words z 0) (is ∙ ap (λ (z : ℕ). record_start o.shape z + field) (sym numbered)) ∙ r.tree.written q i field e inner (entry_stays kn.saw q i e p) small
+  module _ (s : St) (r : Kept face o s) (v : SeatView) (kn : Knows o s.words r.fate r.book v) (shaped : v.shape ≡ o.shape) (place : ℕ) where
+    -- the table has the words of what the view guards
+    of_entry : (number field : ℕ) → field < record_words → place ≡ record_start v.shape number + field → Says v number field (get_or s.words place 0)
+    of_entry number field small is q i e guards numbered = ap (λ (z : ℕ). get_or s.words z 0) (is ∙ (λ j. record_start (shaped j) (sym numbered j) + field))
+        ∙ r.tree.written q i e (subst (λ (z : Shape). IsInner z q) shaped guards.inner) (entry_stays kn.saw q i e guards.at) field small
 
-    of_own : (number field : ℕ) → field < record_words → place ≡ record_start o.shape number + field → (a : ℕ) (h : Held) → get_elem? v.held a ≡ some h → IsOfLane o.shape h.lane number → get_or s.words place 0 ≡ held_word o.shape h number field
-    of_own number field small is a h p of_lane = let b = in_block o.shape h.lane number field of_lane small in
-        ap (λ (z : ℕ). get_or s.words z 0) (is ∙ b.0) ∙ (kn.holds a h p).exact (record_words * (number - first_record o.shape h.lane) + field) b.1
+    -- and of what it owns
+    of_own : (number field : ℕ) → field < record_words → place ≡ record_start v.shape number + field → SaysOwn v number field (get_or s.words place 0)
+    of_own number field small is x owns = ap (λ (z : ℕ). get_or s.words z 0) (is ∙ (λ j. record_start (shaped j) (sym owns.numbered j) + field)) ∙ ((kn.holds owns.index owns.lane owns.at).owns x owns.listed).exact field small
 
   pub loads_record_word : (n id place : ℕ) (me : Sat) → me.0.live ≡ true → me.1 ≡ [] → Allows (Kept face o) n id me place (λ x. x) (WithEra me (read_record (step n place 0 0 none) me))
   loads_record_word n id place me live empty s r _ at _ =
-      let v : SeatView = me.0 in let kn = r.each_view id v at in let found : ℕ = get_or s.words place 0 in let shaped : o.shape ≡ v.shape = sym (kn.shaped live) in
+      let v : SeatView = me.0 in let kn = r.each_view id v at in let found : ℕ = get_or s.words place 0 in let shaped : v.shape ≡ o.shape = kn.shaped live in
       let w : SeatView = stepping v (load_record_word place found) in (
         w,
         keeps,
         tt,
-        stands face o s r id v at w record { back = λ a h p. (h, p, refl, refl); forth = λ a h p. (h, p, refl, refl); spare = refl } (knows_keeping face o s r id v s.words r.book (rests face o s r id v at) at v.held (v.steps ++ load_record_word place found ∷ []) kn.holds) place,
+        stands face o s r id v at w record { back = λ a h p. (h, p, refl, refl); forth = λ a h p. (h, p, refl, refl); spare = refl } (knows_keeping face o s r id v s.words r.book r.fate (rests face o s r id v at) at v.held (v.steps ++ load_record_word place found ∷ []) kn.holds) place,
         (
           (
             empty,
-            record {
-              stepped = refl;
-              known = subst (λ (z : Shape). (number field : ℕ) → field < record_words → place ≡ record_start z number + field → (q i : ℕ) (e : Entry) → IsInner z q → At v.seen q i e → e.number ≡ number → found ≡ get_or e.words field 0) shaped (of_entry s r v kn place);
-              own = subst (λ (z : Shape). (number field : ℕ) → field < record_words → place ≡ record_start z number + field → (a : ℕ) (h : Held) → get_elem? v.held a ≡ some h → IsOfLane z h.lane number → found ≡ held_word z h number field) shaped (of_own s r v kn place);
-            },
+            record { stepped = refl; known = of_entry s r v kn shaped place; own = of_own s r v kn shaped place },
           ),
           record { live = refl; era = refl; past = refl; shape = refl; members = refl; told = refl; base = refl; whole = refl; led = λ m e. (m, e) },
           record { reads = refl; lent = refl; leads = λ m e. (m, e); works = λ work. work },
@@ -57,7 +53,7 @@ module _ (face : ℕ → ℕ → List (ℕ × ℕ) → List ℕ) (o : Opening) w
     pub sees_it : (w : SeatView) → w.seen ≡ r.book → Sees face v w
     sees_it w is = let kn = r.each_view id v at in sees_after face v w o.shape (kn.shaped live)
         (subst (ArePrefixes v.seen) (sym is) kn.saw) (subst (ArePrefixes v.also) (sym is) kn.also_saw)
-        (subst (λ z. IsFresh o.shape z v.seen) (sym is) kn.fresh) (subst (λ z. IsBook face o.shape z) (sym is) r.tree.is_book)
+        (subst (λ z. IsFresh o.shape z v.seen) (sym is) kn.fresh) (subst (λ z. IsBook face o.shape z) (sym is) r.tree.is_book) (subst (λ z. NamesOnce o.shape z) (sym is) (named_once o.shape r.fate r.book r.fates))
         (subst (λ z. SerialsFit o.shape z) (sym is) (fits_book o s.words r.book s.views r.changes.tally r.changes.tallied))
 
     -- a leaf's word is that of its newest entry

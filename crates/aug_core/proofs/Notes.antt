@@ -54,7 +54,7 @@ module _ (face : ℕ → ℕ → List (ℕ × ℕ) → List ℕ) (o : Opening) (
   stands_on i a k c t = record { view = t.view; lane = t.lane; sits = at_longer s.views (note ∷ []) i t.view t.sits; held = t.held; listed = t.listed }
 
   -- the note knows what was known
-  note_knows : Knows o s.words r.book note
+  note_knows : Knows o s.words r.fate r.book note
   note_knows = let kn = r.each_view id v at in record {
     shaped = kn.shaped;
     same_members = kn.same_members;
@@ -63,15 +63,16 @@ module _ (face : ℕ → ℕ → List (ℕ × ℕ) → List ℕ) (o : Opening) (
     fresh = kn.fresh;
     holds = λ a h p. absurd (some-ne-none h (sym p));
     spares = λ n lane e le low. let clash : None ≡ Some n = e in cc;
-    blocks = λ n lane k e le low small. let clash : None ≡ Some n = e in cc;
   }
 
   pub makes_note : Kept face o record { words = s.words; homes = s.homes; views = views }
   makes_note = record {
     book = r.book;
     tree = r.tree;
-    lanes = r.lanes;
-    each_view = λ j u p. ⊎_elim (λ old. r.each_view j u old) (λ new. subst (Knows o s.words r.book) new note_knows) (came j u p);
+    fate = r.fate;
+    fates = r.fates;
+    states = r.states;
+    each_view = λ j u p. ⊎_elim (λ old. r.each_view j u old) (λ new. subst (Knows o s.words r.fate r.book) new note_knows) (came j u p);
     apart = record {
       one_holder = λ i j a b x y h g px py hx hy same. r.apart.one_holder i j a b x y h g (holder i a x h px hx) (holder j b y g py hy) hx hy same;
       one_lead = λ i j n m x y px py ex ey. r.apart.one_lead i j n m x y (lead i n x px ex) (lead j m y py ey) ex ey;

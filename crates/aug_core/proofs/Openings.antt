@@ -1,13 +1,16 @@
 -- The rule holds of a table that was just opened.
-use Rattle.std.proofs.Common.{true, false, ◌≡◌, ℕ, zero, suc, ◌+◌, ◌*◌, ◌^◌, ◌<◌, ◌≤◌, Bool, le-ltb, lt-ltb, if◌then◌else◌, List, [], ◌∷◌, ◌++◌, length, get_or, replicate, All, sym, refl, ap, ◌∙◌, subst, ⊎_elim, arith, ◌⊎◌, Some, None}
+use Rattle.std.proofs.Common.{true, false, ◌≡◌, ℕ, zero, suc, ◌+◌, ◌-◌, ◌*◌, ◌^◌, ◌<◌, ◌≤◌, Bool, le-ltb, lt-ltb, if◌then◌else◌, List, [], ◌∷◌, ◌++◌, length, get_or, replicate, All, sym, refl, ap, ◌∙◌, subst, ⊎_elim, arith, ◌⊎◌, inr, Some, None}
+use Rattle.std.specs.Prelude.{nat_lt, ◌/◌}
+use Rattle.std.specs.List.{range_with_len}
 use Rattle.std.proofs.lemmas.Bool.{cases_lt}
+use Rattle.std.proofs.lemmas.Nat.{div-mul-add}
 use Rattle.std.proofs.lemmas.List.FromFn.{length-map-range_with_len, get_or-map-range_with_len}
 use mathlib.Core.Option.{Option, some, some-injective, some-ne-none}
 use lib.ListN.{get_elem?}
-use Rattle.aug_core.specs.Places.{opening_count, record_start}
+use Rattle.aug_core.specs.Places.{Shape, opening_count, record_start, record_words}
 use Rattle.aug_core.specs.Addresses.{place_count, IsInner, left_of, right_of}
-use Rattle.aug_core.specs.Lanes.{block_start, block_size}
-use Rattle.aug_core.specs.Book.{Book, history_of, At, IsNewest, StandsOver, IsSerial, SerialsFit, IsBook, word_of_leaf}
+use Rattle.aug_core.specs.Lanes.{lane_records, first_record, record_in, new_lane}
+use Rattle.aug_core.specs.Book.{Book, history_of, At, IsNewest, StandsOver, IsSerial, NamesOnce, SerialsFit, IsBook, word_of_leaf}
 use Rattle.aug_model.specs.Keys.{is_member, keys_of, IsKeySet}
 use Rattle.aug_model.specs.Queries.{weight_in}
 use Rattle.aug_model.proofs.Pairs.{length-keys_of, weight_fits, weight-none}
@@ -16,12 +19,14 @@ use Rattle.aug_core.specs.Opening.{opening_serial, Opening, opening_pairs, openi
 use Rattle.aug_core.specs.Layout.{IsLayout}
 use Rattle.aug_core.specs.Effects.{KnowsTable, spent}
 use Rattle.aug_core.specs.Renewals.{IsOpened}
-use Rattle.aug_core.specs.Rule.{Knows, Kept, no_beginning}
+use Rattle.aug_core.specs.Rule.{Lists, Fate, at_opening, owned_by, HaveFates, OwnsRecord, Knows, Kept, no_beginning}
 use Rattle.aug_core.specs.declared.view.Entry.{Entry}
 use Rattle.aug_core.specs.declared.view.PastEra.{PastEra}
 use Rattle.aug_core.specs.declared.view.SeatView.{SeatView}
 use Rattle.aug_model.proofs.Ranges.{Rises, rises_from}
-use Rattle.aug_core.proofs.Sizes.{twice}
+use Rattle.aug_core.specs.declared.view.Owned.{Owned}
+use Rattle.aug_core.proofs.Sizes.{twice, lane_inside}
+use Rattle.aug_core.proofs.Owning.{listed_map, range_listed}
 use Rattle.aug_core.proofs.Below.{pairs_over, pairs_of_leaf, number_of_leaf, number_below}
 use Rattle.aug_core.proofs.Stores.{alone}
 use Rattle.aug_core.proofs.Joins.{spent_knows}
@@ -150,8 +155,6 @@ module _ (face : ℕ → ℕ → List (ℕ × ℕ) → List ℕ) (o : Opening) w
     long = long;
     named = λ q i e inner p. subst (λ (z : Entry). z.word ≡ z.number) (inner_at q i e inner p).1 refl;
     below = λ q i e inner p. let few = low rises fit q i e inner p in omega arith;
-    opens = λ q i e inner p _. (inner_at q i e inner p).0;
-    distinct = λ q p i j e f inner inner' at at' own same. let few = low rises fit q i e inner at in absurd (omega arith);
     over = λ q i e inner p. subst (StandsOver face o.shape book q) (inner_at q i e inner p).1 (over rises q inner);
     rises = λ q i j e f inner at at' le. let same : e ≡ f = sym (inner_at q i e inner at).1 ∙ (inner_at q j f inner at').1 in
         let l = ap (λ (z : Entry). z.left) same in let r = ap (λ (z : Entry). z.right) same in (omega arith, omega arith);
@@ -160,6 +163,24 @@ module _ (face : ℕ → ℕ → List (ℕ × ℕ) → List ℕ) (o : Opening) w
     floored = λ q i e f inner at at'. let a = (inner_at q i e inner at).0 in let b = (inner_at q (i + 1) f inner at').0 in absurd (omega arith);
     serials = λ key i e low p. serial_at pairs_fit (is_member (keys_of o.members) key) key i e (subst (λ (z : List Entry). get_elem? z i ≡ some e) (leaf_history_is key low) p);
   }
+
+  -- what becomes of a record at the opening: those behind the opening records are the lanes', in a row
+  abbrev opening_fate : ℕ → Fate
+  opening_fate n = if nat_lt n (opening_count o.shape) then at_opening else owned_by ((n - opening_count o.shape) / lane_records o.shape)
+
+  is_opening : (n : ℕ) → n < opening_count o.shape → opening_fate n ≡ at_opening
+  is_opening n few = ap (λ (b : Bool). if b then at_opening else owned_by ((n - opening_count o.shape) / lane_records o.shape)) (lt-ltb n (opening_count o.shape) few)
+
+  is_owned : (lane k : ℕ) → k < lane_records o.shape → opening_fate (first_record o.shape lane + k) ≡ owned_by lane
+  is_owned lane k small = let n : ℕ = first_record o.shape lane + k in let is : n - opening_count o.shape ≡ lane * lane_records o.shape + k = omega arith in
+      ap (λ (b : Bool). if b then at_opening else owned_by ((n - opening_count o.shape) / lane_records o.shape)) (le-ltb n (opening_count o.shape) (omega arith))
+      ∙ ap (λ (z : ℕ). owned_by (z / lane_records o.shape)) is ∙ ap owned_by (div-mul-add lane (lane_records o.shape) k small)
+
+  fates_at_opening : Rises (keys_of o.members) → length (keys_of o.members) ≤ o.shape.members → HaveFates o.shape opening_fate book
+  fates_at_opening rises few = record { opened = is_opening; entries = λ q i e inner p. inr (is_opening e.number (low rises few q i e inner p), (inner_at q i e inner p).0) }
+
+  named_at_opening : NamesOnce o.shape book
+  named_at_opening = record { once = λ q i j e f inner p p' same. (inner_at q i e inner p).0 ∙ sym (inner_at q j f inner p').0 }
 
   -- a leaf's history at the opening
   pub leaf_long : (key : ℕ) → key < 2 ^ o.shape.bits → length (history_of book key) ≡ opening_serial o.members key + 1
@@ -206,11 +227,22 @@ module _ (face : ℕ → ℕ → List (ℕ × ℕ) → List ℕ) (o : Opening) w
     leads : (j n : ℕ) (x : SeatView) → get_elem? views j ≡ some x → x.spare ≡ Some n → j ≡ id
     leads j n x p e = ⊎_elim (λ t. t.0) (λ t. let clash : None ≡ Some n = ap (λ (z : SeatView). z.spare) t ∙ e in cc) (one.each j x p)
 
+    -- the lane owns its records, which hold what is known
+    owns_at_opening : (words known : List ℕ) (lane : ℕ) → lane < o.shape.workers → ((i : ℕ) → record_start o.shape (opening_count o.shape) ≤ i → get_or words i 0 ≡ get_or known i 0)
+        → (x : Owned) → Lists (new_lane o.shape known lane).owned x → OwnsRecord o.shape words opening_fate lane x
+    owns_at_opening words known lane inside same x t = let s : Shape = o.shape in let was = listed_map (record_in s known) (range_with_len (first_record s lane) (lane_records s)) x t in
+        let of = range_listed (first_record s lane) (lane_records s) was.0 was.1 in subst (OwnsRecord s words opening_fate lane) (ap (record_in s known) (sym of.2) ∙ was.2) record {
+          exists = lane_inside s lane of.0 inside of.1;
+          long = length-map-range_with_len (λ k. get_or known (record_start s (first_record s lane + of.0) + k) 0) 0 record_words;
+          exact = λ k small. same (record_start s (first_record s lane + of.0) + k) (omega arith) ∙ sym (get_or-map-range_with_len (λ j. get_or known (record_start s (first_record s lane + of.0) + j) 0) 0 record_words k k 0 small (omega arith));
+          fate_is = is_owned lane of.0 of.1;
+        }
+
     -- the rule holds of these words
     pub opens : (words : List ℕ) (homes : List (Option (Unit {0}))) → IsOpened face o words
-        → ((lane k : ℕ) → lane < o.shape.workers → k < block_size o.shape → get_or words (block_start o.shape lane + k) 0 ≡ get_or known (block_start o.shape lane + k) 0)
+        → ((i : ℕ) → record_start o.shape (opening_count o.shape) ≤ i → get_or words i 0 ≡ get_or known i 0)
         → Kept face o record { words = words; homes = homes; views = views }
-    opens words homes opened blocks =
+    opens words homes opened same =
         let rises : Rises (keys_of o.members) = rises_from (keys_of o.members) opened.key_set.rising in record {
           book = book;
           tree = record {
@@ -218,26 +250,24 @@ module _ (face : ℕ → ℕ → List (ℕ × ℕ) → List ℕ) (o : Opening) w
             is_book = is_book rises opened.members_fit opened.few;
             opened = book_refl book;
             newest = λ q inside. let t = newly q inside in record { index = opening_index o q; entry = t.entry; newest = t.newest; word = opened.named q inside ∙ sym t.named; shown = t.shown };
-            written = λ q i k e inner p small. subst (λ (z : Entry). get_or words (record_start o.shape z.number + k) 0 ≡ get_or z.words k 0) (inner_at q i e inner p).1 (opened.records q k inner small);
-            shared = opened.shared;
+            written = λ q i e inner p k small. subst (λ (z : Entry). get_or words (record_start o.shape z.number + k) 0 ≡ get_or z.words k 0) (inner_at q i e inner p).1 (opened.records q k inner small);
+            shared = λ level few k small. opened.shared level k few small;
             idle = opened.idle;
           };
-          lanes = record {
-            states = λ lane inside. let z = opened.lanes lane inside in omega arith;
-            unused = λ lane q i e _ free inner p of_lane. let from = of_lane.from_first in let few = low rises opened.few q i e inner p in omega arith;
-          };
+          fate = opening_fate;
+          fates = fates_at_opening rises opened.few;
+          states = λ lane inside. let z = opened.lanes lane inside in omega arith;
           each_view = λ j v p. ⊎_elim
-              (λ t. subst (Knows o words book) t.1 record {
+              (λ t. subst (Knows o words opening_fate book) t.1 record {
                 shaped = λ _. refl;
                 same_members = λ _. refl;
                 saw = book_refl book;
                 also_saw = book_none book;
                 fresh = fresh_now o.shape book;
                 holds = λ a h at. absurd (some-ne-none h (sym at));
-                spares = λ n lane e le inside. opened.lanes lane inside;
-                blocks = λ n lane k e le inside small. blocks lane k inside small;
+                spares = λ n lane e le inside. record { exists = inside; state = opened.lanes lane inside; owns = λ x t. owns_at_opening words known lane inside same x t };
               })
-              (λ t. subst (Knows o words book) t (spent_knows o words book)) (one.each j v p);
+              (λ t. subst (Knows o words opening_fate book) t (spent_knows o words opening_fate book)) (one.each j v p);
           apart = record {
             one_holder = λ i j a b x y h g px py ph pg same. absurd (holds_none i a x h px ph);
             one_lead = λ i j n m x y px py ex ey. leads i n x px ex ∙ sym (leads j m y py ey);
@@ -262,4 +292,4 @@ module _ (face : ℕ → ℕ → List (ℕ × ℕ) → List ℕ) (o : Opening) w
 
   -- what such a seat knows of its table
   pub opener_knows : (past : List PastEra) (era base : ℕ) (lent known whole : List ℕ) → IsLayout o.shape → IsKeySet o.shape.bits (keys_of o.members) → All FitsPair o.members → length (keys_of o.members) ≤ o.shape.members → KnowsTable face (opener past era base lent known whole)
-  opener_knows past era base lent known whole laid_out key_set fit few = record { laid_out = laid_out; key_set = key_set; members_fit = fit; few_members = let long = length-keys_of o.members in omega arith; book = is_book (rises_from (keys_of o.members) key_set.rising) fit few; opened = book_refl book; fits = opening_fits }
+  opener_knows past era base lent known whole laid_out key_set fit few = record { laid_out = laid_out; key_set = key_set; members_fit = fit; few_members = let long = length-keys_of o.members in omega arith; book = is_book (rises_from (keys_of o.members) key_set.rising) fit few; named = named_at_opening; opened = book_refl book; fits = opening_fits }

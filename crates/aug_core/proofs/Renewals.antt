@@ -10,12 +10,11 @@ use Rattle.aug_model.specs.Keys.{IsKeySet, is_member, keys_of, pairs_of}
 use Rattle.aug_model.specs.Queries.{range_of, weight_in}
 use Rattle.aug_model.proofs.Pairs.{agrees-own, pairs-again, weight_fits, weight-none}
 use Rattle.aug_model.proofs.Ranges.{Rises, rises_from, all_below_from, range_cut, range_none, range_whole, range_clipped, range_of_key, is_member-counted}
-use Rattle.aug_core.specs.Places.{Shape, word_count}
-use Rattle.aug_core.specs.Lanes.{block_start, block_size}
+use Rattle.aug_core.specs.Places.{Shape, opening_count, record_start, word_count}
 use Rattle.aug_core.specs.Book.{Book}
 use Rattle.aug_core.specs.Addresses.{IsInner, root_place}
 use Rattle.aug_core.specs.Opening.{Opening}
-use Rattle.aug_core.specs.Rule.{Lists, Knows, Kept, newcomer}
+use Rattle.aug_core.specs.Rule.{Lists, Fate, Knows, Kept, newcomer}
 use Rattle.aug_core.specs.Kinds.{load_node}
 use Rattle.aug_core.specs.Effects.{Sat, in_part, opening_of, seeing}
 use Rattle.aug_core.specs.Pasts.{IsEarlier}
@@ -255,7 +254,7 @@ module _ (face : ℕ → ℕ → List (ℕ × ℕ) → List ℕ) (shape : Shape)
           members = members;
           base = base;
           kept = subst (λ (z : Shape × List ℕ). Kept face (opening_with z.0 members) record { words = table_part base (word_count z.0) z.1; homes = s.homes; views = views }) (λ n. (shape_is n, same n))
-              (opens face (opening_with v.shape members) views idle.past id era base v.lent (table_part base (word_count v.shape) s.words) s.words is_alone (table_part base (word_count v.shape) s.words) s.homes opened (λ lane n low small. refl));
+              (opens face (opening_with v.shape members) views idle.past id era base v.lent (table_part base (word_count v.shape) s.words) s.words is_alone (table_part base (word_count v.shape) s.words) s.homes opened (λ j high. refl));
           past = idle.past;
           counted = let long = length-append v.past (over ∷ []) in let was = ap (λ (z : List PastEra). length z) same_past in let counted = w.counted in let e = present in omega arith;
           remembers = λ j x p live'. ⊎_elim
@@ -328,8 +327,8 @@ module _ (face : ℕ → ℕ → List (ℕ × ℕ) → List ℕ) (shape : Shape)
       )
 
   -- a view that knows more of that knows the same of the part
-  more_known : (o : Opening) (words whole : List ℕ) (book : Book) (v : SeatView) → Knows o words book v → Knows o words book record v { whole = whole }
-  more_known o words whole book v k = record { shaped = k.shaped; same_members = k.same_members; saw = k.saw; also_saw = k.also_saw; fresh = k.fresh; holds = k.holds; spares = k.spares; blocks = k.blocks }
+  more_known : (o : Opening) (words whole : List ℕ) (fate : ℕ → Fate) (book : Book) (v : SeatView) → Knows o words fate book v → Knows o words fate book record v { whole = whole }
+  more_known o words whole fate book v k = record { shaped = k.shaped; same_members = k.same_members; saw = k.saw; also_saw = k.also_saw; fresh = k.fresh; holds = k.holds; spares = k.spares }
 
   -- what is known beside a part follows a store there
   beside_both : (base size i x : ℕ) (known words : List ℕ) → IsBeside base size known words → IsBeside base size (set known i x) (set words i x)
@@ -358,7 +357,7 @@ module _ (face : ℕ → ℕ → List (ℕ × ℕ) → List ℕ) (shape : Shape)
       let present = w.present id v at work in let size : ℕ = word_count shape in let o : Opening = opening_with shape w.members in
       let clear : (i < w.base) ⊎ (w.base + size ≤ i) = subst (λ (z : ℕ × Shape). (i < z.0) ⊎ (z.0 + word_count z.1 ≤ i)) (λ k. (w.placed id v at work k, (w.remembers id v at live).shaped k)) apart in
       let t : St = table_in w.era w.base size s in let here = stands_now face shape s id v at w present in
-      let kept = stands face o t w.kept id v here u (record { back = λ a h p. (h, p, refl, refl); forth = λ a h p. (h, p, refl, refl); spare = refl }) (more_known o t.words (set v.whole i x) w.kept.book v (w.kept.each_view id v here)) 0 in
+      let kept = stands face o t w.kept id v here u (record { back = λ a h p. (h, p, refl, refl); forth = λ a h p. (h, p, refl, refl); spare = refl }) (more_known o t.words (set v.whole i x) w.kept.fate w.kept.book v (w.kept.each_view id v here)) 0 in
       let part : set t.words 0 (get_or t.words 0 0) ≡ table_part w.base size (set s.words i x) = set-get_or t.words 0 0 ∙ sym (part_apart w.base size i x s.words clear) in (
         u,
         keeps,
@@ -396,7 +395,7 @@ blank_word : (n k : ℕ) → get_or {A = ℕ} (replicate n 0) k 0 ≡ 0
 blank_word n k = ⊎_elim (λ low. get_or-replicate n k 0 0 low) (λ past. get_or_past (replicate n 0) k 0 (subst (λ (z : ℕ). z ≤ k) (sym (length-replicate n 0)) past)) (cases_lt k n)
 
 pub first_opening : (face : ℕ → ℕ → List (ℕ × ℕ) → List ℕ) (o : Opening) (n : ℕ) (words : List ℕ) → length words ≡ n → IsOpened face o (table_part 0 (word_count o.shape) words)
-    → ((lane k : ℕ) → lane < o.shape.workers → k < block_size o.shape → get_or (table_part 0 (word_count o.shape) words) (block_start o.shape lane + k) 0 ≡ 0)
+    → ((i : ℕ) → record_start o.shape (opening_count o.shape) ≤ i → get_or (table_part 0 (word_count o.shape) words) i 0 ≡ 0)
     → ((i : ℕ) → word_count o.shape ≤ i → get_or words i 0 ≡ 0) → Ruled face o.shape (opening words [] (newcomer face record { opening = o; words = n }))
 first_opening face o n words long opened blank beside = let first : SeatView = newcomer face record { opening = o; words = n } in record {
   era = 0;

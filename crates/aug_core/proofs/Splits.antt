@@ -1,16 +1,15 @@
 -- A view hands its next lane out to a new view.
 use Rattle.std.proofs.Common.{true, false, ◌≡◌, ℕ, ◌+◌, ◌<◌, ◌⊎◌, inl, inr, List, [], ◌∷◌, ◌++◌, length, get_or, set, option_map, sym, refl, ap, ◌∙◌, subst, ⊎_elim, arith, Some, None}
 use Rattle.std.specs.Prelude.{unwrap_or}
-use Rattle.std.proofs.lemmas.List.FromFn.{length-map-range_with_len, get_or-map-range_with_len}
 use mathlib.Core.Option.{some, some-ne-none}
 use lib.ListN.{get_elem?}
 use Rattle.atomic_table.specs.Table.{Splits}
 use Rattle.atomic_table.proofs.Lists.{at_set}
-use Rattle.aug_core.specs.Places.{Shape, lane_place}
-use Rattle.aug_core.specs.Lanes.{block_start, block_size, word_of_state}
+use Rattle.aug_core.specs.Places.{Shape}
+use Rattle.aug_core.specs.Lanes.{new_lane}
 use Rattle.aug_core.specs.Opening.{Opening}
 use Rattle.aug_core.specs.Rule.{HoldsLane, Knows, Kept, no_beginning}
-use Rattle.aug_core.specs.Effects.{block_of, new_lane, handing_out, handed_out}
+use Rattle.aug_core.specs.Effects.{handing_out, handed_out}
 use Rattle.aug_core.specs.declared.view.Held.{Held}
 use Rattle.aug_core.specs.declared.view.SeatView.{SeatView}
 use Rattle.aug_core.proofs.Moves.{St}
@@ -18,18 +17,10 @@ use Rattle.aug_core.proofs.Books.{snoc_at}
 use Rattle.aug_core.proofs.Views.{now_there, stays_there, apart_on}
 use Rattle.aug_core.specs.Counts.{StandsAt}
 use Rattle.aug_core.specs.declared.view.Change.{Change}
-use Rattle.aug_core.specs.declared.view.LaneState.TheVariants.{Free}
 use Rattle.std.proofs.lemmas.Bool.{cases_eq}
 use Rattle.atomic_table.proofs.Lists.{at_longer}
 use Rattle.aug_core.proofs.Stores.{alone}
 use Rattle.aug_core.proofs.PrefixLemmas.{book_none}
-
--- the words of a lane's records in those of a table
-pub block_long : (s : Shape) (words : List ℕ) (lane : ℕ) → length (block_of s words lane) ≡ block_size s
-block_long s words lane = length-map-range_with_len (λ k. get_or words (block_start s lane + k) 0) 0 (block_size s)
-
-pub block_word : (s : Shape) (words : List ℕ) (lane k : ℕ) → k < block_size s → get_or (block_of s words lane) k 0 ≡ get_or words (block_start s lane + k) 0
-block_word s words lane k small = get_or-map-range_with_len (λ j. get_or words (block_start s lane + j) 0) 0 (block_size s) k k 0 small (omega arith)
 
 module _ (face : ℕ → ℕ → List (ℕ × ℕ) → List ℕ) (o : Opening) (s : St) (r : Kept face o s) (id : ℕ) (v : SeatView) (at : get_elem? s.views id ≡ some v) (live : v.live ≡ true) (n : ℕ) (spare : v.spare ≡ Some n) (room : n < o.shape.workers) where
   abbrev fresh : Held
@@ -60,8 +51,8 @@ module _ (face : ℕ → ℕ → List (ℕ × ℕ) → List ℕ) (o : Opening) (
       (λ t. absurd (t.0 (r.apart.one_lead i id m n x v t.1 at e spare))) (at_set s.views id i (handing_out v) x q))
       (λ t. let clash : None ≡ Some m = ap (λ (z : SeatView). z.spare) t.1 ∙ e in cc) (snoc_at (set s.views id (handing_out v)) newer x i p)
 
-  free : get_or s.words (lane_place o.shape n) 0 ≡ word_of_state Free
-  free = (r.each_view id v at).spares n n spare (omega arith) room
+  holds_new : HoldsLane o.shape s.words r.fate fresh
+  holds_new = (r.each_view id v at).spares n n spare (omega arith) room
 
   old_below : (i a : ℕ) (x : SeatView) (h : Held) → get_elem? s.views i ≡ some x → get_elem? x.held a ≡ some h → h.lane < n
   old_below i a x h p q = r.apart.handed_out id i a n v x h at p spare q
@@ -71,15 +62,6 @@ module _ (face : ℕ → ℕ → List (ℕ × ℕ) → List ℕ) (o : Opening) (
 
   in_new : (x : SeatView) (a : ℕ) (h : Held) → newer ≡ x → get_elem? x.held a ≡ some h → (a ≡ 0) × (fresh ≡ h)
   in_new x a h same p = alone fresh h a (subst (λ (z : SeatView). get_elem? z.held a ≡ some h) (sym same) p)
-
-  holds_new : HoldsLane o.shape s.words r.book fresh
-  holds_new = record {
-    exists = room;
-    state = free;
-    long = block_long o.shape v.words n;
-    exact = λ k small. (r.each_view id v at).blocks n n k spare (omega arith) room small ∙ sym (block_word o.shape v.words n k small);
-    published = λ q i e inner p of_lane. absurd (r.lanes.unused n q i e room free inner p of_lane);
-  }
 
   -- the changes stand where they stood
   stood : (i a k : ℕ) (c : Change) → StandsAt views i a k c → StandsAt s.views i a k c
@@ -102,10 +84,12 @@ module _ (face : ℕ → ℕ → List (ℕ × ℕ) → List ℕ) (o : Opening) (
   hands_out = let kn = r.each_view id v at in record {
     book = r.book;
     tree = r.tree;
-    lanes = r.lanes;
+    fate = r.fate;
+    fates = r.fates;
+    states = r.states;
     each_view = λ j u p. ⊎_elim
         (λ q. ⊎_elim
-        (λ t. subst (Knows o s.words r.book) t.1 record {
+        (λ t. subst (Knows o s.words r.fate r.book) t.1 record {
           shaped = kn.shaped;
           same_members = kn.same_members;
           saw = kn.saw;
@@ -113,18 +97,16 @@ module _ (face : ℕ → ℕ → List (ℕ × ℕ) → List ℕ) (o : Opening) (
           fresh = kn.fresh;
           holds = kn.holds;
           spares = λ m lane e le low. let same : Some (n + 1) ≡ Some m = ap (option_map (λ k. k + 1)) (sym spare) ∙ e in let is : n + 1 ≡ m = cc same in kn.spares n lane spare (omega arith) low;
-          blocks = λ m lane k e le low small. let same : Some (n + 1) ≡ Some m = ap (option_map (λ k. k + 1)) (sym spare) ∙ e in let is : n + 1 ≡ m = cc same in kn.blocks n lane k spare (omega arith) low small;
         })
         (λ t. r.each_view j u t.1) (at_set s.views id j (handing_out v) u q))
-        (λ t. subst (Knows o s.words r.book) t.1 record {
+        (λ t. subst (Knows o s.words r.fate r.book) t.1 record {
           shaped = kn.shaped;
           same_members = kn.same_members;
           saw = kn.saw;
           also_saw = book_none r.book;
           fresh = kn.fresh;
-          holds = λ a h q. subst (HoldsLane o.shape s.words r.book) (alone fresh h a q).1 holds_new;
+          holds = λ a h q. subst (HoldsLane o.shape s.words r.fate) (alone fresh h a q).1 holds_new;
           spares = λ m lane e le low. let clash : None ≡ Some m = e in cc;
-          blocks = λ m lane k e le low small. let clash : None ≡ Some m = e in cc;
         }) (snoc_at (set s.views id (handing_out v)) newer u j p);
     apart = apart_on s.views views (λ i a j b. (i ≡ j) × (a ≡ b)) (λ i a h. (i ≡ last) × (a ≡ 0) × (n ≡ h.lane)) r.apart record {
       came = λ i a x h p q. ⊎_elim
@@ -146,7 +128,7 @@ module _ (face : ℕ → ℕ → List (ℕ × ℕ) → List ℕ) (o : Opening) (
       tallied = let t = r.changes.tallied in record {
         long = t.long;
         each = λ i a x h p ph. ⊎_elim (λ old. t.each i a old.0 h old.1 (in_held x old.0 a h old.2 ph))
-            (λ new. subst (λ (z : Held). length z.changes ≡ get_or r.changes.tally z.lane 0) (in_new x a h new.1 ph).1 (sym (t.free n room free))) (came i x p);
+            (λ new. subst (λ (z : Held). length z.changes ≡ get_or r.changes.tally z.lane 0) (in_new x a h new.1 ph).1 (sym (t.free n room holds_new.state))) (came i x p);
         few = t.few;
         free = t.free;
         enough = t.enough;

@@ -5,8 +5,8 @@ use lib.ListN.{get_elem?}
 use prog.Atomic.{either}
 use Rattle.atomic_table.specs.Table.{Act, Valid, carried_after, step, keeps, stepped, Allows}
 use Rattle.atomic_table.proofs.Lists.{exchanged}
-use Rattle.aug_core.specs.Places.{Shape, lane_place}
-use Rattle.aug_core.specs.Lanes.{block_start, word_of_state}
+use Rattle.aug_core.specs.Places.{Shape, lane_place, record_start}
+use Rattle.aug_core.specs.Lanes.{word_of_state}
 use Rattle.aug_core.specs.Opening.{Opening}
 use Rattle.aug_core.specs.Rule.{HoldsLane, Kept}
 use Rattle.aug_core.specs.Kinds.{take_lane, finish_lane}
@@ -36,20 +36,14 @@ module _ (face : ℕ → ℕ → List (ℕ × ℕ) → List ℕ) (o : Opening) w
     held : get_elem? v.held 0 ≡ some h
     held = subst (λ (z : List Held). get_elem? z 0 ≡ some h) (sym only) refl
 
-    mine : HoldsLane o.shape s.words r.book h
+    mine : HoldsLane o.shape s.words r.fate h
     mine = (r.each_view id v at).holds 0 h held
 
     pub found_state : get_or s.words place 0 ≡ word_of_state h.state
     found_state = mine.state
 
-    own : IsOwnWord face o s r id v at 0 h held mine.exists place (word_of_state state)
-    own = let low = mine.exists in record {
-      past_nodes = λ q low is. omega arith;
-      past_lanes = λ m low other is. other (omega arith);
-      past_blocks = λ m k low' other small is. omega arith;
-      unpublished = λ q j k e inner p small is. omega arith;
-      past_idle = λ m k few small is. omega arith;
-    }
+    own : IsOwnWord face o s r id v at 0 h held place (word_of_state state)
+    own = let low = mine.exists in record { past_nodes = λ q low is. omega arith; past_lanes = λ m low other is. other (omega arith); past_records = λ number k small other is. omega arith }
 
     stays : (j : ℕ) → j ≢ place → get_or after j 0 ≡ get_or s.words j 0
     stays j ne = get_or-set_other s.words place j (word_of_state state) 0 ne
@@ -58,14 +52,12 @@ module _ (face : ℕ → ℕ → List (ℕ × ℕ) → List ℕ) (o : Opening) w
     now = let low = mine.exists in let wide = r.tree.wide in get_or-set_same s.words place (word_of_state state) 0 (omega arith)
 
     pub restates : Kept face o record { words = after; homes = s.homes; views = set s.views id record v { held = lane' ∷ []; steps = steps } }
-    restates = let low = mine.exists in let moved = own_moves face o s r id v at 0 h held mine.exists place (word_of_state state) own (word_of_state state) now some_state last_state in
-        moves_on face o s r id v after r.book moved at record v { held = lane' ∷ []; steps = steps } (one_lane v h lane' v.seen steps only refl refl)
-        (knows_keeping face o s r id v after r.book moved at (lane' ∷ []) steps (λ a g p. subst (HoldsLane o.shape after r.book) (alone lane' g a p).1 record {
+    restates = let low = mine.exists in let moved = own_moves face o s r id v at 0 h held place (word_of_state state) own (word_of_state state) now some_state last_state in
+        moves_on face o s r id v after r.book r.fate moved at record v { held = lane' ∷ []; steps = steps } (one_lane v h lane' v.seen steps only refl refl)
+        (knows_keeping face o s r id v after r.book r.fate moved at (lane' ∷ []) steps (λ a g p. subst (HoldsLane o.shape after r.fate) (alone lane' g a p).1 record {
           exists = mine.exists;
           state = now;
-          long = mine.long;
-          exact = λ k small. stays (block_start o.shape h.lane + k) (λ is. omega arith) ∙ mine.exact k small;
-          published = mine.published;
+          owns = λ x t. let old = mine.owns x t in record { exists = old.exists; long = old.long; exact = λ k small. stays (record_start o.shape x.number + k) (λ is. omega arith) ∙ old.exact k small; fate_is = old.fate_is };
         })) (λ key low'. refl)
 
   -- what a seat does where it found a word i, which becomes x

@@ -1,22 +1,23 @@
 -- A store of a word of an unpublished record of the seat's own lane keeps the rule.
-use Rattle.std.proofs.Common.{true, ◌≡◌, ℕ, zero, suc, ◌+◌, ◌-◌, ◌*◌, ◌<◌, ◌≢◌, List, [], ◌∷◌, ◌++◌, get_or, set, sym, refl, ap, ◌∙◌, subst, ⊎_elim, arith, length-set, get_or-set_other, get_or-set_same}
+use Rattle.std.proofs.Common.{true, ◌≡◌, ℕ, zero, suc, ◌+◌, ◌<◌, List, [], ◌∷◌, ◌++◌, length, get_or, set, sym, refl, ap, ◌∙◌, subst, arith, get_or-set_other}
 use Rattle.std.proofs.lemmas.Bool.{cases_eq}
 use mathlib.Core.Option.{none, some, some-injective, some-ne-none}
 use lib.ListN.{get_elem?}
 use Rattle.atomic_table.specs.Table.{step, keeps, Allows}
 use Rattle.aug_core.specs.Places.{Shape, lane_place, record_start, record_words}
-use Rattle.aug_core.specs.Lanes.{first_record, IsOfLane, block_start, word_of_state}
+use Rattle.aug_core.specs.Lanes.{word_of_state}
 use Rattle.aug_core.specs.Opening.{Opening}
-use Rattle.aug_core.specs.Rule.{Lists, HoldsLane, Kept}
+use Rattle.aug_core.specs.Rule.{Lists, OwnsRecord, HoldsLane, Kept}
 use Rattle.aug_core.specs.Kinds.{store_record_word}
-use Rattle.aug_core.specs.Effects.{Sat, on_first, with_word, HoldsOnly, MayStore, storing, stored_record}
+use Rattle.aug_core.specs.Effects.{Sat, on_first, with_word, storing_in, HoldsOnly, MayStore, storing, stored_record}
 use Rattle.aug_core.specs.inside.EraSteps.{WithEra}
 use Rattle.aug_core.specs.inside.LaneStates.{HasTakenLane}
 use Rattle.aug_core.specs.declared.step.StepTaken.{StepTaken}
 use Rattle.aug_core.specs.declared.view.Held.{Held}
 use Rattle.aug_core.specs.declared.view.LaneState.TheVariants.{Taken}
+use Rattle.aug_core.specs.declared.view.Owned.{Owned}
 use Rattle.aug_core.specs.declared.view.SeatView.{SeatView}
-use Rattle.aug_core.proofs.Sizes.{in_block, block_inside, blocks_apart}
+use Rattle.aug_core.proofs.Owning.{listed_map, records_apart, record_inside, with_long, with_exact}
 use Rattle.aug_core.proofs.Views.{Repeats}
 use Rattle.aug_core.proofs.Moves.{St, IsOwnWord, own_moves, moves_on, knows_keeping}
 use Rattle.aug_core.specs.Book.{Book}
@@ -44,74 +45,66 @@ pub is_taken : (v : SeatView) (h : Held) → HoldsOnly v h → HasTakenLane v �
 is_taken v h only has = ap (λ (z : Held). z.state) (one_held v h has.lane only has.only) ∙ has.taken
 
 module _ (face : ℕ → ℕ → List (ℕ × ℕ) → List ℕ) (o : Opening) where
-  module _ (s : St) (r : Kept face o s) (id : ℕ) (v : SeatView) (at : get_elem? s.views id ≡ some v) (h : Held) (only : v.held ≡ h ∷ []) (taken : h.state ≡ Taken) (number field x : ℕ)
-      (of_lane : IsOfLane o.shape h.lane number) (unpublished : Lists h.published number → ⊥) (small : field < record_words) (steps : List StepTaken) where
-    abbrev offset : ℕ
-    offset = record_words * (number - first_record o.shape h.lane) + field
-
+  module _ (s : St) (r : Kept face o s) (id : ℕ) (v : SeatView) (at : get_elem? s.views id ≡ some v) (h : Held) (only : v.held ≡ h ∷ []) (taken : h.state ≡ Taken) (x : Owned) (listed : Lists h.owned x) (field value : ℕ)
+      (small : field < record_words) (steps : List StepTaken) where
     abbrev place : ℕ
-    place = record_start o.shape number + field
+    place = record_start o.shape x.number + field
 
     abbrev after : List ℕ
-    after = set s.words place x
+    after = set s.words place value
 
     abbrev lane' : Held
-    lane' = record h { words = set h.words offset x }
+    lane' = storing_in o.shape place value h
 
     held : get_elem? v.held 0 ≡ some h
     held = subst (λ (z : List Held). get_elem? z 0 ≡ some h) (sym only) refl
 
-    mine : HoldsLane o.shape s.words r.book h
+    mine : HoldsLane o.shape s.words r.fate h
     mine = (r.each_view id v at).holds 0 h held
 
-    own : IsOwnWord face o s r id v at 0 h held mine.exists place x
-    own = let b = in_block o.shape h.lane number field of_lane small in record {
+    inside : place < length s.words
+    inside = let wide = r.tree.wide in let b = record_inside o.shape x.number field (mine.owns x listed).exists small in omega arith
+
+    own : IsOwnWord face o s r id v at 0 h held place value
+    own = record {
       past_nodes = λ q low is. omega arith;
       past_lanes = λ m low other is. omega arith;
-      past_blocks = λ m k low other small' is. blocks_apart o.shape m h.lane k offset other small' b.1 (is ∙ b.0);
-      past_idle = λ m k low small' is. let from = of_lane.from_first in omega arith;
-      unpublished = λ q j k e inner p small' is. let same : e.number ≡ number = omega arith in
-          unpublished (subst (Lists h.published) same (mine.published q j e inner p (subst (IsOfLane o.shape h.lane) (sym same) of_lane)));
+      past_records = λ number k small' other. records_apart o.shape number x.number k field (λ is. other (ap r.fate is ∙ (mine.owns x listed).fate_is)) small' small;
     }
 
-    stays : (j : ℕ) → j ≢ place → get_or after j 0 ≡ get_or s.words j 0
-    stays j ne = get_or-set_other s.words place j x 0 ne
-
     state_stays : get_or after (lane_place o.shape h.lane) 0 ≡ word_of_state Taken
-    state_stays = let low = mine.exists in stays (lane_place o.shape h.lane) (λ is. omega arith) ∙ mine.state ∙ ap word_of_state taken
+    state_stays = let low = mine.exists in get_or-set_other s.words place (lane_place o.shape h.lane) value 0 (λ is. omega arith) ∙ mine.state ∙ ap word_of_state taken
 
-    holds_it : HoldsLane o.shape after r.book lane'
-    holds_it = let b = in_block o.shape h.lane number field of_lane small in record {
+    holds_it : HoldsLane o.shape after r.fate lane'
+    holds_it = record {
       exists = mine.exists;
       state = state_stays ∙ sym (ap word_of_state taken);
-      long = length-set h.words offset x ∙ mine.long;
-      exact = λ k small'. let long = mine.long in let inside = block_inside o.shape h.lane offset mine.exists b.1 in let wide = r.tree.wide in ⊎_elim
-          (λ (same : k ≡ offset). subst (λ (z : ℕ). get_or after z 0 ≡ get_or (set h.words offset x) k 0) (let e = b.0 in let is : place ≡ block_start o.shape h.lane + k = omega arith in is)
-          (get_or-set_same s.words place x 0 (let e = b.0 in omega arith) ∙ subst (λ (z : ℕ). x ≡ get_or (set h.words offset x) z 0) (sym same) (sym (get_or-set_same h.words offset x 0 (omega arith)))))
-          (λ other. stays (block_start o.shape h.lane + k) (λ is. other (let e = b.0 in omega arith)) ∙ mine.exact k small' ∙ sym (get_or-set_other h.words offset k x 0 other)) (cases_eq k offset);
-      published = mine.published;
+      owns = λ y t. let was = listed_map (with_word o.shape place value) h.owned y t in let old = mine.owns was.0 was.1 in subst (OwnsRecord o.shape after r.fate h.lane) was.2 record {
+        exists = old.exists;
+        long = with_long o.shape place value was.0 ∙ old.long;
+        exact = with_exact o.shape s.words place value was.0 inside old.long old.exact;
+        fate_is = old.fate_is;
+      };
     }
 
     pub writes : Kept face o record { words = after; homes = s.homes; views = set s.views id record v { held = lane' ∷ []; steps = steps } }
-    writes = let moved = own_moves face o s r id v at 0 h held mine.exists place x own 1 state_stays (omega arith) (omega arith) in
-        moves_on face o s r id v after r.book moved at record v { held = lane' ∷ []; steps = steps } (one_lane v h lane' v.seen steps only refl refl)
-        (knows_keeping face o s r id v after r.book moved at (lane' ∷ []) steps (λ a g p. subst (HoldsLane o.shape after r.book) (alone lane' g a p).1 holds_it)) (λ key low. refl)
+    writes = let moved = own_moves face o s r id v at 0 h held place value own 1 state_stays (omega arith) (omega arith) in
+        moves_on face o s r id v after r.book r.fate moved at record v { held = lane' ∷ []; steps = steps } (one_lane v h lane' v.seen steps only refl refl)
+        (knows_keeping face o s r id v after r.book r.fate moved at (lane' ∷ []) steps (λ a g p. subst (HoldsLane o.shape after r.fate) (alone lane' g a p).1 holds_it)) (λ key low. refl)
 
   pub stores_record_word : (n id place number field x : ℕ) (me : Sat) → me.0.live ≡ true → me.1 ≡ [] → HasTakenLane me.0 → MayStore me.0 number → field < record_words → place ≡ record_start me.0.shape number + field
       → Allows (Kept face o) n id me place (λ _. x) (WithEra me (λ _ m. stored_record (step n place x 0 none) me x m))
   stores_record_word n id place number field x me live empty has may small is s r _ at _ =
       let v : SeatView = me.0 in let h : Held = may.lane in let kn = r.each_view id v at in let shaped : v.shape ≡ o.shape = kn.shaped live in
-      let of_lane : IsOfLane o.shape h.lane number = subst (λ (z : Shape). IsOfLane z h.lane number) shaped may.of_lane in
-      let is' : place ≡ record_start o.shape number + field = is ∙ ap (λ (z : Shape). record_start z number + field) shaped in
-      let b = (in_block o.shape h.lane number field of_lane small).0 in let steps : List StepTaken = v.steps ++ store_record_word place x ∷ [] in
-      let off : place - block_start o.shape h.lane ≡ record_words * (number - first_record o.shape h.lane) + field = omega arith in
-      let held : on_first (with_word v.shape place x) v.held ≡ record h { words = set h.words (record_words * (number - first_record o.shape h.lane) + field) x } ∷ [] =
-      ap (on_first (with_word v.shape place x)) may.only ∙ ap (λ (z : Shape). record h { words = set h.words (place - block_start z h.lane) x } ∷ []) shaped ∙ ap (λ (z : ℕ). record h { words = set h.words z x } ∷ []) off in (
+      let is' : place ≡ record_start o.shape may.own.number + field = is ∙ (λ i. record_start (shaped i) (sym may.numbered i) + field) in
+      let steps : List StepTaken = v.steps ++ store_record_word place x ∷ [] in
+      let held : on_first (storing_in v.shape place x) v.held ≡ storing_in o.shape (record_start o.shape may.own.number + field) x h ∷ [] =
+      ap (on_first (storing_in v.shape place x)) may.only ∙ (λ i. storing_in (shaped i) (is' i) x h ∷ []) in (
         storing v place x,
         keeps,
         tt,
         subst (λ (z : List Held). Kept face o record { words = set s.words place x; homes = s.homes; views = set s.views id record v { held = z; steps = steps } }) (sym held)
-            (subst (λ (z : ℕ). Kept face o record { words = set s.words z x; homes = s.homes; views = set s.views id record v { held = record h { words = set h.words (record_words * (number - first_record o.shape h.lane) + field) x } ∷ []; steps = steps } }) (sym is')
-            (writes s r id v at h may.only (is_taken v h may.only has) number field x of_lane may.unpublished small steps)),
-        ((empty, refl), record { live = refl; era = refl; past = refl; shape = refl; members = refl; told = refl; base = refl; whole = refl; led = λ m e. (m, e) }, record { reads = refl; lent = refl; leads = λ m e. (m, e); works = still_works (with_word v.shape place x) v (storing v place x) refl refl }),
+            (subst (λ (z : ℕ). Kept face o record { words = set s.words z x; homes = s.homes; views = set s.views id record v { held = storing_in o.shape (record_start o.shape may.own.number + field) x h ∷ []; steps = steps } }) (sym is')
+            (writes s r id v at h may.only (is_taken v h may.only has) may.own may.listed field x small steps)),
+        ((empty, refl), record { live = refl; era = refl; past = refl; shape = refl; members = refl; told = refl; base = refl; whole = refl; led = λ m e. (m, e) }, record { reads = refl; lent = refl; leads = λ m e. (m, e); works = still_works (storing_in v.shape place x) v (storing v place x) refl refl }),
       )

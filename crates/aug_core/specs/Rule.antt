@@ -1,27 +1,45 @@
 -- The rule of a table that was opened once: what its words and the views of its seats are between any two atomic steps. A view is what a seat knows:
--- a prefix of the book, the lanes that it holds with all words of their records, which of these were published, which changes were accepted from it,
--- and its steps. `Kept` is made of parts, each about one thing. A seat that is dropped leaves its view behind, and the rule holds with it. In the
--- example it says that the word at 4 is the number of the newest entry of node 4, and that the words of that record are the entry's.
-use Rattle.std.specs.Prelude.{◌≡◌, ℕ, ◌+◌, ◌<◌, ◌≤◌, List, [], length, slice_index, Some, None, true, false, replicate}
+-- a prefix of the book, the lanes that it holds with the records that each owns, which changes were accepted from it, and its steps. `Kept` is made of
+-- parts, each about one thing. A seat that is dropped leaves its view behind, and the rule holds with it. In the example it says that the word at 4 is
+-- the number of the newest entry of node 4, that this record stands there, and that its words are the entry's.
+use Rattle.std.specs.Prelude.{◌≡◌, ◌⊎◌, ℕ, ◌+◌, ◌<◌, ◌≤◌, List, [], length, slice_index, Some, None, true, false, replicate}
 use mathlib.Core.Option.{some}
 use lib.ListN.{get_elem?}
 use Rattle.atomic_table.specs.Table.{State}
-use Rattle.aug_core.specs.Places.{Shape, lane_place, record_start, word_count, record_words}
+use Rattle.aug_core.specs.Places.{Shape, lane_place, opening_count, record_start, record_count, word_count, record_words}
 use Rattle.aug_core.specs.Addresses.{place_count, IsInner}
-use Rattle.aug_core.specs.Lanes.{IsOfLane, block_start, block_size, word_of_state}
+use Rattle.aug_core.specs.Lanes.{new_lane, word_of_state}
 use Rattle.aug_core.specs.Book.{Book, At, IsNewest, ArePrefixes, IsFresh, IsBook}
 use Rattle.aug_core.specs.Opening.{Opening, IsIdle, shared_words, opening_book}
 use Rattle.aug_core.specs.Counts.{AreCounted, AreTallied}
 use Rattle.aug_core.specs.declared.view.Beginning.{Beginning}
 use Rattle.aug_core.specs.declared.view.Entry.{Entry}
 use Rattle.aug_core.specs.declared.view.Held.{Held}
-use Rattle.aug_core.specs.declared.view.LaneState.TheVariants.{Free, Ended}
+use Rattle.aug_core.specs.declared.view.LaneState.TheVariants.{Ended}
+use Rattle.aug_core.specs.declared.view.Owned.{Owned}
 use Rattle.aug_core.specs.declared.opening.TableKey.{TableKey}
 use Rattle.aug_core.specs.declared.view.SeatView.{SeatView}
 
--- the number stands in the list
-abbrev pub Lists : List ℕ → ℕ → Type 0
-Lists numbers number = (i : ℕ) × (get_elem? numbers i ≡ some number)
+-- it stands in the list
+abbrev pub Lists : {A : Type 0} → List A → A → Type 0
+Lists {A} list x = (i : ℕ) × (get_elem? list i ≡ some x)
+
+-- what became of a record: it is an opening record; it stands in the history of a node, at an index; or a lane owns it
+pub data Fate : Type 0 where
+  at_opening : Fate
+  standing : ℕ → ℕ → Fate
+  owned_by : ℕ → Fate
+
+-- a record of this fate stands in the history of the word q at the index i. An opening record does so as the first entry of any node
+abbrev pub StandsAs : Fate → ℕ → ℕ → Type 0
+StandsAs f q i = (f ≡ standing q i) ⊎ ((f ≡ at_opening) × (i ≡ 0))
+
+-- each record has one fate
+pub record HaveFates (s : Shape) (fate : ℕ → Fate) (book : Book) : Type 0 where
+  -- the opening records are those with the lowest numbers
+  pub opened : (number : ℕ) → number < opening_count s → fate number ≡ at_opening
+  -- what the book says of an inner node stands there
+  pub entries : (q i : ℕ) (e : Entry) → IsInner s q → At book q i e → StandsAs (fate e.number) q i
 
 -- the word of a leaf or a node is the one that names its newest entry, which is not passed over
 pub record NamesNewest (words : List ℕ) (book : Book) (q : ℕ) : Type 0 where
@@ -31,24 +49,28 @@ pub record NamesNewest (words : List ℕ) (book : Book) (q : ℕ) : Type 0 where
   pub word : slice_index words q ≡ entry.word
   pub shown : entry.passed ≡ false
 
--- the words of a lane's records
-abbrev pub BlockIs : Shape → List ℕ → ℕ → List ℕ → Type 0
-BlockIs s words lane block = (k : ℕ) → k < block_size s → slice_index words (block_start s lane + k) ≡ slice_index block k
+-- the words of a record
+abbrev pub HasWords : Shape → List ℕ → ℕ → List ℕ → Type 0
+HasWords s words number of = (k : ℕ) → k < record_words → slice_index words (record_start s number + k) ≡ slice_index of k
+
+-- what holds for a record that a lane owns: the table has it, with these words, and it is that lane's alone
+pub record OwnsRecord (s : Shape) (words : List ℕ) (fate : ℕ → Fate) (lane : ℕ) (x : Owned) : Type 0 where
+  pub exists : x.number < record_count s
+  pub long : length x.words ≡ record_words
+  pub exact : HasWords s words x.number x.words
+  pub fate_is : fate x.number ≡ owned_by lane
 
 -- what holds for a lane that a view holds
-pub record HoldsLane (s : Shape) (words : List ℕ) (book : Book) (h : Held) : Type 0 where
+pub record HoldsLane (s : Shape) (words : List ℕ) (fate : ℕ → Fate) (h : Held) : Type 0 where
   -- it is one of the table's
   pub exists : h.lane < s.workers
   -- its word is as the view has it
   pub state : slice_index words (lane_place s h.lane) ≡ word_of_state h.state
-  -- the view has all words of its records, which nobody else writes
-  pub long : length h.words ≡ block_size s
-  pub exact : BlockIs s words h.lane h.words
-  -- the view knows which of its records were published
-  pub published : (q i : ℕ) (e : Entry) → IsInner s q → At book q i e → IsOfLane s h.lane e.number → Lists h.published e.number
+  -- and so are the records that it owns
+  pub owns : (x : Owned) → Lists h.owned x → OwnsRecord s words fate h.lane x
 
 -- what holds for each view
-pub record Knows (o : Opening) (words : List ℕ) (book : Book) (v : SeatView) : Type 0 where
+pub record Knows (o : Opening) (words : List ℕ) (fate : ℕ → Fate) (book : Book) (v : SeatView) : Type 0 where
   -- a view of a seat that was not joined knows how the table is laid out
   pub shaped : v.live ≡ true → v.shape ≡ o.shape
   -- and which keys it opened with
@@ -60,11 +82,9 @@ pub record Knows (o : Opening) (words : List ℕ) (book : Book) (v : SeatView) :
   -- an entry that came after what the view has seen was published when the children showed at least what the view has seen of them
   pub fresh : IsFresh o.shape book v.seen
   -- each lane that it holds is as it has it
-  pub holds : (a : ℕ) (h : Held) → get_elem? v.held a ≡ some h → HoldsLane o.shape words book h
-  -- the lanes that it may still hand out are free
-  pub spares : (n lane : ℕ) → v.spare ≡ Some n → n ≤ lane → lane < o.shape.workers → slice_index words (lane_place o.shape lane) ≡ word_of_state Free
-  -- and their records hold what they held when it opened the table
-  pub blocks : (n lane k : ℕ) → v.spare ≡ Some n → n ≤ lane → lane < o.shape.workers → k < block_size o.shape → slice_index words (block_start o.shape lane + k) ≡ slice_index v.words (block_start o.shape lane + k)
+  pub holds : (a : ℕ) (h : Held) → get_elem? v.held a ≡ some h → HoldsLane o.shape words fate h
+  -- the lanes that it may still hand out are free, and their records hold what they held when it opened the table
+  pub spares : (n lane : ℕ) → v.spare ≡ Some n → n ≤ lane → lane < o.shape.workers → HoldsLane o.shape words fate (new_lane o.shape v.words lane)
 
 -- the words of the leaves, of the nodes and of the published records are as the book says
 pub record KeepsTree (face : ℕ → ℕ → List (ℕ × ℕ) → List ℕ) (o : Opening) (words : List ℕ) (book : Book) : Type 0 where
@@ -75,19 +95,12 @@ pub record KeepsTree (face : ℕ → ℕ → List (ℕ × ℕ) → List ℕ) (o 
   pub opened : ArePrefixes (opening_book face o) book
   -- the word of a leaf or a node is the one that names its newest entry
   pub newest : (q : ℕ) → q < place_count o.shape → NamesNewest words book q
-  -- the words of a published record are those of its entry, and never change
-  pub written : (q i k : ℕ) (e : Entry) → IsInner o.shape q → At book q i e → k < record_words → slice_index words (record_start o.shape e.number + k) ≡ slice_index e.words k
+  -- the words of a record that stands are those of its entry
+  pub written : (q i : ℕ) (e : Entry) → IsInner o.shape q → At book q i e → HasWords o.shape words e.number e.words
   -- the words of a level's empty record are `shared_words`, even if no node opens with it
-  pub shared : (level k : ℕ) → level < o.shape.bits → k < record_words → slice_index words (record_start o.shape level + k) ≡ slice_index (shared_words face level) k
+  pub shared : (level : ℕ) → level < o.shape.bits → HasWords o.shape words level (shared_words face level)
   -- the words of an own opening record that no node opens with are zeros
   pub idle : (number k : ℕ) → IsIdle o number → k < record_words → slice_index words (record_start o.shape number + k) ≡ 0
-
--- the lanes' words, and the records of the lanes that are free
-pub record KeepsLanes (o : Opening) (words : List ℕ) (book : Book) : Type 0 where
-  -- a lane is free, taken or ended
-  pub states : (lane : ℕ) → lane < o.shape.workers → slice_index words (lane_place o.shape lane) ≤ word_of_state Ended
-  -- no record of a free lane was published
-  pub unused : (lane q i : ℕ) (e : Entry) → lane < o.shape.workers → slice_index words (lane_place o.shape lane) ≡ word_of_state Free → IsInner o.shape q → At book q i e → IsOfLane o.shape lane e.number → ⊥
 
 -- which view holds which lane
 pub record AreApart (views : List SeatView) : Type 0 where
@@ -111,10 +124,13 @@ pub record Kept (face : ℕ → ℕ → List (ℕ × ℕ) → List ℕ) (o : Ope
   pub book : Book
   -- the words of the tree are as the book says
   pub tree : KeepsTree face o s.words book
-  -- the lanes' words and the records of free lanes
-  pub lanes : KeepsLanes o s.words book
+  -- each record has one fate
+  pub fate : ℕ → Fate
+  pub fates : HaveFates o.shape fate book
+  -- a lane is free, taken or ended
+  pub states : (lane : ℕ) → lane < o.shape.workers → slice_index s.words (lane_place o.shape lane) ≤ word_of_state Ended
   -- each view is right
-  pub each_view : (j : ℕ) (v : SeatView) → get_elem? s.views j ≡ some v → Knows o s.words book v
+  pub each_view : (j : ℕ) (v : SeatView) → get_elem? s.views j ≡ some v → Knows o s.words fate book v
   -- no two of them hold one lane
   pub apart : AreApart s.views
   -- all changes are counted

@@ -55,15 +55,19 @@ pub enum LaneState {
     Ended,
 }
 
+/// A record that a lane owns: no node names it, and only the lane's holder writes it.
+pub struct Owned {
+    pub number: u64,
+    pub words: LinkedList<u64>,
+}
+
 /// A lane that a view holds.
 pub struct Held {
     pub lane: u64,
     /// What the lane's word says.
     pub state: LaneState,
-    /// The words of the lane's records, which only its holder writes.
-    pub words: LinkedList<u64>,
-    /// The numbers of the lane's records that were published.
-    pub published: LinkedList<u64>,
+    /// The records that it owns.
+    pub owned: LinkedList<Owned>,
     /// The changes that were accepted from the lane's holder, the newest last.
     pub changes: LinkedList<Change>,
 }

@@ -8,7 +8,7 @@ use Rattle.aug_core.specs.Addresses.{IsInner}
 use Rattle.aug_core.specs.Lanes.{word_of_state}
 use Rattle.aug_core.specs.Book.{At}
 use Rattle.aug_core.specs.Eras.{IsAtWork, Ruled}
-use Rattle.aug_core.specs.Effects.{Sat, in_part, read_record, MayStore, stored_record, own_lane_place, took_lane, finished_lane, loaded_leaf, began_at_leaf, MayChange, old_word, new_word, IsAdvance, tried_leaf, loaded_node, IsFilled, tried_node}
+use Rattle.aug_core.specs.Effects.{Sat, in_part, read_record, MayStore, stored_record, own_lane_place, took_lane, finished_lane, loaded_leaf, began_at_leaf, MayChange, old_word, new_word, IsAdvance, KnowsSerial, tried_leaf, loaded_node, IsFilled, tried_node}
 use Rattle.aug_core.specs.inside.LaneStates.{MayTake, HasTakenLane}
 use Rattle.aug_core.specs.declared.view.Advance.{Advance}
 use Rattle.aug_core.specs.declared.view.Entry.{Entry}
@@ -52,10 +52,10 @@ module _ (face : ℕ → ℕ → List (ℕ × ℕ) → List ℕ) (shape : Shape)
   finishes_lane place i me live empty inside at has is = in_its_era face shape n id place i me (λ _. word_of_state Ended) (λ w _ m. finished_lane (step n w (word_of_state Ended) 0 none) me (word_of_state Ended) m)
       (holds_lane me.0 has.lane has.only) live inside at (λ o. state.finishes_lane face o n id place me live empty has is)
 
-  pub allows_leaf : (key i old new : ℕ) (b : Advance) (x : Entry) (me : Sat) → old ≡ old_word b → new ≡ new_word b → me.0.live ≡ true → me.1 ≡ [] → key < word_count me.0.shape → i ≡ me.0.base + key → key < 2 ^ me.0.shape.bits → HasTakenLane me.0 → MayChange me.0
-      → At me.0.seen key b.serial x → x.weight ≡ b.weight → IsAdvance b → Allows (Ruled face shape) n id me i (λ z. either (eqb z old) new z) (in_part (tried_leaf face) (step n i old new none) me)
-  allows_leaf key i old new b x me from to live empty inside at low has may known weighs is = in_its_era face shape n id key i me (λ z. either (eqb z old) new z) (λ w. tried_leaf face (step n w old new none) me)
-      (holds_lane me.0 has.lane has.only) live inside at (λ o. leaf.allows_leaf face o n id key old new b x me from to live empty low has may known weighs is)
+  pub allows_leaf : (key i old new : ℕ) (b : Advance) (me : Sat) → old ≡ old_word b → new ≡ new_word b → me.0.live ≡ true → me.1 ≡ [] → key < word_count me.0.shape → i ≡ me.0.base + key → key < 2 ^ me.0.shape.bits → HasTakenLane me.0 → MayChange me.0
+      → KnowsSerial me.0 key b → IsAdvance b → Allows (Ruled face shape) n id me i (λ z. either (eqb z old) new z) (in_part (tried_leaf face) (step n i old new none) me)
+  allows_leaf key i old new b me from to live empty inside at low has may known is = in_its_era face shape n id key i me (λ z. either (eqb z old) new z) (λ w. tried_leaf face (step n w old new none) me)
+      (holds_lane me.0 has.lane has.only) live inside at (λ o. leaf.allows_leaf face o n id key old new b me from to live empty low has may known is)
 
   pub tries_node : (q i old number : ℕ) (me : Sat) → me.0.live ≡ true → me.1 ≡ [] → q < word_count me.0.shape → i ≡ me.0.base + q → IsInner me.0.shape q → HasTakenLane me.0 → MayStore me.0 number → IsFilled face me.0 q old number
       → Allows (Ruled face shape) n id me i (λ x. either (eqb x old) number x) (in_part (tried_node face) (step n i old number none) me)

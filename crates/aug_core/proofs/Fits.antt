@@ -1,9 +1,9 @@
 -- No serial is past the updates of all workers, and what a step that shows the whole book tells.
-use Rattle.std.proofs.Common.{Option, ◌≡◌, ℕ, suc, ◌*◌, ◌<◌, ◌≤◌, Bool, true, false, if◌then◌else◌, List, [], ◌∷◌, length, get_or, All, sym, subst, ⊎_elim, ◌∙◌, arith, suc-mul, ap}
+use Rattle.std.proofs.Common.{Option, ◌≡◌, ℕ, suc, ◌*◌, ◌^◌, ◌<◌, ◌≤◌, Bool, true, false, if◌then◌else◌, List, [], ◌∷◌, length, get_or, All, sym, subst, ⊎_elim, ◌∙◌, arith, suc-mul, mul-le-mul_right, ap}
 use Rattle.std.specs.List.{sum_by}
 use Rattle.std.proofs.lemmas.List.Sums.{sum_by-cons}
 use Rattle.aug_core.specs.Places.{Shape}
-use Rattle.aug_core.specs.Book.{Book, ArePrefixes, IsFresh, NamesOnce, SerialsFit, IsBook}
+use Rattle.aug_core.specs.Book.{Book, history_of, ArePrefixes, IsFresh, NamesOnce, SerialsFit, IsBook}
 use Rattle.aug_model.specs.Keys.{is_member, keys_of}
 use Rattle.aug_monoid.specs.Weighted.{FitsPair}
 use Rattle.aug_core.specs.Opening.{Opening}
@@ -32,6 +32,15 @@ pub fits_book : (o : Opening) (words : List ℕ) (book : Book) (views : List Sea
 fits_book o words book views tally t = let all = few_in_all tally (2 * o.shape.updates) (λ i low. let long = t.long in t.few i (omega arith)) in
     let is : length tally * (2 * o.shape.updates) ≡ o.shape.workers * (2 * o.shape.updates) = ap (λ (z : ℕ). z * (2 * o.shape.updates)) t.long in
     record { few = λ key low. let e = t.enough key low in let one = at_most_one (is_member (keys_of o.members) key) in omega arith }
+
+-- then none is past the bits of a word
+pub record HasFewSerials (s : Shape) (book : Book) : Type 0 where
+  pub few : (key : ℕ) → key < 2 ^ s.bits → length (history_of book key) < 2 ^ 32
+
+pub few_serials : (s : Shape) (book : Book) → IsLayout s → SerialsFit s book → HasFewSerials s book
+few_serials s book laid fits = record {
+  few = λ key low. let l = fits.few key low in let w = laid.workers.1 in let u = laid.updates.1 in let m : s.workers * (2 * s.updates) ≤ 64 * (2 * s.updates) = mul-le-mul_right (2 * s.updates) w in omega arith;
+}
 
 -- where each record has one fate, a node names it once
 pub named_once : (s : Shape) (fate : ℕ → Fate) (book : Book) → HaveFates s fate book → NamesOnce s book

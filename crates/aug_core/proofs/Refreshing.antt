@@ -7,14 +7,15 @@ use Rattle.aug_core.specs.Book.{Book, history_of, At, ArePrefixes, IsFresh, IsBo
 use Rattle.aug_core.specs.inside.Refreshes.{HasEntry, HasNewest, NewestCovers, Published, Refreshed}
 use Rattle.aug_core.specs.declared.view.Entry.{Entry}
 use Rattle.aug_core.proofs.Sizes.{twice}
-use Rattle.aug_core.proofs.Books.{no_shorter, one_entry, same_index, newest_is_last, there_is, second_covers}
+use Rattle.aug_core.proofs.Fits.{HasFewSerials}
+use Rattle.aug_core.proofs.Books.{at_below, no_shorter, one_entry, same_index, newest_is_last, there_is, second_covers}
 use Rattle.aug_core.proofs.PrefixLemmas.{entry_stays}
 
 module _ (face : ℕ → ℕ → List (ℕ × ℕ) → List ℕ) (s : Shape) where
-  -- an entry's word names one entry of a history
-  pub same_word : (book : Book) → IsBook face s book → NamesOnce s book → (q i j : ℕ) (e f : Entry) → q < place_count s → At book q i e → At book q j f → e.word ≡ f.word → i ≡ j
-  same_word book b once q i j e f inside p p' same = ⊎_elim
-      (λ (leaf : q < 2 ^ s.bits). let x = b.serials q i e leaf p in let y = b.serials q j f leaf p' in let nx = x.named in let ny = y.named in let fx = x.fits in let fy = y.fits in omega arith)
+  -- an entry's word names one entry of a history, where no serial is past the bits of a word
+  pub same_word : (book : Book) → IsBook face s book → NamesOnce s book → HasFewSerials s book → (q i j : ℕ) (e f : Entry) → q < place_count s → At book q i e → At book q j f → e.word ≡ f.word → i ≡ j
+  same_word book b once few q i j e f inside p p' same = ⊎_elim
+      (λ (leaf : q < 2 ^ s.bits). let x = b.serials q i e leaf p in let y = b.serials q j f leaf p' in let nx = x.named in let ny = y.named in let fx = x.fits in let fy = y.fits in let l = few.few q leaf in let li = at_below (history_of book q) i e p in let lj = at_below (history_of book q) j f p' in omega arith)
       (λ (past : 2 ^ s.bits ≤ q). let inner : IsInner s q = record { past_leaves = past; inside = inside } in
       same_index face s book b once q i j e f inside p p' (sym (b.named q i e inner p) ∙ same ∙ b.named q j f inner p')) (cases_lt q (2 ^ s.bits))
 
@@ -59,11 +60,11 @@ module _ (face : ℕ → ℕ → List (ℕ × ℕ) → List ℕ) (s : Shape) whe
     }
 
     -- and the try covers what was seen before it, or the node has an entry more
-    pub refreshed : (seen : Book) (done : Bool) → IsBook face s book → NamesOnce s book → ArePrefixes seen book0 → Published s q old left_word right_word done book → Refreshed s seen q done book
-    refreshed seen done b once c0 p = record {
+    pub refreshed : (seen : Book) (done : Bool) → IsBook face s book → NamesOnce s book → HasFewSerials s book → ArePrefixes seen book0 → Published s q old left_word right_word done book → Refreshed s seen q done book
+    refreshed seen done b once few c0 p = record {
       covers = λ yes. let past = inner.past_leaves in let inside = inner.inside in let t = twice s.bits in
-          let left : p.entry.left ≡ at_left.index = same_word book b once (left_of s q) p.entry.left at_left.index p.left_child at_left.entry (omega arith) p.left_at left_at (p.left_is yes ∙ sym at_left.named) in
-          let right : p.entry.right ≡ at_right.index = same_word book b once (right_of s q) p.entry.right at_right.index p.right_child at_right.entry (omega arith) p.right_at right_at (p.right_is yes ∙ sym at_right.named) in record {
+          let left : p.entry.left ≡ at_left.index = same_word book b once few (left_of s q) p.entry.left at_left.index p.left_child at_left.entry (omega arith) p.left_at left_at (p.left_is yes ∙ sym at_left.named) in
+          let right : p.entry.right ≡ at_right.index = same_word book b once few (right_of s q) p.entry.right at_right.index p.right_child at_right.entry (omega arith) p.right_at right_at (p.right_is yes ∙ sym at_right.named) in record {
             index = p.index;
             entry = p.entry;
             newest = p.newest;

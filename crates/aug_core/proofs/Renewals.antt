@@ -11,7 +11,7 @@ use Rattle.aug_model.specs.Queries.{range_of, weight_in}
 use Rattle.aug_model.proofs.Pairs.{agrees-own, pairs-again, weight_fits, weight-none}
 use Rattle.aug_model.proofs.Ranges.{Rises, rises_from, all_below_from, range_cut, range_none, range_whole, range_clipped, range_of_key, is_member-counted}
 use Rattle.aug_core.specs.Places.{Shape, opening_count, record_start, word_count}
-use Rattle.aug_core.specs.Book.{Book}
+use Rattle.aug_core.specs.Book.{Book, word_of_leaf}
 use Rattle.aug_core.specs.Addresses.{IsInner, root_place}
 use Rattle.aug_core.specs.Opening.{Opening}
 use Rattle.aug_core.specs.Rule.{Lists, Fate, Knows, Kept, newcomer}
@@ -59,7 +59,7 @@ past_none bits keys is k past =
     is_member-counted keys k (rises_from keys is.rising) ∙ ap (λ (z : List ℕ). ltb 0 (length z)) none
 
 -- a leaf's word tells whether its key is a member, and what it weighs
-word_tells : (b c : Bool) (w x : ℕ) → w < 2 ^ 32 → x < 2 ^ 32 → (if b then 1 else 0) * 2 ^ 32 + w ≡ (if c then 1 else 0) * 2 ^ 32 + x → (b ≡ c) × (w ≡ x)
+word_tells : (b c : Bool) (w x : ℕ) → w < 2 ^ 32 → x < 2 ^ 32 → word_of_leaf (if b then 1 else 0) w ≡ word_of_leaf (if c then 1 else 0) x → (b ≡ c) × (w ≡ x)
 word_tells true true w x fits fits' e = (refl, omega arith)
 word_tells false false w x fits fits' e = (refl, omega arith)
 word_tells true false w x fits fits' e = absurd (omega arith)

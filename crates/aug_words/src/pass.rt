@@ -35,13 +35,13 @@ pub struct WordPass<'r, A: Monoid, B: Monoid> {
 impl<'r, A: Monoid, B: Monoid> Model for WordPass<'r, A, B> {
     ghost use Rattle.aug_core.specs.Faces.{face};
     ghost use Rattle.aug_words.specs.Seats.{Known};
-    ghost use Rattle.aug_words.specs.inside.SeatState.{SitsAt, IsPassSeat};
+    ghost use Rattle.aug_words.specs.inside.SeatState.{KeepsPass};
 
     ghost Value = { Known };
 
     ghost view = { λ p. record { table = p.seat.table_id; view = p.seat.me.0 } };
 
-    ghost invariant = { λ p. SitsAt p.seat.table_id p.words.now.table_id p.base p.lanes p.records p.seat.me.0 × IsPassSeat (face A.parts B.parts) p.lane p.lent p.seat.me };
+    ghost invariant = { λ p. KeepsPass (face A.parts B.parts) p.seat.table_id p.words.now.table_id p.base p.lanes p.records p.lane p.lent p.seat.me };
 }
 
 // The place of a word of a record.

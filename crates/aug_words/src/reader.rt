@@ -27,13 +27,13 @@ pub struct WordReader<A: Monoid, B: Monoid> {
 impl<A: Monoid, B: Monoid> Model for WordReader<A, B> {
     ghost use Rattle.aug_core.specs.Faces.{face};
     ghost use Rattle.aug_words.specs.Seats.{Known};
-    ghost use Rattle.aug_words.specs.inside.SeatState.{IsPlaced, IsReaderSeat};
+    ghost use Rattle.aug_words.specs.inside.SeatState.{KeepsReader};
 
     ghost Value = { Known };
 
     ghost view = { λ r. record { table = r.seat.table_id; view = r.seat.me.0 } };
 
-    ghost invariant = { λ r. IsPlaced r.seat.table_id r.base r.seat.me.0 × IsReaderSeat (face A.parts B.parts) r.seat.me };
+    ghost invariant = { λ r. KeepsReader (face A.parts B.parts) r.seat.table_id r.base r.seat.me };
 }
 
 impl<A: Monoid, B: Monoid> WordReader<A, B> {

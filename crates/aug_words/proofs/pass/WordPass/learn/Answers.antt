@@ -13,12 +13,12 @@ use Rattle.aug_words.proofs.Passes.{works_on}
 use Rattle.aug_words.proofs.pass.WordPass.learn.Goals as goal
 
 pub join_seat-requires : goal.join_seat-requires
-join_seat-requires g c = let seated = c.self.invariant.0.seated in (
+join_seat-requires g c = let seated = c.self.invariant.sits.seated in (
   seated,
   ap (λ (k : Known). k.table) c.note.view_is ∙ c.requires.table ∙ ap (λ (k : Known). k.table) (sym c.self.view_is) ∙ seated,
   c.note.invariant.no_slot,
-  pass_has_words _ _ _ _ _ _ _ _ _ c.self.invariant.0 c.self.invariant.1,
-  learns_in_its_era _ _ _ _ _ _ (works_on _ _ _ _ c.self.invariant.1) c.self.invariant.1.live c.note.invariant.live c.note.invariant.no_lane c.note.invariant.follows,
+  pass_has_words _ _ _ _ _ _ _ _ _ c.self.invariant,
+  learns_in_its_era _ _ _ _ _ _ (works_on _ _ _ _ c.self.invariant.seat) c.self.invariant.seat.live c.note.invariant.live c.note.invariant.no_lane c.note.invariant.follows,
 )
 
 pub returns-clause-learns : goal.returns-clause-learns

@@ -89,28 +89,24 @@ module _ (face : ℕ → ℕ → List (ℕ × ℕ) → List ℕ) where
     pub lends : LendsHere lent me.0.base me.0.lent
 
   -- a pass's seat sits at its table, and has its lane
-  pub record KeepsPass (seat_table table : TableId) (base lanes records lane lent : ℕ) (me : Sat) : Type 0 where
+  pub record HasPassSeat (seat_table table : TableId) (base lanes records lane lent : ℕ) (me : Sat) : Type 0 where
     pub sits : SitsAt seat_table table base lanes records me.0
     pub seat : IsPassSeat lane lent me
 
   -- that of a pass without its table has its place and its lane
-  pub record KeepsHalf (table : TableId) (base lane lent : ℕ) (me : Sat) : Type 0 where
+  pub record HasHalfSeat (table : TableId) (base lane lent : ℕ) (me : Sat) : Type 0 where
     pub placed : IsPlaced table base me.0
     pub seat : IsPassSeat lane lent me
 
-  -- what holds for the seat of a reader: it reads, holds no lane and hands none out, and knows its table
-  pub record IsReaderSeat (me : Sat) : Type 0 where
+  -- what holds for the seat of a reader: it has its place in its table, which it knows, reads, holds no lane and hands none out
+  pub record IsReaderSeat (table : TableId) (base : ℕ) (me : Sat) : Type 0 where
+    pub placed : IsPlaced table base me.0
     pub live : me.0.live ≡ true
     pub no_slot : me.1 ≡ []
     pub reads : me.0.reads ≡ true
     pub no_lane : me.0.held ≡ []
     pub follows : me.0.spare ≡ None
     pub knows : KnowsTable face me.0
-
-  -- it has its place in the table
-  pub record KeepsReader (table : TableId) (base : ℕ) (me : Sat) : Type 0 where
-    pub placed : IsPlaced table base me.0
-    pub seat : IsReaderSeat me
 
   -- what holds for the seat of a lead: it hands out the lanes from the next one on, knows its table, and has the number of the root's newest record
   pub record IsLeadSeat (next root : ℕ) (me : Sat) : Type 0 where

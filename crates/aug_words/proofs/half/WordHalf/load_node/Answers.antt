@@ -1,4 +1,4 @@
-use Rattle.std.proofs.Common.{ap, subst, sym, ◌+◌, ℕ, arith}
+use Rattle.std.proofs.Common.{ap, subst, sym, ◌+◌, ℕ, arith, rules}
 use Rattle.atomic_table.specs.Seated.{TableId}
 use Rattle.aug_core.specs.Faces.{face}
 use Rattle.aug_core.specs.Addresses.{IsInner}
@@ -22,7 +22,7 @@ invariant_of-self g c = let f = face g.A.Monoid.parts g.B.Monoid.parts in
     let p = pass_loaded_node f _ _ _ _ _ _ _ _ c.self.inside.seat.me c.load.new.seat.me (record { sits = sits; seat = c.self.invariant.seat }) c.load.ensures.0 c.args.node c.load.result told.0 (told.1 inner) in
     record { placed = subst (λ (z : TableId). IsPlaced z c.self.inside.base c.load.new.seat.me.0) (sym p.sits.seated) p.sits.placed; seat = p.seat }
 
-pub returns-clause-view : goal.returns-clause-view
-returns-clause-view g c = let f = face g.A.Monoid.parts g.B.Monoid.parts in
+pub returns : goal.returns
+returns g c = let f = face g.A.Monoid.parts g.B.Monoid.parts in
     let inner = subst (λ (k : Known). IsInner k.view.shape c.args.node) (sym c.self.view_is) c.requires.inner in
-    subst (λ (k : Known). LoadsNode f k.view c.args.node c.load.result c.load.new.seat.me.0) c.self.view_is ((c.load.ensures.2 c.args.node (ap (λ (z : ℕ). z + c.args.node) c.self.invariant.placed.base_is)).1 inner)
+    record { table = search rules; view = subst (λ (k : Known). LoadsNode f k.view c.args.node c.load.result c.load.new.seat.me.0) c.self.view_is ((c.load.ensures.2 c.args.node (ap (λ (z : ℕ). z + c.args.node) c.self.invariant.placed.base_is)).1 inner) }

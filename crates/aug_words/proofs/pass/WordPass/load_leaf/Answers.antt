@@ -1,4 +1,4 @@
-use Rattle.std.proofs.Common.{ap, subst, sym, ◌^◌, ◌+◌, ◌<◌, ℕ, arith}
+use Rattle.std.proofs.Common.{ap, subst, sym, ◌^◌, ◌+◌, ◌<◌, ℕ, arith, rules}
 use Rattle.aug_core.specs.Faces.{face}
 use Rattle.aug_core.specs.Effects.{LoadsLeaf}
 use Rattle.aug_core.proofs.EraSteps.{loads_leaf}
@@ -19,7 +19,7 @@ invariant_of-self g c = let m = g.A.Monoid in let n = g.B.Monoid in let f = face
     let told = c.load.ensures.2 c.args.leaf (ap (λ (z : ℕ). z + c.args.leaf) c.self.invariant.sits.placed.base_is) in
     pass_loaded_leaf f _ _ _ _ _ _ _ _ c.self.inside.seat.me c.load.new.seat.me c.self.invariant c.load.ensures.0 c.args.leaf c.load.result told.0 (told.1 low)
 
-pub returns-clause-view : goal.returns-clause-view
-returns-clause-view g c = let m = g.A.Monoid in let n = g.B.Monoid in let f = face m.parts n.parts in
+pub returns : goal.returns
+returns g c = let m = g.A.Monoid in let n = g.B.Monoid in let f = face m.parts n.parts in
     let low = subst (λ (k : Known). c.args.leaf < 2 ^ k.view.shape.bits) (sym c.self.view_is) c.requires in
-    subst (λ (k : Known). LoadsLeaf f k.view c.args.leaf c.load.result c.load.new.seat.me.0) c.self.view_is ((c.load.ensures.2 c.args.leaf (ap (λ (z : ℕ). z + c.args.leaf) c.self.invariant.sits.placed.base_is)).1 low)
+    record { table = search rules; view = subst (λ (k : Known). LoadsLeaf f k.view c.args.leaf c.load.result c.load.new.seat.me.0) c.self.view_is ((c.load.ensures.2 c.args.leaf (ap (λ (z : ℕ). z + c.args.leaf) c.self.invariant.sits.placed.base_is)).1 low) }

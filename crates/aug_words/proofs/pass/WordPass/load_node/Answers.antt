@@ -1,4 +1,4 @@
-use Rattle.std.proofs.Common.{ap, subst, sym, ◌+◌, ℕ, arith}
+use Rattle.std.proofs.Common.{ap, subst, sym, ◌+◌, ℕ, arith, rules}
 use Rattle.aug_core.specs.Faces.{face}
 use Rattle.aug_core.specs.Addresses.{IsInner}
 use Rattle.aug_core.specs.Effects.{LoadsNode}
@@ -19,7 +19,7 @@ invariant_of-self g c = let m = g.A.Monoid in let n = g.B.Monoid in let f = face
     let told = c.load.ensures.2 c.args.node (ap (λ (z : ℕ). z + c.args.node) c.self.invariant.sits.placed.base_is) in
     pass_loaded_node f _ _ _ _ _ _ _ _ c.self.inside.seat.me c.load.new.seat.me c.self.invariant c.load.ensures.0 c.args.node c.load.result told.0 (told.1 inner)
 
-pub returns-clause-view : goal.returns-clause-view
-returns-clause-view g c = let m = g.A.Monoid in let n = g.B.Monoid in let f = face m.parts n.parts in
+pub returns : goal.returns
+returns g c = let m = g.A.Monoid in let n = g.B.Monoid in let f = face m.parts n.parts in
     let inner = subst (λ (k : Known). IsInner k.view.shape c.args.node) (sym c.self.view_is) c.requires in
-    subst (λ (k : Known). LoadsNode f k.view c.args.node c.load.result c.load.new.seat.me.0) c.self.view_is ((c.load.ensures.2 c.args.node (ap (λ (z : ℕ). z + c.args.node) c.self.invariant.sits.placed.base_is)).1 inner)
+    record { table = search rules; view = subst (λ (k : Known). LoadsNode f k.view c.args.node c.load.result c.load.new.seat.me.0) c.self.view_is ((c.load.ensures.2 c.args.node (ap (λ (z : ℕ). z + c.args.node) c.self.invariant.sits.placed.base_is)).1 inner) }

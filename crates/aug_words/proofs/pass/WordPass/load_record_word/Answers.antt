@@ -1,4 +1,4 @@
-use Rattle.std.proofs.Common.{refl, subst, sym, ◌+◌, ℕ, arith}
+use Rattle.std.proofs.Common.{refl, subst, sym, ◌+◌, ℕ, arith, rules}
 use Rattle.aug_core.specs.Places.{record_start}
 use Rattle.aug_core.specs.Fields.{field_offset}
 use Rattle.aug_core.proofs.EraSteps.{loads_record_word}
@@ -22,10 +22,8 @@ pub invariant_of-self : goal.invariant_of-self
 invariant_of-self g c = let begins = c.self.invariant.sits.records_are in let at = c.record_word-place.ensures in let place : ℕ = record_start c.self.inside.seat.me.0.shape c.args.number + c.offset.result in
     pass_loaded _ _ _ _ _ _ _ _ _ c.self.inside.seat.me c.load.new.seat.me c.self.invariant c.load.ensures.0 place c.load.result (c.load.ensures.2 place (omega arith))
 
-pub returns-clause-view : goal.returns-clause-view
-returns-clause-view g c =
-    let begins = c.self.invariant.sits.records_are in let at = c.record_word-place.ensures in
+pub returns : goal.returns
+returns g c = let begins = c.self.invariant.sits.records_are in let at = c.record_word-place.ensures in
     let place : ℕ = record_start c.self.inside.seat.me.0.shape c.args.number + c.offset.result in
     let told = tells c.self.inside.seat.me.0 c.load.new.seat.me.0 place c.args.number c.offset.result c.load.result c.offset.ensures.small refl (c.load.ensures.2 place (omega arith)).1 in
-    subst (λ (k : Known). LoadsRecordWord k.view c.args.number (field_offset c.args.field) c.load.result c.load.new.seat.me.0) c.self.view_is
-    (subst (λ (z : ℕ). LoadsRecordWord c.self.inside.seat.me.0 c.args.number z c.load.result c.load.new.seat.me.0) c.offset.ensures.value told)
+    record { table = search rules; view = subst (λ (k : Known). LoadsRecordWord k.view c.args.number (field_offset c.args.field) c.load.result c.load.new.seat.me.0) c.self.view_is (subst (λ (z : ℕ). LoadsRecordWord c.self.inside.seat.me.0 c.args.number z c.load.result c.load.new.seat.me.0) c.offset.ensures.value told) }

@@ -21,7 +21,7 @@ invariant_of-self g c = let m = g.A.Monoid in let n = g.B.Monoid in let f = face
     let told = c.compare_exchange-found.ensures.2 c.args.leaf (ap (λ (z : ℕ). z + c.args.leaf) c.self.invariant.sits.placed.base_is) in
     pass_tried_leaf f _ _ _ _ _ _ _ _ c.self.inside.seat.me c.compare_exchange-found.new.seat.me c.self.invariant c.compare_exchange-found.ensures.0 c.args.leaf may.advance c.compare_exchange-found.result told.0 (told.1 may.advance may.is_advance may.from may.to)
 
-pub returns-clause-view : goal.returns-clause-view
-returns-clause-view g c = let f = face g.A.Monoid.parts g.B.Monoid.parts in
+pub returns : goal.returns
+returns g c = let f = face g.A.Monoid.parts g.B.Monoid.parts in
     let told = c.compare_exchange-found.ensures.2 c.args.leaf (ap (λ (z : ℕ). z + c.args.leaf) c.self.invariant.sits.placed.base_is) in
-    record { found = c.compare_exchange-found.result; decided = search rules; told = λ a is from to. subst (λ (k : Known). TriesLeaf f k.view c.args.leaf a c.compare_exchange-found.result c.compare_exchange-found.new.seat.me.0) c.self.view_is (told.1 a is from to) }
+    record { table = search rules; view = record { found = c.compare_exchange-found.result; decided = search rules; told = λ a is from to. subst (λ (k : Known). TriesLeaf f k.view c.args.leaf a c.compare_exchange-found.result c.compare_exchange-found.new.seat.me.0) c.self.view_is (told.1 a is from to) } }

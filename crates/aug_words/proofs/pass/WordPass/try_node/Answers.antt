@@ -1,4 +1,4 @@
-use Rattle.std.proofs.Common.{ap, subst, sym, ◌+◌, ℕ, arith}
+use Rattle.std.proofs.Common.{ap, subst, sym, ◌+◌, ℕ, arith, rules}
 use Rattle.std.proofs.lemmas.Bool.{eq-eqb, eqb-true}
 use Rattle.aug_core.specs.Faces.{face}
 use Rattle.aug_core.specs.Addresses.{IsInner}
@@ -21,11 +21,8 @@ invariant_of-self g c = let m = g.A.Monoid in let n = g.B.Monoid in let f = face
     let told = c.compare_exchange-found.ensures.2 c.args.node (ap (λ (z : ℕ). z + c.args.node) c.self.invariant.sits.placed.base_is) in
     pass_tried_node f _ _ _ _ _ _ _ _ c.self.inside.seat.me c.compare_exchange-found.new.seat.me c.self.invariant c.compare_exchange-found.ensures.0 c.args.node c.args.from c.args.number c.compare_exchange-found.result told.0 told.1
 
-pub returns-clause-view : goal.returns-clause-view
-returns-clause-view g c = let m = g.A.Monoid in let n = g.B.Monoid in let f = face m.parts n.parts in
-    let told = c.compare_exchange-found.ensures.2 c.args.node (ap (λ (z : ℕ). z + c.args.node) c.self.invariant.sits.placed.base_is) in record {
-      found = c.compare_exchange-found.result;
-      decided = (eqb-true c.compare_exchange-found.result c.args.from, eq-eqb c.compare_exchange-found.result c.args.from);
-      told = subst (λ (k : Known). TriesNode f k.view c.args.node c.args.from c.args.number c.compare_exchange-found.result
-          c.compare_exchange-found.new.seat.me.0) c.self.view_is told.1;
-    }
+pub returns : goal.returns
+returns g c = let m = g.A.Monoid in let n = g.B.Monoid in let f = face m.parts n.parts in let found = c.compare_exchange-found.result in
+    let told = c.compare_exchange-found.ensures.2 c.args.node (ap (λ (z : ℕ). z + c.args.node) c.self.invariant.sits.placed.base_is) in
+    let tries = subst (λ (k : Known). TriesNode f k.view c.args.node c.args.from c.args.number found c.compare_exchange-found.new.seat.me.0) c.self.view_is told.1 in
+    record { table = search rules; view = record { found = found; decided = (eqb-true found c.args.from, eq-eqb found c.args.from); told = tries } }

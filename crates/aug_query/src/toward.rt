@@ -4,7 +4,7 @@ ghost use Rattle.aug_model.specs.Keys.{list_of};
 ghost use Rattle.aug_model.specs.Queries.{rank_of};
 ghost use Rattle.aug_query.specs.Tree.{IsTreeSet};
 ghost use Rattle.aug_model.specs.NodeKeys.{first_key, end_key};
-ghost use Rattle.aug_query.specs.Descend.{Descends};
+ghost use Rattle.aug_query.specs.inside.Paths.{ReachesNode};
 
 use crate::Descend;
 use aug_monoid::Monoid;
@@ -27,8 +27,7 @@ pub(crate) fn toward<A: Monoid, B: Monoid, D: Descend<A, B>>(
     node: &D::Name,
 ) -> D::Name
     requires { D.Names tree.old (level + 1) (k / 2 ^ (level + 1)) node.now }
-    ensures descends { Descends D.set_of D.loads_of D.Names D.KeepsRest 1 0 0 0 tree.old tree.new }
-    ensures name { D.Names tree.new level (k / 2 ^ level) result }
+    ensures { ReachesNode D.set_of D.loads_of D.Names D.KeepsRest 1 0 0 0 level (k / 2 ^ level) tree.old result tree.new }
 {
     let place = k >> (level + 1);
     if (k >> level) % 2 == 0 {
@@ -47,8 +46,7 @@ pub(crate) fn toward_from_left<A: Monoid, B: Monoid, D: Descend<A, B>>(
     node: &D::Name,
 ) -> (D::Name, u32)
     requires { D.Names tree.old (level + 1) (k / 2 ^ (level + 1)) node.now }
-    ensures descends { Descends D.set_of D.loads_of D.Names D.KeepsRest 1 0 0 1 tree.old tree.new }
-    ensures name { D.Names tree.new level (k / 2 ^ level) result.0 }
+    ensures child { ReachesNode D.set_of D.loads_of D.Names D.KeepsRest 1 0 0 1 level (k / 2 ^ level) tree.old result.0 tree.new }
     ensures before { rank_of (list_of (D.set_of tree.old)) (first_key level (k / 2 ^ level)) ≡ rank_of (list_of (D.set_of tree.old)) (first_key (level + 1) (k / 2 ^ (level + 1))) + result.1 }
     ensures right { 0 < result.1 → k / 2 ^ level ≡ 2 * (k / 2 ^ (level + 1)) + 1 }
 {
@@ -69,8 +67,7 @@ pub(crate) fn toward_from_right<A: Monoid, B: Monoid, D: Descend<A, B>>(
     node: &D::Name,
 ) -> (D::Name, u32)
     requires { D.Names tree.old (level + 1) (k / 2 ^ (level + 1)) node.now }
-    ensures descends { Descends D.set_of D.loads_of D.Names D.KeepsRest 1 0 0 1 tree.old tree.new }
-    ensures name { D.Names tree.new level (k / 2 ^ level) result.0 }
+    ensures child { ReachesNode D.set_of D.loads_of D.Names D.KeepsRest 1 0 0 1 level (k / 2 ^ level) tree.old result.0 tree.new }
     ensures after { rank_of (list_of (D.set_of tree.old)) (end_key level (k / 2 ^ level)) + result.1 ≡ rank_of (list_of (D.set_of tree.old)) (end_key (level + 1) (k / 2 ^ (level + 1))) }
     ensures left { 0 < result.1 → k / 2 ^ level ≡ 2 * (k / 2 ^ (level + 1)) }
 {

@@ -25,14 +25,14 @@ pub(crate) struct OpenRounds {
 }
 
 impl Model for OpenRounds {
-    ghost use Rattle.std.specs.Prelude.{◌≡◌, ℕ, ◌<◌, ◌≤◌, slice_index_or};
-    ghost use Rattle.aug_script.specs.Script.{Progress, updates_of};
+    ghost use Rattle.aug_script.specs.Script.{Progress};
+    ghost use Rattle.aug_script.specs.inside.Items.{KeepsRounds};
 
     ghost Value = { Progress };
 
     ghost view = { λ r. record { next = r.next; bits = r.bits; rows = r.rows.items; closed = r.closed.items } };
 
-    ghost invariant = { λ r. (r.bits ≤ 16) × ((lane : ℕ) → lane < 64 → slice_index_or r.updates lane 0 ≡ updates_of lane r.rows.items) };
+    ghost invariant = { λ r. KeepsRounds r.bits r.updates r.rows.items };
 }
 
 impl OpenRounds {

@@ -16,7 +16,7 @@ use Rattle.aug_core.proofs.ReaderCounts.{lists_without}
 use Rattle.aug_words.specs.Leads.{IsNotTaken, MayOpen}
 use Rattle.aug_words.specs.declared.parts.Parts.{Parts}
 use Rattle.aug_words.specs.inside.Laying.{IsDraft, words_in}
-use Rattle.aug_words.specs.inside.SeatState.{IsCount, IsLead, IsPassSeat, IsPlaced, IsReaderSeat, LendsHere, SitsAt}
+use Rattle.aug_words.specs.inside.SeatState.{IsCount, IsLead, IsPassSeat, IsReaderSeat, HasPassSeat, LendsHere}
 use Rattle.aug_words.proofs.Counts.{count_less, count_more, counted_none, counted_some, free_counted, free_part, length_less, not_aside, part_inside, part_of, parts_aside, parts_turned, some_size, times_all, times_has}
 use Rattle.aug_words.proofs.Passes.{placed_on, sits_on}
 use Rattle.aug_words.proofs.Reopens.{none_below}
@@ -101,12 +101,12 @@ module _ (face : ℕ → ℕ → List (ℕ × ℕ) → List ℕ) (a : TableId) (
 
 -- ---- a pass that lends a reader, and takes it back
 
-module _ (face : ℕ → ℕ → List (ℕ × ℕ) → List ℕ) (a a' t : TableId) (b l r lane lent : ℕ) (me me' : Sat) (is_pass : SitsAt a t b l r me.0 × IsPassSeat face lane lent me) (one : a' ≡ a) where
+module _ (face : ℕ → ℕ → List (ℕ × ℕ) → List ℕ) (a a' t : TableId) (b l r lane lent : ℕ) (me me' : Sat) (is_pass : HasPassSeat face a t b l r lane lent me) (one : a' ≡ a) where
   -- a pass that answers for other readers
-  answers_for : (n : ℕ) (readers : List ℕ) → me'.0 ≡ record me.0 { lent = readers } → me'.1 ≡ me.1 → LendsHere n me.0.base readers → SitsAt a' t b l r me'.0 × IsPassSeat face lane n me'
-  answers_for n readers is same lends = let seat = is_pass.1 in (
-    sits_on a a' t b l r me.0 me'.0 is_pass.0 one (ap (λ (z : SeatView). z.shape) is) (ap (λ (z : SeatView). z.base) is),
-    subst (IsPassSeat face lane n) (λ i. (sym is i, sym same i)) record {
+  answers_for : (n : ℕ) (readers : List ℕ) → me'.0 ≡ record me.0 { lent = readers } → me'.1 ≡ me.1 → LendsHere n me.0.base readers → HasPassSeat face a' t b l r lane n me'
+  answers_for n readers is same lends = let seat = is_pass.seat in record {
+    sits = sits_on a a' t b l r me.0 me'.0 is_pass.sits one (ap (λ (z : SeatView). z.shape) is) (ap (λ (z : SeatView). z.base) is);
+    seat = subst (IsPassSeat face lane n) (λ i. (sym is i, sym same i)) record {
       live = seat.live;
       no_slot = seat.no_slot;
       held = seat.held;
@@ -118,11 +118,11 @@ module _ (face : ℕ → ℕ → List (ℕ × ℕ) → List ℕ) (a a' t : Table
       follows = seat.follows;
       lends = lends;
       knows = knows_lent face me.0 readers seat.knows;
-    },
-  )
+    };
+  }
 
-  pub pass_lent : (n : ℕ) → n ≡ min (lent + 1) (2 ^ 32 - 1) → me'.0 ≡ lending me.0 → me'.1 ≡ me.1 → SitsAt a' t b l r me'.0 × IsPassSeat face lane n me'
-  pass_lent n counts is same = let lends = is_pass.1.lends in let longer : length (me.0.base ∷ me.0.lent) ≡ length me.0.lent + 1 = omega arith in
+  pub pass_lent : (n : ℕ) → n ≡ min (lent + 1) (2 ^ 32 - 1) → me'.0 ≡ lending me.0 → me'.1 ≡ me.1 → HasPassSeat face a' t b l r lane n me'
+  pass_lent n counts is same = let lends = is_pass.seat.lends in let longer : length (me.0.base ∷ me.0.lent) ≡ length me.0.lent + 1 = omega arith in
       answers_for n (me.0.base ∷ me.0.lent) is same record {
         count = subst (λ (z : ℕ × ℕ). IsCount z.0 z.1) (λ i. (sym counts i, sym longer i)) (count_more lent 1 (length me.0.lent) 1 lends.count (inl refl));
         few = subst (λ (z : ℕ). z ≤ 2 ^ 32 - 1) (sym counts) (min-le_right (lent + 1) (2 ^ 32 - 1));
@@ -133,8 +133,8 @@ module _ (face : ℕ → ℕ → List (ℕ × ℕ) → List ℕ) (a a' t : Table
       one_more base xs all c (zero, at) = sym (some-injective base c at)
       one_more base xs all c (suc i, at) = all c (i, at)
 
-  pub pass_took : (w : SeatView) → w.base ≡ me.0.base → 0 < lent → lent < 2 ^ 32 - 1 → me'.0 ≡ taking_reader me.0 w → me'.1 ≡ me.1 → SitsAt a' t b l r me'.0 × IsPassSeat face lane (lent - 1) me'
-  pass_took w at some_out few is same = let lends = is_pass.1.lends in let all = times_all me.0.base me.0.lent lends.here in let some_times = counted_some lent (length me.0.lent) some_out lends.count in
+  pub pass_took : (w : SeatView) → w.base ≡ me.0.base → 0 < lent → lent < 2 ^ 32 - 1 → me'.0 ≡ taking_reader me.0 w → me'.1 ≡ me.1 → HasPassSeat face a' t b l r lane (lent - 1) me'
+  pass_took w at some_out few is same = let lends = is_pass.seat.lends in let all = times_all me.0.base me.0.lent lends.here in let some_times = counted_some lent (length me.0.lent) some_out lends.count in
       answers_for (lent - 1) (without w.base me.0.lent) is same record {
         count = subst (λ (z : ℕ). IsCount (lent - 1) (length (without z me.0.lent))) (sym at) (count_less lent (length me.0.lent) (length (without me.0.base me.0.lent)) some_out few (length_less me.0.base me.0.lent (omega arith)) lends.count);
         few = omega arith;
@@ -143,7 +143,7 @@ module _ (face : ℕ → ℕ → List (ℕ × ℕ) → List ℕ) (a a' t : Table
 
   -- it does not take back one of another part, or where none is counted, or too many are
   pub pass_refuses : (w : SeatView) → (w.base ≡ me.0.base → (lent ≡ 0) ⊎ (lent ≡ 2 ^ 32 - 1)) → IsNotTaken me.0 w
-  pass_refuses w which = let lends = is_pass.1.lends in ⊎_elim
+  pass_refuses w which = let lends = is_pass.seat.lends in ⊎_elim
       (λ (here : w.base ≡ me.0.base). let all : times_in w.base me.0.lent ≡ length me.0.lent = times_all w.base me.0.lent (λ c has. lends.here c has ∙ sym here) in ⊎_elim
       (λ (none : lent ≡ 0). inl (λ has. let zero_times = counted_none lent (length me.0.lent) none lends.count in let some_times = times_has w.base me.0.lent has.0 has.1 in absurd (omega arith)))
       (λ most. inr (⊎_elim (λ is. let goal : 2 ^ 32 - 1 ≤ times_in w.base me.0.lent = omega arith in goal) (λ is. let many = is.1 in let goal : 2 ^ 32 - 1 ≤ times_in w.base me.0.lent = omega arith in goal) lends.count)) (which here))
@@ -153,15 +153,13 @@ module _ (face : ℕ → ℕ → List (ℕ × ℕ) → List ℕ) (a a' t : Table
 
 module _ (face : ℕ → ℕ → List (ℕ × ℕ) → List ℕ) (a a' : TableId) (b : ℕ) (me me' : Sat) where
   -- one that loaded a word of a record
-  pub reader_looked : IsPlaced a b me.0 × IsReaderSeat face me → a' ≡ a → (taken : StepTaken) → me'.0 ≡ stepping me.0 taken → me'.1 ≡ [] → IsPlaced a' b me'.0 × IsReaderSeat face me'
-  reader_looked is_reader one taken is empty = let seat = is_reader.1 in (
-    subst (λ (z : TableId). IsPlaced z b me'.0) (sym one) (placed_on a b me.0 me'.0 is_reader.0 (ap (λ (z : SeatView). z.shape) is) (ap (λ (z : SeatView). z.base) is)),
-    subst (IsReaderSeat face) (λ i. (sym is i, sym empty i)) record {
-      live = seat.live;
-      no_slot = refl;
-      reads = seat.reads;
-      no_lane = seat.no_lane;
-      follows = seat.follows;
-      knows = knows_same face me.0 me.0.live me.0.also me.0.held me.0.spare me.0.began (me.0.steps ++ taken ∷ []) seat.knows;
-    },
-  )
+  pub reader_looked : IsReaderSeat face a b me → a' ≡ a → (taken : StepTaken) → me'.0 ≡ stepping me.0 taken → me'.1 ≡ [] → IsReaderSeat face a' b me'
+  reader_looked seat one taken is empty = subst (λ (z : TableId × Sat). IsReaderSeat face z.0 b z.1) (λ i. (sym one i, (sym is i, sym empty i))) record {
+    placed = placed_on a b me.0 (stepping me.0 taken) seat.placed refl refl;
+    live = seat.live;
+    no_slot = refl;
+    reads = seat.reads;
+    no_lane = seat.no_lane;
+    follows = seat.follows;
+    knows = knows_same face me.0 me.0.live me.0.also me.0.held me.0.spare me.0.began (me.0.steps ++ taken ∷ []) seat.knows;
+  }

@@ -33,7 +33,7 @@ use lib.ListN.{get_elem?}
 use Rattle.aug_words.specs.Leads.{HandsLaneOut}
 use Rattle.aug_words.specs.Notes.{LearnsNote}
 use Rattle.aug_words.specs.declared.parts.Parts.{Parts}
-use Rattle.aug_words.specs.inside.SeatState.{ArePartsOf, IsCount, SitsAt, IsPassSeat, IsLeadSeat, IsLead, IsStore}
+use Rattle.aug_words.specs.inside.SeatState.{ArePartsOf, IsCount, HasPassSeat, IsPassSeat, IsLeadSeat, IsLead, IsStore}
 use Rattle.aug_words.proofs.Counts.{parts_lent, parts_on, parts_taken, some_size}
 use Rattle.aug_core.specs.Readers.{taking_reader, without}
 use Rattle.aug_words.specs.inside.Laying.{Brings, IsDraft, NamesEntry, MayBring, ShownBelow, StepsBeside, words_in}
@@ -49,8 +49,8 @@ use Rattle.aug_words.specs.Seats.{IsNextLane}
 pub some_words : (table : TableId) (made : TableKey) (layout : Shape) (lanes records : ℕ) → IsStore table made layout lanes records → 0 < table.words
 some_words table made layout lanes records store = let wide = store.wide in let workers = store.laid_out.workers.0 in omega arith
 
-pub pass_has_words : (face : ℕ → ℕ → List (ℕ × ℕ) → List ℕ) (seat_table table : TableId) (base lanes records lane lent : ℕ) (me : Sat) → SitsAt seat_table table base lanes records me.0 → IsPassSeat face lane lent me → 0 < table.words
-pass_has_words face seat_table table base lanes records lane lent me sits seat = let wide = sits.placed.wide in let low = seat.exists in omega arith
+pub pass_has_words : (face : ℕ → ℕ → List (ℕ × ℕ) → List ℕ) (seat_table table : TableId) (base lanes records lane lent : ℕ) (me : Sat) → HasPassSeat face seat_table table base lanes records lane lent me → 0 < table.words
+pass_has_words face seat_table table base lanes records lane lent me is_pass = let wide = is_pass.sits.placed.wide in let low = is_pass.seat.exists in omega arith
 
 -- the root is an inner node
 pub root_inner : (s : Shape) → 1 ≤ s.bits → s.bits ≤ 16 → IsInner s (root_place s)

@@ -21,7 +21,7 @@ use Rattle.aug_core.proofs.Sizes.{record_inside}
 use Rattle.aug_core.proofs.Fits.{knows_shown, knows_same}
 use Rattle.aug_core.proofs.Stores.{alone, one_held}
 use Rattle.aug_core.proofs.Eras.{holds_lane}
-use Rattle.aug_words.specs.inside.SeatState.{IsPlaced, SitsAt, IsPassSeat, LendsHere}
+use Rattle.aug_words.specs.inside.SeatState.{IsPlaced, SitsAt, IsPassSeat, HasPassSeat, LendsHere}
 use Rattle.aug_words.specs.Seats.{AreTogether, Known, MayLoad, LoadsRecordWord, Store}
 
 -- a seat that stayed in its part
@@ -60,16 +60,13 @@ sits_on a a' t b l r v w sits one shape base = record {
   records_are = sits.records_are ∙ (λ i. sym base i + record_start (sym shape i) 0);
 }
 
-module _ (face : ℕ → ℕ → List (ℕ × ℕ) → List ℕ) (a a' t : TableId) (b l r lane lent : ℕ) (me me' : Sat) (is_pass : SitsAt a t b l r me.0 × IsPassSeat face lane lent me) (one : a' ≡ a) where
-  abbrev IsPass : Type 0
-  IsPass = SitsAt a' t b l r me'.0 × IsPassSeat face lane lent me'
-
+module _ (face : ℕ → ℕ → List (ℕ × ℕ) → List ℕ) (a a' t : TableId) (b l r lane lent : ℕ) (me me' : Sat) (is_pass : HasPassSeat face a t b l r lane lent me) (one : a' ≡ a) where
   -- a pass that was shown the whole book, and whose lane is the one that it was
   shown : (h : Held) (held : List Held) (book : Book) (began : Beginning) (steps : List StepTaken) → held ≡ h ∷ [] → h.lane ≡ lane → h.state ≡ Taken → length h.words ≡ block_size me.0.shape → me'.1 ≡ []
-      → me'.0 ≡ record me.0 { seen = book; held = held; began = began; steps = steps } → Sees face me.0 me'.0 → IsPass
-  shown h held book began steps only named taken long empty is sees = let seat = is_pass.1 in let same : me'.0.shape ≡ me.0.shape = ap (λ (z : SeatView). z.shape) is in (
-    sits_on a a' t b l r me.0 me'.0 is_pass.0 one same (ap (λ (z : SeatView). z.base) is),
-    record {
+      → me'.0 ≡ record me.0 { seen = book; held = held; began = began; steps = steps } → Sees face me.0 me'.0 → HasPassSeat face a' t b l r lane lent me'
+  shown h held book began steps only named taken long empty is sees = let seat = is_pass.seat in let same : me'.0.shape ≡ me.0.shape = ap (λ (z : SeatView). z.shape) is in record {
+    sits = sits_on a a' t b l r me.0 me'.0 is_pass.sits one same (ap (λ (z : SeatView). z.base) is);
+    seat = record {
       live = ap (λ (z : SeatView). z.live) is ∙ seat.live;
       no_slot = empty;
       held = h;
@@ -81,39 +78,39 @@ module _ (face : ℕ → ℕ → List (ℕ × ℕ) → List ℕ) (a a' t : Table
       follows = ap (λ (z : SeatView). z.spare) is ∙ seat.follows;
       lends = subst (λ (z : SeatView). LendsHere lent z.base z.lent) (sym is) seat.lends;
       knows = knows_shown face me.0 me'.0 seat.knows sees same (ap (λ (z : SeatView). z.members) is);
-    },
-  )
+    };
+  }
 
   -- the lane is as it was
-  watched : (began : Beginning) (steps : List StepTaken) → me'.1 ≡ [] → me'.0 ≡ record me.0 { seen = me'.0.seen; began = began; steps = steps } → Sees face me.0 me'.0 → IsPass
-  watched began steps empty is sees = let seat = is_pass.1 in shown seat.held me.0.held me'.0.seen began steps seat.only seat.named seat.taken seat.long empty is sees
+  watched : (began : Beginning) (steps : List StepTaken) → me'.1 ≡ [] → me'.0 ≡ record me.0 { seen = me'.0.seen; began = began; steps = steps } → Sees face me.0 me'.0 → HasPassSeat face a' t b l r lane lent me'
+  watched began steps empty is sees = let seat = is_pass.seat in shown seat.held me.0.held me'.0.seen began steps seat.only seat.named seat.taken seat.long empty is sees
 
-  pub pass_loaded_leaf : (key word : ℕ) → me'.1 ≡ [] → LoadsLeaf face me.0 key word me'.0 → IsPass
+  pub pass_loaded_leaf : (key word : ℕ) → me'.1 ≡ [] → LoadsLeaf face me.0 key word me'.0 → HasPassSeat face a' t b l r lane lent me'
   pass_loaded_leaf key word empty did = watched me.0.began (me.0.steps ++ load_leaf key word ∷ []) empty did.stepped did.sees
 
-  pub pass_began_at_leaf : (key word : ℕ) → me'.1 ≡ [] → BeginsAtLeaf face me.0 key word me'.0 → IsPass
+  pub pass_began_at_leaf : (key word : ℕ) → me'.1 ≡ [] → BeginsAtLeaf face me.0 key word me'.0 → HasPassSeat face a' t b l r lane lent me'
   pass_began_at_leaf key word empty did = watched (beginning me.0 me'.0.seen (load_leaf key word)).began (me.0.steps ++ load_leaf key word ∷ []) empty did.stepped did.sees
 
-  pub pass_loaded_node : (q word : ℕ) → me'.1 ≡ [] → LoadsNode face me.0 q word me'.0 → IsPass
+  pub pass_loaded_node : (q word : ℕ) → me'.1 ≡ [] → LoadsNode face me.0 q word me'.0 → HasPassSeat face a' t b l r lane lent me'
   pass_loaded_node q word empty did = watched me.0.began (me.0.steps ++ load_node q word ∷ []) empty did.stepped did.sees
 
-  pub pass_tried_leaf : (key : ℕ) (a : Advance) (found : ℕ) → me'.1 ≡ [] → TriesLeaf face me.0 key a found me'.0 → IsPass
-  pass_tried_leaf key a found empty did = let seat = is_pass.1 in let taken : StepTaken = try_leaf key (old_word a) (new_word a) found in ⊎_elim
+  pub pass_tried_leaf : (key : ℕ) (a : Advance) (found : ℕ) → me'.1 ≡ [] → TriesLeaf face me.0 key a found me'.0 → HasPassSeat face a' t b l r lane lent me'
+  pass_tried_leaf key a found empty did = let seat = is_pass.seat in let taken : StepTaken = try_leaf key (old_word a) (new_word a) found in ⊎_elim
       (λ (hit : found ≡ old_word a). shown (with_changes (made_by key a) seat.held) (on_first (with_changes (made_by key a)) me.0.held) me'.0.seen me.0.began (me.0.steps ++ taken ∷ [])
       (ap (on_first (with_changes (made_by key a))) seat.only) seat.named seat.taken seat.long empty (did.hit hit).0 did.sees)
       (λ miss. watched me.0.began (me.0.steps ++ taken ∷ []) empty (did.miss miss).0 did.sees) (cases_eq found (old_word a))
 
-  pub pass_tried_node : (q old number found : ℕ) → me'.1 ≡ [] → TriesNode face me.0 q old number found me'.0 → IsPass
-  pass_tried_node q old number found empty did = let seat = is_pass.1 in let taken : StepTaken = try_node q old number found in ⊎_elim
+  pub pass_tried_node : (q old number found : ℕ) → me'.1 ≡ [] → TriesNode face me.0 q old number found me'.0 → HasPassSeat face a' t b l r lane lent me'
+  pass_tried_node q old number found empty did = let seat = is_pass.seat in let taken : StepTaken = try_node q old number found in ⊎_elim
       (λ (hit : found ≡ old). shown (with_published number seat.held) (on_first (with_published number) me.0.held) me'.0.seen me.0.began (me.0.steps ++ taken ∷ [])
       (ap (on_first (with_published number)) seat.only) seat.named seat.taken seat.long empty (did.hit hit).0 did.sees)
       (λ miss. watched me.0.began (me.0.steps ++ taken ∷ []) empty (did.miss miss).0 did.sees) (cases_eq found old)
 
   -- a pass that was shown nothing of the book
-  kept : (h : Held) (held : List Held) (steps : List StepTaken) → held ≡ h ∷ [] → h.lane ≡ lane → h.state ≡ Taken → length h.words ≡ block_size me.0.shape → me'.1 ≡ [] → me'.0 ≡ record me.0 { held = held; steps = steps } → IsPass
-  kept h held steps only named taken long empty is = let seat = is_pass.1 in (
-    sits_on a a' t b l r me.0 me'.0 is_pass.0 one (ap (λ (z : SeatView). z.shape) is) (ap (λ (z : SeatView). z.base) is),
-    subst (IsPassSeat face lane lent) (λ i. (sym is i, sym empty i)) record {
+  kept : (h : Held) (held : List Held) (steps : List StepTaken) → held ≡ h ∷ [] → h.lane ≡ lane → h.state ≡ Taken → length h.words ≡ block_size me.0.shape → me'.1 ≡ [] → me'.0 ≡ record me.0 { held = held; steps = steps } → HasPassSeat face a' t b l r lane lent me'
+  kept h held steps only named taken long empty is = let seat = is_pass.seat in record {
+    sits = sits_on a a' t b l r me.0 me'.0 is_pass.sits one (ap (λ (z : SeatView). z.shape) is) (ap (λ (z : SeatView). z.base) is);
+    seat = subst (IsPassSeat face lane lent) (λ i. (sym is i, sym empty i)) record {
       live = seat.live;
       no_slot = refl;
       held = h;
@@ -125,14 +122,14 @@ module _ (face : ℕ → ℕ → List (ℕ × ℕ) → List ℕ) (a a' t : Table
       follows = seat.follows;
       lends = seat.lends;
       knows = knows_same face me.0 me.0.live me.0.also held me.0.spare me.0.began steps seat.knows;
-    },
-  )
+    };
+  }
 
-  pub pass_loaded : (place word : ℕ) → (me'.1 ≡ []) × ReadsRecord me.0 place word me'.0 → IsPass
-  pass_loaded place word did = let seat = is_pass.1 in kept seat.held me.0.held (me.0.steps ++ load_record_word place word ∷ []) seat.only seat.named seat.taken seat.long did.0 did.1.stepped
+  pub pass_loaded : (place word : ℕ) → (me'.1 ≡ []) × ReadsRecord me.0 place word me'.0 → HasPassSeat face a' t b l r lane lent me'
+  pass_loaded place word did = let seat = is_pass.seat in kept seat.held me.0.held (me.0.steps ++ load_record_word place word ∷ []) seat.only seat.named seat.taken seat.long did.0 did.1.stepped
 
-  pub pass_stored : (place value : ℕ) → (me'.1 ≡ []) × (me'.0 ≡ storing me.0 place value) → IsPass
-  pass_stored place value did = let seat = is_pass.1 in
+  pub pass_stored : (place value : ℕ) → (me'.1 ≡ []) × (me'.0 ≡ storing me.0 place value) → HasPassSeat face a' t b l r lane lent me'
+  pass_stored place value did = let seat = is_pass.seat in
       kept (with_word me.0.shape place value seat.held) (on_first (with_word me.0.shape place value) me.0.held) (me.0.steps ++ store_record_word place value ∷ []) (ap (on_first (with_word me.0.shape place value)) seat.only) seat.named seat.taken
       (length-set seat.held.words (place - block_start me.0.shape seat.held.lane) value ∙ seat.long) did.0 did.1
 

@@ -1,8 +1,8 @@
 -- What it does to what is known that a lane is handed out, and that it is taken back. Both load the root. And when the next era can begin: in the example, once
 -- nobody reads in the table's other part.
-use Rattle.std.specs.Prelude.{◌≡◌, ℕ, ◌⊎◌, ◌+◌, ◌-◌, ◌*◌, ◌^◌, ◌≤◌, List}
+use Rattle.std.specs.Prelude.{◌≡◌, ℕ, ◌⊎◌, ◌+◌, ◌-◌, ◌*◌, ◌^◌, ◌≤◌, List, Result, IfErr, IfOk}
 use Rattle.aug_core.specs.Places.{word_count}
-use Rattle.aug_core.specs.Readers.{IsAside, times_in}
+use Rattle.aug_core.specs.Readers.{IsAside, taking_reader, times_in}
 use Rattle.aug_core.specs.Rule.{Lists}
 use Rattle.aug_core.specs.Addresses.{root_place}
 use Rattle.aug_core.specs.Book.{GoesOnFromBoth}
@@ -21,6 +21,13 @@ pub record MayOpen (lead : Known) : Type 0 where
 -- the view answers for no reader where this one reads, or for more than are counted
 abbrev pub IsNotTaken : SeatView → SeatView → Type 0
 IsNotTaken v reader = (Lists v.lent reader.base → ⊥) ⊎ (2 ^ 32 - 1 ≤ times_in reader.base v.lent)
+
+-- a reader of the table is taken back, or comes back because it is not to be taken
+pub record TakesReader (old new reader : Known) (result : Result (Unit {0}) Known) : Type 0 where
+  pub table : new.table ≡ old.table
+  pub taken : IfOk result (λ _. new.view ≡ taking_reader old.view reader.view)
+  pub same : IfErr result (λ r. (r ≡ reader) × (new ≡ old))
+  pub refused : IfErr result (λ _. IsNotTaken old.view reader.view)
 
 module _ (face : ℕ → ℕ → List (ℕ × ℕ) → List ℕ) where
   -- the lead loads the root; a view with the next lane is split off, which knows what the lead then knows; and takes that lane

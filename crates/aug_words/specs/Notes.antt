@@ -3,10 +3,17 @@
 use Rattle.std.specs.Prelude.{◌≡◌, ℕ, List}
 use Rattle.aug_core.specs.Addresses.{root_place}
 use Rattle.aug_core.specs.Book.{GoesOnFromBoth}
-use Rattle.aug_core.specs.Effects.{LoadsNode}
+use Rattle.aug_core.specs.Effects.{LoadsNode, noted}
 use Rattle.aug_core.specs.Pasts.{IsLearnt, learnt_of}
 use Rattle.aug_core.specs.Learning.{learning}
 use Rattle.aug_core.specs.declared.view.SeatView.{SeatView}
+use Rattle.aug_words.specs.Seats.{Known}
+
+-- a note says what a seat has seen, which stays as it is
+pub record MakesNote (old new made : Known) : Type 0 where
+  pub same : new ≡ old
+  pub table : made.table ≡ old.table
+  pub note : made.view ≡ noted old.view
 
 module _ (face : ℕ → ℕ → List (ℕ × ℕ) → List ℕ) where
   -- the view takes in a note, and loads the root. What the note tells of the eras before is so; and where it is of the view's era, the view then knows

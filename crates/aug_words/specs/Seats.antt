@@ -26,6 +26,11 @@ pub record AreTogether (store : Store) (known : Known) : Type 0 where
   pub one_table : known.table ≡ store.table
   pub one_shape : known.view.shape ≡ store.shape
 
+-- the seat stays at its table, and this is what becomes of its view
+pub record StaysAt (old new : Known) (told : Type 0) : Type 0 where
+  pub table : new.table ≡ old.table
+  pub view : told
+
 -- the pass is one of the lead's: it sits at the same table
 pub record IsOfLead (lead pass : Known) : Type 0 where
   pub one_table : pass.table ≡ lead.table

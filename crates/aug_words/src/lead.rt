@@ -1,5 +1,5 @@
 //! The seat that hands lanes out and takes passes back.
-ghost use Rattle.std.specs.Prelude.{◌≡◌, ◌↔◌, ◌+◌, ◌^◌, ◌<◌, ◌≤◌, ℕ, [], true, IsTrue, IfOk, IfErr};
+ghost use Rattle.std.specs.Prelude.{◌≡◌, ◌↔◌, ◌+◌, ◌^◌, ◌<◌, ◌≤◌, ℕ, [], true, IsTrue};
 ghost use Rattle.aug_core.specs.Faces.{face};
 ghost use Rattle.aug_core.specs.Addresses.{root_place};
 ghost use Rattle.aug_core.specs.Places.{lane_place, word_count};
@@ -7,9 +7,8 @@ ghost use Rattle.aug_core.specs.Fields.{field_offset};
 ghost use Rattle.aug_core.specs.Effects.{HasSeen, KnowsTable, taking, finishing, own_lane_place};
 ghost use Rattle.aug_core.specs.Renewals.{Surveys};
 ghost use Rattle.aug_core.specs.inside.LaneStates.{MayTake, HasTakenLane};
-ghost use Rattle.aug_core.specs.Readers.{taking_reader};
-ghost use Rattle.aug_words.specs.Leads.{HandsLaneOut, IsNotTaken, MayOpen, Prepares, TakesLaneBack};
-ghost use Rattle.aug_words.specs.Seats.{AreTogether, IsOfLead, IsNextLane, LoadsRecordWord, NamesRoot};
+ghost use Rattle.aug_words.specs.Leads.{HandsLaneOut, MayOpen, Prepares, TakesLaneBack, TakesReader};
+ghost use Rattle.aug_words.specs.Seats.{AreTogether, IsOfLead, IsNextLane, LoadsRecordWord, NamesRoot, StaysAt};
 
 use crate::draft::Draft;
 use crate::half::WordHalf;
@@ -125,8 +124,7 @@ impl<A: Monoid, B: Monoid> Lead<A, B> {
         requires table { self.old.table ≡ words.now.table_id }
         requires inside { root < words.now.table_id.words }
         requires root { root ≡ self.old.view.base + root_place self.old.view.shape }
-        ensures table { self.new.table ≡ self.old.table }
-        ensures view { Surveys (face A.parts B.parts) self.old.view (root_place self.old.view.shape) result self.new.view }
+        ensures { StaysAt self.old self.new (Surveys (face A.parts B.parts) self.old.view (root_place self.old.view.shape) result self.new.view) }
     {
         let number = words.load::<Survey<A, B>>(&mut self.seat, root);
         self.root = number;
@@ -137,8 +135,7 @@ impl<A: Monoid, B: Monoid> Lead<A, B> {
     /// passes are back, it knows all that they came to, while its table is still at work.
     pub fn survey(&mut self, words: &Words<A, B>) -> u64
         requires together { AreTogether words.now self.old }
-        ensures table { self.new.table ≡ self.old.table }
-        ensures surveys { Surveys (face A.parts B.parts) self.old.view (root_place self.old.view.shape) result self.new.view }
+        ensures { StaysAt self.old self.new (Surveys (face A.parts B.parts) self.old.view (root_place self.old.view.shape) result self.new.view) }
     {
         let root = self.root_word(words.lanes);
         self.load_root(&words.table.shared, root)
@@ -150,8 +147,7 @@ impl<A: Monoid, B: Monoid> Lead<A, B> {
     pub fn prepare(&mut self, words: &Words<A, B>, nodes: u32) -> bool
         requires together { AreTogether words.now self.old }
         requires room { 2 ^ self.old.view.shape.bits ≤ self.old.view.shape.members }
-        ensures table { self.new.table ≡ self.old.table }
-        ensures prepares { Prepares (face A.parts B.parts) self.old.view self.new.view }
+        ensures { StaysAt self.old self.new (Prepares (face A.parts B.parts) self.old.view self.new.view) }
     {
         self.survey(words);
         let size = words.layout.words() as usize;
@@ -193,10 +189,7 @@ impl<A: Monoid, B: Monoid> Lead<A, B> {
     ) -> Result<(), WordReader<A, B>>
         requires together { AreTogether words.now self.old }
         requires reader { reader.table ≡ self.old.table }
-        ensures table { self.new.table ≡ self.old.table }
-        ensures taken { IfOk result (λ _. self.new.view ≡ taking_reader self.old.view reader.view) }
-        ensures same { IfErr result (λ r. (r ≡ reader) × (self.new ≡ self.old)) }
-        ensures refused { IfErr result (λ _. IsNotTaken self.old.view reader.view) }
+        ensures { TakesReader self.old self.new reader result }
     {
         // What was lent began with a part: a reader elsewhere, as of another layout, is none of these.
         let size = words.layout.words() as usize;
@@ -220,8 +213,7 @@ impl<A: Monoid, B: Monoid> Lead<A, B> {
     pub fn load_record_word(&mut self, words: &Words<A, B>, number: u64, field: RecordField) -> u64
         requires together { AreTogether words.now self.old }
         requires seen { HasSeen self.old.view number }
-        ensures table { self.new.table ≡ self.old.table }
-        ensures view { LoadsRecordWord self.old.view number (field_offset field) result self.new.view }
+        ensures { StaysAt self.old self.new (LoadsRecordWord self.old.view number (field_offset field) result self.new.view) }
     {
         let place = record_word(self.base + words.records, number, field.offset());
         words
@@ -259,8 +251,7 @@ impl<A: Monoid, B: Monoid> Lead<A, B> {
     /// history that continues its own and the pass's. One of these two was a prefix of the other.
     pub fn join<'r>(&mut self, pass: WordPass<'r, A, B>)
         requires { IsOfLead self.old pass }
-        ensures table { self.new.table ≡ self.old.table }
-        ensures takes_back { TakesLaneBack (face A.parts B.parts) self.old.view pass.entry.view self.new.view }
+        ensures { StaysAt self.old self.new (TakesLaneBack (face A.parts B.parts) self.old.view pass.entry.view self.new.view) }
     {
         let WordPass {
             mut seat,

@@ -4,8 +4,8 @@ ghost use Rattle.aug_core.specs.Faces.{face};
 ghost use Rattle.aug_core.specs.Addresses.{root_place};
 ghost use Rattle.aug_core.specs.Pasts.{IsLearnt};
 ghost use Rattle.aug_core.specs.Effects.{LoadsNode, noted};
-ghost use Rattle.aug_words.specs.Notes.{LearnsNote};
-ghost use Rattle.aug_words.specs.Seats.{AreTogether};
+ghost use Rattle.aug_words.specs.Notes.{LearnsNote, MakesNote};
+ghost use Rattle.aug_words.specs.Seats.{AreTogether, StaysAt};
 
 use crate::lead::Lead;
 use crate::pass::WordPass;
@@ -38,9 +38,7 @@ impl WordNote {
     /// Makes another note that says the same.
     pub fn again<A: Monoid, B: Monoid>(&mut self, words: &Words<A, B>) -> WordNote
         requires { self.old.table ≡ words.now.table }
-        ensures same { self.new ≡ self.old }
-        ensures table { result.table ≡ self.old.table }
-        ensures note { result.view ≡ noted self.old.view }
+        ensures { MakesNote self.old self.new result }
     {
         let seat = words.table.shared.split_seat::<MakeNote>(&mut self.seat);
         WordNote { seat }
@@ -50,9 +48,7 @@ impl WordNote {
 impl<'r, A: Monoid, B: Monoid> WordPass<'r, A, B> {
     /// Makes a note of all that the pass has seen. The pass stays as it is.
     pub fn note(&mut self) -> WordNote
-        ensures same { self.new ≡ self.old }
-        ensures table { result.table ≡ self.old.table }
-        ensures note { result.view ≡ noted self.old.view }
+        ensures { MakesNote self.old self.new result }
     {
         let seat = self.words.split_seat::<MakeNote>(&mut self.seat);
         WordNote { seat }
@@ -62,8 +58,7 @@ impl<'r, A: Monoid, B: Monoid> WordPass<'r, A, B> {
     /// note is of its era. A note of an earlier era tells of one that is over.
     pub fn learn(&mut self, note: WordNote) -> u64
         requires table { note.table ≡ self.old.table }
-        ensures table { self.new.table ≡ self.old.table }
-        ensures learns { LearnsNote (face A.parts B.parts) self.old.view note.view result self.new.view }
+        ensures { StaysAt self.old self.new (LearnsNote (face A.parts B.parts) self.old.view note.view result self.new.view) }
     {
         let WordNote { seat } = note;
         self.words.join_seat::<TakeNote>(&mut self.seat, seat);
@@ -74,8 +69,7 @@ impl<'r, A: Monoid, B: Monoid> WordPass<'r, A, B> {
     pub fn follow(&mut self, reader: &mut WordReader<A, B>) -> u64
         requires table { reader.old.table ≡ self.old.table }
         ensures reader { reader.new ≡ reader.old }
-        ensures table { self.new.table ≡ self.old.table }
-        ensures learns { LearnsNote (face A.parts B.parts) self.old.view (noted reader.old.view) result self.new.view }
+        ensures learns { StaysAt self.old self.new (LearnsNote (face A.parts B.parts) self.old.view (noted reader.old.view) result self.new.view) }
     {
         let seat = self.words.split_seat::<MakeNote>(&mut reader.seat);
         self.learn(WordNote { seat })
@@ -96,9 +90,7 @@ impl<A: Monoid, B: Monoid> Lead<A, B> {
     /// Makes a note of all that the lead has seen. The lead stays as it is.
     pub fn note(&mut self, words: &Words<A, B>) -> WordNote
         requires { AreTogether words.now self.old }
-        ensures same { self.new ≡ self.old }
-        ensures table { result.table ≡ self.old.table }
-        ensures note { result.view ≡ noted self.old.view }
+        ensures { MakesNote self.old self.new result }
     {
         let seat = words.table.shared.split_seat::<MakeNote>(&mut self.seat);
         WordNote { seat }
@@ -109,8 +101,7 @@ impl<A: Monoid, B: Monoid> Lead<A, B> {
     pub fn learn(&mut self, words: &Words<A, B>, note: WordNote)
         requires together { AreTogether words.now self.old }
         requires table { note.table ≡ self.old.table }
-        ensures table { self.new.table ≡ self.old.table }
-        ensures learns { (found : ℕ) × LearnsNote (face A.parts B.parts) self.old.view note.view found self.new.view }
+        ensures { StaysAt self.old self.new ((found : ℕ) × LearnsNote (face A.parts B.parts) self.old.view note.view found self.new.view) }
     {
         let WordNote { seat } = note;
         let root = self.root_word(words.lanes);

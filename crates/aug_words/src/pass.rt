@@ -8,7 +8,7 @@ ghost use Rattle.aug_core.specs.Fields.{field_offset};
 ghost use Rattle.aug_core.specs.Effects.{HoldsOnly, MayStore, MayChange, KnowsTable, LoadsLeaf, BeginsAtLeaf, LoadsNode, IsFilled, storing};
 ghost use Rattle.aug_core.specs.declared.view.Held.{Held};
 ghost use Rattle.aug_core.specs.declared.view.LaneState.TheVariants.{Taken};
-ghost use Rattle.aug_words.specs.Seats.{Known, MayLoad, LoadsRecordWord, MayAdvance, TriedLeaf, TriedNode};
+ghost use Rattle.aug_words.specs.Seats.{Known, MayLoad, LoadsRecordWord, MayAdvance, StaysAt, TriedLeaf, TriedNode};
 
 use atomic_table::Seat;
 use aug_core::{
@@ -35,13 +35,13 @@ pub struct WordPass<'r, A: Monoid, B: Monoid> {
 impl<'r, A: Monoid, B: Monoid> Model for WordPass<'r, A, B> {
     ghost use Rattle.aug_core.specs.Faces.{face};
     ghost use Rattle.aug_words.specs.Seats.{Known};
-    ghost use Rattle.aug_words.specs.inside.SeatState.{SitsAt, IsPassSeat};
+    ghost use Rattle.aug_words.specs.inside.SeatState.{HasPassSeat};
 
     ghost Value = { Known };
 
     ghost view = { λ p. record { table = p.seat.table_id; view = p.seat.me.0 } };
 
-    ghost invariant = { λ p. SitsAt p.seat.table_id p.words.now.table_id p.base p.lanes p.records p.seat.me.0 × IsPassSeat (face A.parts B.parts) p.lane p.lent p.seat.me };
+    ghost invariant = { λ p. HasPassSeat (face A.parts B.parts) p.seat.table_id p.words.now.table_id p.base p.lanes p.records p.lane p.lent p.seat.me };
 }
 
 // The place of a word of a record.
@@ -67,8 +67,7 @@ impl<'r, A: Monoid, B: Monoid> WordPass<'r, A, B> {
     /// Loads a leaf's word, its serial and its weight. `leaf` is the word's place, which is the key.
     pub fn load_leaf(&mut self, leaf: usize) -> u64
         requires { leaf < 2 ^ self.old.view.shape.bits }
-        ensures table { self.new.table ≡ self.old.table }
-        ensures view { LoadsLeaf (face A.parts B.parts) self.old.view leaf result self.new.view }
+        ensures { StaysAt self.old self.new (LoadsLeaf (face A.parts B.parts) self.old.view leaf result self.new.view) }
     {
         self.words
             .load::<LoadAnyLeaf<A, B>>(&mut self.seat, self.base + leaf)
@@ -77,8 +76,7 @@ impl<'r, A: Monoid, B: Monoid> WordPass<'r, A, B> {
     /// Loads a leaf's word as the first step of an update. From then on the view says in what state that update began.
     pub fn begin_at_leaf(&mut self, leaf: usize) -> u64
         requires { leaf < 2 ^ self.old.view.shape.bits }
-        ensures table { self.new.table ≡ self.old.table }
-        ensures view { BeginsAtLeaf (face A.parts B.parts) self.old.view leaf result self.new.view }
+        ensures { StaysAt self.old self.new (BeginsAtLeaf (face A.parts B.parts) self.old.view leaf result self.new.view) }
     {
         self.words
             .load::<BeginAtLeaf<A, B>>(&mut self.seat, self.base + leaf)
@@ -90,8 +88,7 @@ impl<'r, A: Monoid, B: Monoid> WordPass<'r, A, B> {
         requires leaf { leaf < 2 ^ self.old.view.shape.bits }
         requires advance { MayAdvance self.old.view leaf old new }
         requires change { MayChange self.old.view }
-        ensures table { self.new.table ≡ self.old.table }
-        ensures view { TriedLeaf (face A.parts B.parts) self.old.view leaf old new result self.new.view }
+        ensures { StaysAt self.old self.new (TriedLeaf (face A.parts B.parts) self.old.view leaf old new result self.new.view) }
     {
         let place = self.base + leaf;
         let found = self
@@ -103,8 +100,7 @@ impl<'r, A: Monoid, B: Monoid> WordPass<'r, A, B> {
     /// Loads a node's word, the number of its newest record. `node` is the word's place, as `Layout::node` gives it.
     pub fn load_node(&mut self, node: usize) -> u64
         requires { IsInner self.old.view.shape node }
-        ensures table { self.new.table ≡ self.old.table }
-        ensures view { LoadsNode (face A.parts B.parts) self.old.view node result self.new.view }
+        ensures { StaysAt self.old self.new (LoadsNode (face A.parts B.parts) self.old.view node result self.new.view) }
     {
         self.words
             .load::<LoadAnyNode<A, B>>(&mut self.seat, self.base + node)
@@ -116,8 +112,7 @@ impl<'r, A: Monoid, B: Monoid> WordPass<'r, A, B> {
         requires inner { IsInner self.old.view.shape node }
         requires own { MayStore self.old.view number }
         requires filled { IsFilled (face A.parts B.parts) self.old.view node from number }
-        ensures table { self.new.table ≡ self.old.table }
-        ensures view { TriedNode (face A.parts B.parts) self.old.view node from number result self.new.view }
+        ensures { StaysAt self.old self.new (TriedNode (face A.parts B.parts) self.old.view node from number result self.new.view) }
     {
         let place = self.base + node;
         let found = self
@@ -131,8 +126,7 @@ impl<'r, A: Monoid, B: Monoid> WordPass<'r, A, B> {
     /// `number` is the number of the record, opening records first. A record that was published never changes.
     pub fn load_record_word(&mut self, number: u64, field: RecordField) -> u64
         requires { MayLoad self.old.view number }
-        ensures table { self.new.table ≡ self.old.table }
-        ensures view { LoadsRecordWord self.old.view number (field_offset field) result self.new.view }
+        ensures { StaysAt self.old self.new (LoadsRecordWord self.old.view number (field_offset field) result self.new.view) }
     {
         let place = record_word(self.records, number, field.offset());
         self.words.load::<LoadAnyRecord>(&mut self.seat, place)
@@ -141,8 +135,7 @@ impl<'r, A: Monoid, B: Monoid> WordPass<'r, A, B> {
     /// Stores one of the five words of a record of the own lane, which was not published.
     pub fn store_record_word(&mut self, number: u64, field: RecordField, value: u64)
         requires { MayStore self.old.view number }
-        ensures table { self.new.table ≡ self.old.table }
-        ensures view { self.new.view ≡ storing self.old.view (record_start self.old.view.shape number + field_offset field) value }
+        ensures { StaysAt self.old self.new (self.new.view ≡ storing self.old.view (record_start self.old.view.shape number + field_offset field) value) }
     {
         let place = record_word(self.records, number, field.offset());
         self.words

@@ -1,10 +1,10 @@
 //! A seat that reads what its lender had seen.
-ghost use Rattle.std.specs.Prelude.{◌≡◌, ◌+◌, IfOk, IfErr};
+ghost use Rattle.std.specs.Prelude.{◌≡◌, ◌+◌};
 ghost use Rattle.aug_core.specs.Effects.{HasSeen};
 ghost use Rattle.aug_core.specs.Fields.{field_offset};
-ghost use Rattle.aug_core.specs.Readers.{lending, reader_of, taking_reader};
-ghost use Rattle.aug_words.specs.Leads.{IsNotTaken};
-ghost use Rattle.aug_words.specs.Seats.{AreTogether, LoadsRecordWord};
+ghost use Rattle.aug_core.specs.Readers.{lending, reader_of};
+ghost use Rattle.aug_words.specs.Leads.{TakesReader};
+ghost use Rattle.aug_words.specs.Seats.{AreTogether, LoadsRecordWord, StaysAt};
 
 use crate::pass::{WordPass, record_word};
 use crate::words::Words;
@@ -27,13 +27,13 @@ pub struct WordReader<A: Monoid, B: Monoid> {
 impl<A: Monoid, B: Monoid> Model for WordReader<A, B> {
     ghost use Rattle.aug_core.specs.Faces.{face};
     ghost use Rattle.aug_words.specs.Seats.{Known};
-    ghost use Rattle.aug_words.specs.inside.SeatState.{IsPlaced, IsReaderSeat};
+    ghost use Rattle.aug_words.specs.inside.SeatState.{IsReaderSeat};
 
     ghost Value = { Known };
 
     ghost view = { λ r. record { table = r.seat.table_id; view = r.seat.me.0 } };
 
-    ghost invariant = { λ r. IsPlaced r.seat.table_id r.base r.seat.me.0 × IsReaderSeat (face A.parts B.parts) r.seat.me };
+    ghost invariant = { λ r. IsReaderSeat (face A.parts B.parts) r.seat.table_id r.base r.seat.me };
 }
 
 impl<A: Monoid, B: Monoid> WordReader<A, B> {
@@ -42,8 +42,7 @@ impl<A: Monoid, B: Monoid> WordReader<A, B> {
     pub fn load_record_word(&mut self, words: &Words<A, B>, number: u64, field: RecordField) -> u64
         requires together { AreTogether words.now self.old }
         requires seen { HasSeen self.old.view number }
-        ensures table { self.new.table ≡ self.old.table }
-        ensures view { LoadsRecordWord self.old.view number (field_offset field) result self.new.view }
+        ensures { StaysAt self.old self.new (LoadsRecordWord self.old.view number (field_offset field) result self.new.view) }
     {
         let place = record_word(self.base + words.records, number, field.offset());
         words
@@ -74,10 +73,7 @@ impl<'r, A: Monoid, B: Monoid> WordPass<'r, A, B> {
     /// Takes a reader back that it lent. Any other reader comes back, and so does each while 2^32 - 1 and more are out.
     pub fn take(&mut self, reader: WordReader<A, B>) -> Result<(), WordReader<A, B>>
         requires table { reader.table ≡ self.old.table }
-        ensures table { self.new.table ≡ self.old.table }
-        ensures taken { IfOk result (λ _. self.new.view ≡ taking_reader self.old.view reader.view) }
-        ensures same { IfErr result (λ r. (r ≡ reader) × (self.new ≡ self.old)) }
-        ensures refused { IfErr result (λ _. IsNotTaken self.old.view reader.view) }
+        ensures { TakesReader self.old self.new reader result }
     {
         if reader.base != self.base || self.lent == 0 || self.lent == u32::MAX {
             return Err(reader);

@@ -1,10 +1,22 @@
--- The names that a cursor keeps: the nodes on the way from the top to a node, and what stands beside that way.
+-- What is known of the nodes on a way down: their names, how many members they cover, the names that a cursor keeps, and what stands beside its way.
 use Rattle.std.specs.Prelude.{◌≡◌, ◌⊎◌, ℕ, ◌+◌, ◌-◌, ◌*◌, ◌/◌, ◌^◌, ◌<◌, Option, Some, List, length, slice_index_or}
 use Rattle.aug_model.specs.Keys.{SetFacts, list_of}
 use Rattle.aug_model.specs.NodeKeys.{keys_below}
 use Rattle.aug_model.specs.Queries.{weight_of}
+use Rattle.aug_query.specs.Descend.{Descends}
 use Rattle.aug_query.specs.Tree.{IsTreeSet}
 use Rattle.aug_query.specs.declared.descent.cursor.Cursor.{Cursor}
+use Rattle.aug_query.specs.declared.loaded.Loaded.{Loaded}
+
+-- a descent came to the node at a level and a place by so many loads of each kind
+pub record ReachesNode {Tree Name : Type 0} (set_of : Tree → SetFacts) (loads_of : Tree → Loaded) (Names : Tree → ℕ → ℕ → Name → Type 0) (KeepsRest : Tree → Tree → Type 0) (nodes counts summaries passed level place : ℕ) (old : Tree) (node : Name) (new : Tree) : Type 0 where
+  pub descends : Descends set_of loads_of Names KeepsRest nodes counts summaries passed old new
+  pub name : Names new level place node
+
+-- the node at a level and a place has this name, and covers so many members
+pub record HasCount {Name : Type 0} (Names : ℕ → ℕ → Name → Type 0) (set : SetFacts) (level place : ℕ) (node : Name) (members : ℕ) : Type 0 where
+  pub name : Names level place node
+  pub count : members ≡ length (keys_below (list_of set) level place)
 
 module _ {N : Type 0} (Names : ℕ → ℕ → N → Type 0) where
   -- it is the name of the node at a level and a place

@@ -1,8 +1,9 @@
 //! The member up to which the weights add up to more than a number.
 ghost use Rattle.std.specs.Prelude.{◌≡◌, ◌+◌, ◌*◌, ◌<◌};
 ghost use Rattle.aug_model.specs.NodeKeys.{pairs_below};
-ghost use Rattle.aug_query.specs.Descend.{Descends, loads};
+ghost use Rattle.aug_query.specs.Descend.{loads};
 ghost use Rattle.aug_query.specs.RunningSums.{select_by_weight_of, sum_of_weights};
+ghost use Rattle.aug_query.specs.inside.Paths.{ReachesNode};
 ghost use Rattle.aug_query.specs.inside.FirstOver.{first_over};
 
 use crate::{Descend, Query};
@@ -57,8 +58,7 @@ fn weighing_child<B: Monoid, D: Descend<Sum, B>>(
 ) -> (D::Name, u32, u64)
     requires name { D.Names tree.old (level + 1) place node.now }
     requires within { rest < sum_of_weights (pairs_below (D.set_of tree.old).pairs (level + 1) place) }
-    ensures descends { Descends D.set_of D.loads_of D.Names D.KeepsRest 2 0 1 0 tree.old tree.new }
-    ensures name { D.Names tree.new level result.1 result.0 }
+    ensures child { ReachesNode D.set_of D.loads_of D.Names D.KeepsRest 2 0 1 0 level result.1 tree.old result.0 tree.new }
     ensures within { result.2 < sum_of_weights (pairs_below (D.set_of tree.old).pairs level result.1) }
     ensures same { first_over (pairs_below (D.set_of tree.old).pairs level result.1) result.2 ≡ first_over (pairs_below (D.set_of tree.old).pairs (level + 1) place) rest }
 {

@@ -3,7 +3,8 @@ ghost use Rattle.std.specs.Prelude.{◌≡◌, ◌+◌, ◌/◌, ◌^◌, length
 ghost use Rattle.aug_model.specs.Keys.{list_of};
 ghost use Rattle.aug_model.specs.Queries.{rank_of};
 ghost use Rattle.aug_model.specs.NodeKeys.{first_key};
-ghost use Rattle.aug_query.specs.Descend.{Descends, loads};
+ghost use Rattle.aug_query.specs.Descend.{loads};
+ghost use Rattle.aug_query.specs.inside.Paths.{ReachesNode};
 
 use crate::toward::universe;
 use crate::{Descend, Query};
@@ -74,8 +75,7 @@ fn toward_counting<A: Monoid, B: Monoid, D: Descend<A, B>>(
 ) -> (D::Name, u32)
     requires name { D.Names tree.old (level + 1) (k / 2 ^ (level + 1)) node.now }
     requires counted { below ≡ rank_of (list_of (D.set_of tree.old)) (first_key (level + 1) (k / 2 ^ (level + 1))) }
-    ensures descends { Descends D.set_of D.loads_of D.Names D.KeepsRest 1 0 0 1 tree.old tree.new }
-    ensures name { D.Names tree.new level (k / 2 ^ level) result.0 }
+    ensures child { ReachesNode D.set_of D.loads_of D.Names D.KeepsRest 1 0 0 1 level (k / 2 ^ level) tree.old result.0 tree.new }
     ensures counted { result.1 ≡ rank_of (list_of (D.set_of tree.old)) (first_key level (k / 2 ^ level)) }
 {
     let place = k >> (level + 1);

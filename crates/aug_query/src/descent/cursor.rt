@@ -6,7 +6,7 @@ ghost use Rattle.aug_model.specs.NodeKeys.{first_key, end_key, keys_below};
 ghost use Rattle.aug_query.specs.Yields.{YieldsNext, YieldsPrevious};
 ghost use Rattle.aug_query.specs.Descend.{Descends};
 ghost use Rattle.aug_query.specs.inside.InOrder.{start_of, start_at};
-ghost use Rattle.aug_query.specs.inside.Paths.{IsPath, IsCursor, IsRightOf, IsLeftOf};
+ghost use Rattle.aug_query.specs.inside.Paths.{ReachesNode, IsPath, IsCursor, IsRightOf, IsLeftOf};
 
 use super::members::weight_of_leaf;
 use super::neighbours::{Order, nearest_child};
@@ -139,8 +139,7 @@ fn way_to<A: Monoid, B: Monoid, D: Descend<A, B>>(
     requires key { key < 2 ^ (D.set_of tree.old).bits }
     requires empty { path.old.items ≡ [] }
     ensures path { IsPath (D.Names tree.new) (D.set_of tree.old).bits 0 key path.new.items }
-    ensures leaf { D.Names tree.new 0 key result }
-    ensures descends { Descends D.set_of D.loads_of D.Names D.KeepsRest ((D.set_of tree.old).bits + 1) 0 0 0 tree.old tree.new }
+    ensures leaf { ReachesNode D.set_of D.loads_of D.Names D.KeepsRest ((D.set_of tree.old).bits + 1) 0 0 0 0 key tree.old result tree.new }
 {
     let mut level = tree.bits();
     let mut node = tree.top();

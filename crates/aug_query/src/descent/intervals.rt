@@ -6,6 +6,7 @@ ghost use Rattle.aug_model.specs.Queries.{range_of, weighted_range_of};
 ghost use Rattle.aug_query.specs.Tree.{sum_of};
 ghost use Rattle.aug_model.specs.NodeKeys.{first_key, end_key};
 ghost use Rattle.aug_query.specs.Descend.{Descends, loads};
+ghost use Rattle.aug_query.specs.inside.Paths.{ReachesNode};
 
 use crate::summaries::{joined, of_none};
 use crate::toward::{toward, universe};
@@ -51,8 +52,7 @@ impl<A: Monoid, B: Monoid> Query<A, B> for Range {
 fn spanning<A: Monoid, B: Monoid, D: Descend<A, B>>(tree: &mut D, a: u32, z: u32) -> (u32, D::Name)
     requires order { a ≤ z }
     requires keys { z < 2 ^ (D.set_of tree.old).bits }
-    ensures descends { Descends D.set_of D.loads_of D.Names D.KeepsRest ((D.set_of tree.old).bits + 1 - result.0) 0 0 0 tree.old tree.new }
-    ensures name { D.Names tree.new result.0 (a / 2 ^ result.0) result.1 }
+    ensures node { ReachesNode D.set_of D.loads_of D.Names D.KeepsRest ((D.set_of tree.old).bits + 1 - result.0) 0 0 0 result.0 (a / 2 ^ result.0) tree.old result.1 tree.new }
     ensures both { a / 2 ^ result.0 ≡ z / 2 ^ result.0 }
     ensures lowest { 1 ≤ result.0 → a / 2 ^ (result.0 - 1) < z / 2 ^ (result.0 - 1) }
 {

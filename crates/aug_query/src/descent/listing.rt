@@ -5,6 +5,7 @@ ghost use Rattle.aug_model.specs.Queries.{weight_in};
 ghost use Rattle.aug_query.specs.Tree.{IsTreeSet};
 ghost use Rattle.aug_model.specs.NodeKeys.{keys_below};
 ghost use Rattle.aug_query.specs.Descend.{Descends, loads};
+ghost use Rattle.aug_query.specs.inside.Paths.{HasCount};
 
 use crate::{Descend, Query};
 use aug_monoid::Monoid;
@@ -109,8 +110,7 @@ fn list_members<A: Monoid, B: Monoid, D: Descend<A, B>, I: Listed>(
     count: u32,
     list: &mut Vec<I>,
 )
-    requires name { D.Names tree.old level place node.now }
-    requires count { count ≡ length (keys_below (list_of (D.set_of tree.old)) level place) }
+    requires node { HasCount (D.Names tree.old) (D.set_of tree.old) level place node.now count }
     requires room { vec_len list.old + count ≤ vec_capacity list.old }
     ensures answer { list.new.items ≡ list.old.items ++ map (λ k. I.item_of k (weight_in (D.set_of tree.old).pairs k)) (keys_below (list_of (D.set_of tree.old)) level place) }
     ensures length { vec_len list.new ≡ vec_len list.old + count }

@@ -3,6 +3,7 @@ ghost use Rattle.std.specs.Prelude.{◌≡◌, ◌+◌, ◌^◌, ◌<◌};
 ghost use Rattle.aug_model.specs.Keys.{is_member, list_of};
 ghost use Rattle.aug_model.specs.Queries.{weight_of};
 ghost use Rattle.aug_query.specs.Descend.{Descends, loads};
+ghost use Rattle.aug_query.specs.inside.Paths.{ReachesNode};
 
 use crate::toward::{toward, universe};
 use crate::{Descend, Query};
@@ -73,8 +74,7 @@ pub(super) fn weight_of_leaf<A: Monoid, B: Monoid, D: Descend<A, B>>(
 #[inline(always)]
 fn leaf_of<A: Monoid, B: Monoid, D: Descend<A, B>>(tree: &mut D, k: u32) -> D::Name
     requires { k < 2 ^ (D.set_of tree.old).bits }
-    ensures descends { Descends D.set_of D.loads_of D.Names D.KeepsRest ((D.set_of tree.old).bits + 1) 0 0 0 tree.old tree.new }
-    ensures name { D.Names tree.new 0 k result }
+    ensures { ReachesNode D.set_of D.loads_of D.Names D.KeepsRest ((D.set_of tree.old).bits + 1) 0 0 0 0 k tree.old result tree.new }
 {
     let mut level = tree.bits();
     let mut node = tree.top();

@@ -4,6 +4,7 @@ ghost use Rattle.aug_model.specs.Keys.{list_of};
 ghost use Rattle.aug_model.specs.Queries.{rank_of, before_of, after_of, last_of};
 ghost use Rattle.aug_model.specs.NodeKeys.{keys_below};
 ghost use Rattle.aug_query.specs.Descend.{Descends, loads};
+ghost use Rattle.aug_query.specs.inside.Paths.{ReachesNode};
 ghost use Rattle.aug_query.specs.inside.InOrder.{head_of, start_of};
 
 use crate::toward::{toward_from_left, toward_from_right, universe};
@@ -140,10 +141,9 @@ pub(super) fn nearest_child<A: Monoid, B: Monoid, D: Descend<A, B>>(
 ) -> (D::Name, u32)
     requires name { D.Names tree.old (level + 1) place node.now }
     requires some { 0 < length (keys_below (list_of (D.set_of tree.old)) (level + 1) place) }
-    ensures descends { Descends D.set_of D.loads_of D.Names D.KeepsRest 2 1 0 0 tree.old tree.new }
-    ensures name { D.Names tree.new level result.1 result.0 }
+    ensures child { ReachesNode D.set_of D.loads_of D.Names D.KeepsRest 2 1 0 0 level result.1 tree.old result.0 tree.new }
     ensures some { 0 < length (keys_below (list_of (D.set_of tree.old)) level result.1) }
-    ensures child { result.1 / 2 ≡ place }
+    ensures place { result.1 / 2 ≡ place }
     ensures start { rank_of (list_of (D.set_of tree.old)) (start_of order level result.1) ≡ rank_of (list_of (D.set_of tree.old)) (start_of order (level + 1) place) }
     ensures same { head_of order (keys_below (list_of (D.set_of tree.old)) level result.1) ≡ head_of order (keys_below (list_of (D.set_of tree.old)) (level + 1) place) }
 {

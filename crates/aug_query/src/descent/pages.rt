@@ -5,6 +5,7 @@ ghost use Rattle.aug_model.specs.NodeKeys.{first_key, end_key, keys_below};
 ghost use Rattle.aug_query.specs.Descend.{Descends, loads};
 ghost use Rattle.aug_query.specs.Tree.{IsTreeSet};
 ghost use Rattle.aug_query.specs.Yields.{members_from, members_below};
+ghost use Rattle.aug_query.specs.inside.Paths.{ReachesNode, HasCount};
 ghost use Rattle.aug_query.specs.inside.Pages.{Reaches, crosses, place_of_first, place_of_second, part_of};
 
 use crate::{Descend, Query};
@@ -77,8 +78,7 @@ fn put_part<A: Monoid, B: Monoid, D: Descend<A, B>>(
     count: u32,
     page: &mut Page,
 )
-    requires name { D.Names tree.old level place node.now }
-    requires count { count ≡ length (keys_below (list_of (D.set_of tree.old)) level place) }
+    requires { HasCount (D.Names tree.old) (D.set_of tree.old) level place node.now count }
     ensures answer { page.new.items ≡ page.old.items ++ take (32 - length page.old.items) (part_of stretch (D.set_of tree.old).pairs (first_key level place) (end_key level place)) }
     ensures descends { Descends D.set_of D.loads_of D.Names D.KeepsRest (2 * level * (length page.new.items - length page.old.items + crosses stretch (first_key level place) (end_key level place))) (level * (length page.new.items - length page.old.items + crosses stretch (first_key level place) (end_key level place))) 0 0 tree.old tree.new }
 {
@@ -131,9 +131,8 @@ impl Stretch {
         node: &D::Name,
     ) -> (D::Name, u32)
         requires { D.Names tree.old (level + 1) place node.now }
-        ensures name { D.Names tree.new level result.1 result.0 }
+        ensures child { ReachesNode D.set_of D.loads_of D.Names D.KeepsRest 1 0 0 0 level result.1 tree.old result.0 tree.new }
         ensures place { result.1 ≡ place_of_first self place }
-        ensures descends { Descends D.set_of D.loads_of D.Names D.KeepsRest 1 0 0 0 tree.old tree.new }
     {
         match self {
             Stretch::From(_) => (tree.left(level, place, node), 2 * place),
@@ -151,9 +150,8 @@ impl Stretch {
         node: &D::Name,
     ) -> (D::Name, u32)
         requires { D.Names tree.old (level + 1) place node.now }
-        ensures name { D.Names tree.new level result.1 result.0 }
+        ensures child { ReachesNode D.set_of D.loads_of D.Names D.KeepsRest 1 0 0 0 level result.1 tree.old result.0 tree.new }
         ensures place { result.1 ≡ place_of_second self place }
-        ensures descends { Descends D.set_of D.loads_of D.Names D.KeepsRest 1 0 0 0 tree.old tree.new }
     {
         match self {
             Stretch::From(_) => (tree.right(level, place, node), 2 * place + 1),

@@ -3,7 +3,8 @@ ghost use Rattle.std.specs.Prelude.{◌≡◌, ◌+◌, ◌*◌, ◌<◌, length
 ghost use Rattle.aug_model.specs.Keys.{list_of};
 ghost use Rattle.aug_model.specs.Queries.{rank_of, select_of};
 ghost use Rattle.aug_model.specs.NodeKeys.{keys_below, first_key};
-ghost use Rattle.aug_query.specs.Descend.{Descends, loads};
+ghost use Rattle.aug_query.specs.Descend.{loads};
+ghost use Rattle.aug_query.specs.inside.Paths.{ReachesNode};
 
 use crate::{Descend, Query};
 use aug_monoid::Monoid;
@@ -51,8 +52,7 @@ fn child_at<A: Monoid, B: Monoid, D: Descend<A, B>>(
 ) -> (D::Name, u32, u32)
     requires name { D.Names tree.old (level + 1) place node.now }
     requires within { i < length (keys_below (list_of (D.set_of tree.old)) (level + 1) place) }
-    ensures descends { Descends D.set_of D.loads_of D.Names D.KeepsRest 2 1 0 0 tree.old tree.new }
-    ensures name { D.Names tree.new level result.1 result.0 }
+    ensures child { ReachesNode D.set_of D.loads_of D.Names D.KeepsRest 2 1 0 0 level result.1 tree.old result.0 tree.new }
     ensures within { result.2 < length (keys_below (list_of (D.set_of tree.old)) level result.1) }
     ensures same { rank_of (list_of (D.set_of tree.old)) (first_key level result.1) + result.2 ≡ rank_of (list_of (D.set_of tree.old)) (first_key (level + 1) place) + i }
 {

@@ -9,6 +9,7 @@ ghost use Rattle.aug_model.specs.inside.Boundary.{IsBoundary};
 ghost use Rattle.aug_query.specs.Descend.{Descends, DescendsBy};
 ghost use Rattle.aug_query.specs.BothMembers.{since_loads};
 ghost use Rattle.aug_query.specs.Tree.{IsTreeSet};
+ghost use Rattle.aug_query.specs.inside.Paths.{HasCount};
 ghost use Rattle.aug_query.specs.inside.Since.{below_both};
 
 use super::changes::Changes;
@@ -82,8 +83,7 @@ fn put_since<A: Monoid, B: Monoid, D: Descend<A, B>, L: MemberList>(
     count: u32,
     merge: &mut Merge,
 )
-    requires name { D.Names tree.old level place node.now }
-    requires count { count ≡ length (keys_below (list_of (D.set_of tree.old)) level place) }
+    requires node { HasCount (D.Names tree.old) (D.set_of tree.old) level place node.now count }
     requires rising { IsStrictlyIncreasing (list_of (L.set_of list.now)) }
     requires next { IsBoundary (list_of (L.set_of list.now)) (max (first_key level place) from) merge.old.next }
     ensures answer { merge.new.page.items ≡ merge.old.page.items ++ take (32 - length merge.old.page.items) (differences_in (L.set_of list.now).pairs (D.set_of tree.old).pairs (max (first_key level place) from) (end_key level place)) }
@@ -136,8 +136,7 @@ fn put_key<A: Monoid, B: Monoid, D: Descend<A, B>, L: MemberList>(
     count: u32,
     merge: &mut Merge,
 )
-    requires name { D.Names tree.now 0 key leaf.now }
-    requires count { count ≡ length (keys_below (list_of (D.set_of tree.now)) 0 key) }
+    requires node { HasCount (D.Names tree.now) (D.set_of tree.now) 0 key leaf.now count }
     requires next { IsBoundary (list_of (L.set_of list.now)) key merge.old.next }
     requires room { length merge.old.page.items < 32 }
     ensures answer { merge.new.page.items ≡ merge.old.page.items ++ differences_in (L.set_of list.now).pairs (D.set_of tree.now).pairs key (key + 1) }
@@ -157,8 +156,7 @@ fn weight_of_member<A: Monoid, B: Monoid, D: Descend<A, B>>(
     leaf: &D::Name,
     count: u32,
 ) -> Option<u32>
-    requires name { D.Names tree.now 0 key leaf.now }
-    requires count { count ≡ length (keys_below (list_of (D.set_of tree.now)) 0 key) }
+    requires { HasCount (D.Names tree.now) (D.set_of tree.now) 0 key leaf.now count }
     ensures { result ≡ weight_of (D.set_of tree.now).pairs key }
 {
     if count == 0 {

@@ -88,8 +88,19 @@ module _ (face : ℕ → ℕ → List (ℕ × ℕ) → List ℕ) where
     pub follows : me.0.spare ≡ None
     pub lends : LendsHere lent me.0.base me.0.lent
 
-  -- what holds for the seat of a reader: it reads, holds no lane and hands none out, and knows its table
-  pub record IsReaderSeat (me : Sat) : Type 0 where
+  -- a pass's seat sits at its table, and has its lane
+  pub record HasPassSeat (seat_table table : TableId) (base lanes records lane lent : ℕ) (me : Sat) : Type 0 where
+    pub sits : SitsAt seat_table table base lanes records me.0
+    pub seat : IsPassSeat lane lent me
+
+  -- that of a pass without its table has its place and its lane
+  pub record HasHalfSeat (table : TableId) (base lane lent : ℕ) (me : Sat) : Type 0 where
+    pub placed : IsPlaced table base me.0
+    pub seat : IsPassSeat lane lent me
+
+  -- what holds for the seat of a reader: it has its place in its table, which it knows, reads, holds no lane and hands none out
+  pub record IsReaderSeat (table : TableId) (base : ℕ) (me : Sat) : Type 0 where
+    pub placed : IsPlaced table base me.0
     pub live : me.0.live ≡ true
     pub no_slot : me.1 ≡ []
     pub reads : me.0.reads ≡ true

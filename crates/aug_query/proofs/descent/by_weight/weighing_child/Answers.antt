@@ -48,14 +48,14 @@ returns-clause-same g c =
     let sum = told (g.D.Descend.set_of c.args.tree.now) (g.D.Descend.set_of c.left-left.new.self) c.args.level (2 * c.args.place) c.value-sum.result c.summary.result.a node.is_tree_set c.left-left.ensures.descends.same_set c.value-sum.ensures (ap (λ s. s.a) c.summary.ensures.value) in
     goes_right (g.D.Descend.set_of c.args.tree.now) c.args.level c.args.place c.args.rest c.value-sum.result node.is_tree_set sum (omega (arith, c.if-rest-sum.false))
 
-pub returns-then-rest-sum-clause-descends : goal.returns-then-rest-sum-clause-descends
-returns-then-rest-sum-clause-descends g c = further g.met.D.Descend.keeps_on c.left-left.ensures.descends c.summary.ensures.descends (omega arith) (omega arith) (omega arith) (omega arith)
+pub returns-then-rest-sum-clause-child : goal.returns-then-rest-sum-clause-child
+returns-then-rest-sum-clause-child g c = record {
+  descends = further g.met.D.Descend.keeps_on c.left-left.ensures.descends c.summary.ensures.descends (omega arith) (omega arith) (omega arith) (omega arith);
+  name = c.summary.ensures.descends.keeps_names _ _ _ c.left-left.ensures.name;
+}
 
-pub returns-then-rest-sum-clause-name : goal.returns-then-rest-sum-clause-name
-returns-then-rest-sum-clause-name g c = c.summary.ensures.descends.keeps_names _ _ _ c.left-left.ensures.name
-
-pub returns-clause-descends : goal.returns-clause-descends
-returns-clause-descends g c =
+pub returns-clause-child : goal.returns-clause-child
+returns-clause-child g c =
     let on = g.met.D.Descend.keeps_on in
     let sum = further {j = 1} {k = 0} {l = 1} {o = 0} on c.left-left.ensures.descends c.summary.ensures.descends (omega arith) (omega arith) (omega arith) (omega arith) in
-    further on sum c.right.ensures.descends (omega arith) (omega arith) (omega arith) (omega arith)
+    record { descends = further on sum c.right.ensures.descends (omega arith) (omega arith) (omega arith) (omega arith); name = c.right.ensures.name }

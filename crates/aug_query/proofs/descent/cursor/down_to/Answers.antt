@@ -30,17 +30,17 @@ loop-level-preserved g c =
     let inv = c.loop-level.invariant in
     let level = c.loop-level.level in
     let child = c.nearest_child-child in
-    let keeps = child.ensures.descends.keeps_names in
+    let keeps = child.ensures.child.descends.keeps_names in
     let above : level - 1 + 1 ≡ level = omega (arith, c.loop-level-test.true) in
     let here = ap (λ s. length (keys_below (list_of s) (level - 1) child.result.1)) inv.descends.same_set in
     let start = subst (λ s. rank_of (list_of s) (start_of c.args.order (level - 1) child.result.1) ≡ rank_of (list_of s) (start_of c.args.order (level - 1 + 1) c.loop-level.place)) inv.descends.same_set child.ensures.start in
     record {
       most = omega (arith, inv.most);
-      name = child.ensures.name;
+      name = child.ensures.child.name;
       some = omega (arith, child.ensures.some, here);
       start = start ∙ ap (λ n. rank_of (list_of (g.D.Descend.set_of c.args.tree.now)) (start_of c.args.order n c.loop-level.place)) above ∙ inv.start;
-      path = path_pushed _ level (level - 1) c.loop-level.place child.result.1 _ _ c.loop-level.node (omega (arith, c.loop-level-test.true)) (path_stays _ _ _ _ keeps inv.path) (keeps _ _ c.loop-level.node inv.name) child.ensures.child c.push.ensures.items;
-      descends = further g.met.D.Descend.keeps_on inv.descends child.ensures.descends (omega (arith, inv.most, c.loop-level-test.true)) (omega (arith, inv.most, c.loop-level-test.true)) (omega arith) (omega arith);
+      path = path_pushed _ level (level - 1) c.loop-level.place child.result.1 _ _ c.loop-level.node (omega (arith, c.loop-level-test.true)) (path_stays _ _ _ _ keeps inv.path) (keeps _ _ c.loop-level.node inv.name) child.ensures.place c.push.ensures.items;
+      descends = further g.met.D.Descend.keeps_on inv.descends child.ensures.child.descends (omega (arith, inv.most, c.loop-level-test.true)) (omega (arith, inv.most, c.loop-level-test.true)) (omega arith) (omega arith);
     }
 
 pub returns-clause-descends : goal.returns-clause-descends

@@ -1,4 +1,4 @@
-use Rattle.std.proofs.Common.{◌≡◌, ◌-◌, ◌/◌, ◌^◌, ap, sym, ◌∙◌, subst, arith}
+use Rattle.std.proofs.Common.{◌≡◌, ◌-◌, ◌/◌, ◌^◌, ap, sym, ◌∙◌, subst, arith, rules}
 use Rattle.aug_query.proofs.Descending.{further, within}
 use Rattle.aug_query.proofs.Paths.{path_empty, path_leaf, path_stays, path_pushed, place_above}
 use Rattle.aug_query.proofs.Ways.{top_place}
@@ -28,8 +28,8 @@ loop-level-preserved g c =
       walk = further g.met.D.Descend.keeps_on inv.walk step.descends (omega (arith, inv.most, c.loop-level-test.true)) (omega arith) (omega arith) (omega arith);
     }
 
-pub returns-clause-descends : goal.returns-clause-descends
-returns-clause-descends g c = within c.loop-level.invariant.walk (omega arith) (omega arith) (omega arith) (omega arith)
+pub returns-clause-leaf : goal.returns-clause-leaf
+returns-clause-leaf g c = record { descends = within c.loop-level.invariant.walk (omega arith) (omega arith) (omega arith) (omega arith); name = search rules }
 
 pub returns-clause-path : goal.returns-clause-path
 returns-clause-path g c =

@@ -47,5 +47,5 @@ loop-level-preserved g c =
       walk = further g.met.D.Descend.keeps_on inv.walk step.descends (omega (arith, inv.most)) (omega arith) (omega arith) (omega arith);
     }
 
-pub returns-clause-descends : goal.returns-clause-descends
-returns-clause-descends g c = c.loop-level.invariant.walk
+pub returns-clause-node : goal.returns-clause-node
+returns-clause-node g c = record { descends = c.loop-level.invariant.walk; name = c.loop-level.invariant.name }

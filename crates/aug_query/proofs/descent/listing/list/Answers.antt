@@ -1,4 +1,4 @@
-use Rattle.std.proofs.Common.{sym, subst, ◌∙◌, arith}
+use Rattle.std.proofs.Common.{sym, subst, ◌∙◌, arith, rules}
 use Rattle.aug_query.proofs.Choosing.{whole_length, listed_whole, whole_descends}
 use Rattle.aug_query.proofs.Descending.{counted, within}
 use Rattle.aug_query.proofs.descent.listing.list.Goals as goal
@@ -22,5 +22,5 @@ returns-clause-descends g c =
 pub returns-in_err-list-clause-descends : goal.returns-in_err-list-clause-descends
 returns-in_err-list-clause-descends g c = within (counted g.met.D.Descend.keeps_on c.top-top.ensures.descends c.count-count.ensures.descends) (omega arith) (omega arith) (omega arith) (omega arith)
 
-pub list_members-requires-clause-name : goal.list_members-requires-clause-name
-list_members-requires-clause-name g c = c.count-count.ensures.descends.keeps_names _ _ _ (subst (λ n. g.D.Descend.Names c.top-top.new.self n 0 c.top-top.result) (sym c.bits-bits.ensures.value) c.top-top.ensures.name)
+pub list_members-requires-clause-node : goal.list_members-requires-clause-node
+list_members-requires-clause-node g c = record { name = c.count-count.ensures.descends.keeps_names _ _ _ (subst (λ n. g.D.Descend.Names c.top-top.new.self n 0 c.top-top.result) (sym c.bits-bits.ensures.value) c.top-top.ensures.name); count = search rules }

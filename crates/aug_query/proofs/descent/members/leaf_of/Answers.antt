@@ -1,4 +1,4 @@
-use Rattle.std.proofs.Common.{sym, subst, arith}
+use Rattle.std.proofs.Common.{sym, subst, arith, rules}
 use Rattle.aug_query.proofs.Descending.{further, within}
 use Rattle.aug_query.proofs.Ways.{top_place}
 use Rattle.aug_query.proofs.descent.members.leaf_of.Goals as goal
@@ -19,5 +19,5 @@ loop-level-preserved g c =
     let step = c.toward-node.ensures in
     record { most = omega (arith, inv.most); node = step.name; walk = further g.met.D.Descend.keeps_on inv.walk step.descends (omega (arith, inv.most, c.loop-level-test.true)) (omega arith) (omega arith) (omega arith) }
 
-pub returns-clause-descends : goal.returns-clause-descends
-returns-clause-descends g c = within c.loop-level.invariant.walk (omega arith) (omega arith) (omega arith) (omega arith)
+pub returns : goal.returns
+returns g c = record { descends = within c.loop-level.invariant.walk (omega arith) (omega arith) (omega arith) (omega arith); name = search rules }

@@ -33,10 +33,10 @@ loop-level-preserved g c =
     let here = ap (λ s. length (keys_below (list_of s) (c.loop-level.level - 1) child.result.1)) set in
     record {
       most = omega (arith, inv.most);
-      name = child.ensures.name;
+      name = child.ensures.child.name;
       some = omega (arith, child.ensures.some, here);
       same = as_begun (head_of c.args.order) (head_of c.args.order (keys_below (list_of (g.D.Descend.set_of c.args.tree.now)) c.args.level c.args.place)) c.loop-level.level (c.loop-level.level - 1 + 1) (c.loop-level.level - 1) c.loop-level.place child.result.1 set above child.ensures.same inv.same;
-      descends = further g.met.D.Descend.keeps_on inv.descends child.ensures.descends (omega (arith, inv.most, c.loop-level-test.true)) (omega (arith, inv.most, c.loop-level-test.true)) (omega arith) (omega arith);
+      descends = further g.met.D.Descend.keeps_on inv.descends child.ensures.child.descends (omega (arith, inv.most, c.loop-level-test.true)) (omega (arith, inv.most, c.loop-level-test.true)) (omega arith) (omega arith);
     }
 
 pub returns-clause-answer : goal.returns-clause-answer

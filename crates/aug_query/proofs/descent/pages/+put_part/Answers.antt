@@ -37,8 +37,8 @@ pub overflow_sub-count : goal.overflow_sub-count
 overflow_sub-count g t c =
     let set = g.D.Descend.set_of c.args.tree.now in
     let node = g.met.D.Descend.name_stands c.args.tree.now _ _ c.args.node.now c.requires.name in
-    let low = c.first_child-child.ensures.descends.same_set in
-    let high = c.second_child-child.ensures.descends.same_set ∙ c.put_part.ensures.descends.same_set ∙ c.count-some.ensures.descends.same_set ∙ low in
+    let low = c.first_child-child.ensures.child.descends.same_set in
+    let high = c.second_child-child.ensures.child.descends.same_set ∙ c.put_part.ensures.descends.same_set ∙ c.count-some.ensures.descends.same_set ∙ low in
     let both = second_count c.args.level (c.args.level - 1) c.args.place (omega (arith, c.if-level-eq0.false)) set (g.D.Descend.set_of c.first_child-child.new.tree) (g.D.Descend.set_of c.second_child-child.new.tree) c.args.stretch c.first_child-child.result.1 c.second_child-child.result.1 c.args.count c.count-some.result node.is_tree_set low high c.first_child-child.ensures.place c.second_child-child.ensures.place c.requires.count c.count-some.ensures.value in
     both.0
 
@@ -46,17 +46,17 @@ pub put_part-requires-2 : goal.put_part-requires-2
 put_part-requires-2 g t c κs lives =
     let set = g.D.Descend.set_of c.args.tree.now in
     let node = g.met.D.Descend.name_stands c.args.tree.now _ _ c.args.node.now c.requires.name in
-    let low = c.first_child-child.ensures.descends.same_set in
-    let high = c.second_child-child.ensures.descends.same_set ∙ c.put_part.ensures.descends.same_set ∙ c.count-some.ensures.descends.same_set ∙ low in
+    let low = c.first_child-child.ensures.child.descends.same_set in
+    let high = c.second_child-child.ensures.child.descends.same_set ∙ c.put_part.ensures.descends.same_set ∙ c.count-some.ensures.descends.same_set ∙ low in
     let both = second_count c.args.level (c.args.level - 1) c.args.place (omega (arith, c.if-level-eq0.false)) set (g.D.Descend.set_of c.first_child-child.new.tree) (g.D.Descend.set_of c.second_child-child.new.tree) c.args.stretch c.first_child-child.result.1 c.second_child-child.result.1 c.args.count c.count-some.result node.is_tree_set low high c.first_child-child.ensures.place c.second_child-child.ensures.place c.requires.count c.count-some.ensures.value in
-    (omega (arith, c.decreases, c.if-level-eq0.false), (lives.0, (lives.1.0, (lives.1.1.0, (lives.1.1.1, (c.second_child-child.ensures.name, both.1))))))
+    (omega (arith, c.decreases, c.if-level-eq0.false), (lives.0, (lives.1.0, (lives.1.1.0, (lives.1.1.1, record { name = c.second_child-child.ensures.child.name; count = both.1 })))))
 
 pub returns-clause-answer : goal.returns-clause-answer
 returns-clause-answer g t c =
     let set = g.D.Descend.set_of c.args.tree.now in
     let node = g.met.D.Descend.name_stands c.args.tree.now _ _ c.args.node.now c.requires.name in
-    let low = c.count-some.ensures.descends.same_set ∙ c.first_child-child.ensures.descends.same_set in
-    let high = c.second_child-child.ensures.descends.same_set ∙ c.put_part.ensures.descends.same_set ∙ low in
+    let low = c.count-some.ensures.descends.same_set ∙ c.first_child-child.ensures.child.descends.same_set in
+    let high = c.second_child-child.ensures.child.descends.same_set ∙ c.put_part.ensures.descends.same_set ∙ low in
     both_given c.args.level (c.args.level - 1) c.args.place (omega (arith, c.if-level-eq0.false)) c.args.stretch c.first_child-child.result.1 c.second_child-child.result.1 c.first_child-child.ensures.place c.second_child-child.ensures.place
     set (g.D.Descend.set_of c.count-some.new.self) (g.D.Descend.set_of c.second_child-child.new.tree) c.args.page.now.items c.put_part.new.page.items c.put_part-2.new.page.items node.is_tree_set low high c.put_part.ensures.answer c.put_part-2.ensures.answer
 
@@ -64,8 +64,8 @@ pub returns-clause-descends : goal.returns-clause-descends
 returns-clause-descends g t c =
     let set = g.D.Descend.set_of c.args.tree.now in
     let node = g.met.D.Descend.name_stands c.args.tree.now _ _ c.args.node.now c.requires.name in
-    let low = c.count-some.ensures.descends.same_set ∙ c.first_child-child.ensures.descends.same_set in
-    let high = c.second_child-child.ensures.descends.same_set ∙ c.put_part.ensures.descends.same_set ∙ low in
+    let low = c.count-some.ensures.descends.same_set ∙ c.first_child-child.ensures.child.descends.same_set in
+    let high = c.second_child-child.ensures.child.descends.same_set ∙ c.put_part.ensures.descends.same_set ∙ low in
     let l = c.args.level - 1 in
     let e : l + 1 ≡ c.args.level = omega (arith, c.if-level-eq0.false) in
     let given = both_given c.args.level l c.args.place e c.args.stretch c.first_child-child.result.1 c.second_child-child.result.1 c.first_child-child.ensures.place c.second_child-child.ensures.place
@@ -74,7 +74,7 @@ returns-clause-descends g t c =
     let some = some_given set c.args.stretch c.args.level c.args.place c.args.count c.args.page.now.items c.put_part-2.new.page.items node.is_tree_set c.requires.count c.if-count-eq0.false room (c.if-not-reaches.ensures.0 refl) given in
     both_descend c.args.level l c.args.place e c.args.stretch c.first_child-child.result.1 c.second_child-child.result.1 c.first_child-child.ensures.place c.second_child-child.ensures.place g.met.D.Descend.keeps_on
     c.args.page.now.items c.put_part.new.page.items c.put_part-2.new.page.items _ _ c.put_part.ensures.answer c.put_part-2.ensures.answer some
-    c.first_child-child.ensures.descends c.count-some.ensures.descends c.put_part.ensures.descends c.second_child-child.ensures.descends c.put_part-2.ensures.descends
+    c.first_child-child.ensures.child.descends c.count-some.ensures.descends c.put_part.ensures.descends c.second_child-child.ensures.child.descends c.put_part-2.ensures.descends
 
 -- the other child gives nothing, if it covers no member or the page is full
 none_more : (set : SetFacts) (stretch : Stretch) (level l place n some p : ℕ) (low : SetFacts) (mid : List (ℕ × ℕ)) → IsTreeSet set → l + 1 ≡ level → low ≡ set → p ≡ place_of_first stretch place → n ≡ length (keys_below (list_of set) level place) → some ≡ length (keys_below (list_of low) l p)
@@ -88,7 +88,7 @@ pub returns-then-some-count-clause-answer : goal.returns-then-some-count-clause-
 returns-then-some-count-clause-answer g t c =
     let set = g.D.Descend.set_of c.args.tree.now in
     let node = g.met.D.Descend.name_stands c.args.tree.now _ _ c.args.node.now c.requires.name in
-    let first = c.first_child-child.ensures.descends.same_set in
+    let first = c.first_child-child.ensures.child.descends.same_set in
     let low = c.count-some.ensures.descends.same_set ∙ first in
     let l = c.args.level - 1 in
     let e : l + 1 ≡ c.args.level = omega (arith, c.if-level-eq0.false) in
@@ -106,7 +106,7 @@ pub returns-then-some-count-clause-descends : goal.returns-then-some-count-claus
 returns-then-some-count-clause-descends g t c =
     let set = g.D.Descend.set_of c.args.tree.now in
     let node = g.met.D.Descend.name_stands c.args.tree.now _ _ c.args.node.now c.requires.name in
-    let first = c.first_child-child.ensures.descends.same_set in
+    let first = c.first_child-child.ensures.child.descends.same_set in
     let low = c.count-some.ensures.descends.same_set ∙ first in
     let l = c.args.level - 1 in
     let e : l + 1 ≡ c.args.level = omega (arith, c.if-level-eq0.false) in
@@ -121,4 +121,4 @@ returns-then-some-count-clause-descends g t c =
     let room : length old < 32 = omega (arith, eqb-false _ _ (sym c.if-is_full.ensures.value), c.is_full.ensures.fits) in
     let some = some_given set c.args.stretch c.args.level c.args.place c.args.count old mid node.is_tree_set c.requires.count c.if-count-eq0.false room (c.if-not-reaches.ensures.0 refl) given in
     first_descends c.args.level l c.args.place e c.args.stretch c.first_child-child.result.1 (place_of_second c.args.stretch c.args.place) c.first_child-child.ensures.place refl g.met.D.Descend.keeps_on
-    old mid _ _ c.put_part.ensures.answer none some c.first_child-child.ensures.descends c.count-some.ensures.descends c.put_part.ensures.descends
+    old mid _ _ c.put_part.ensures.answer none some c.first_child-child.ensures.child.descends c.count-some.ensures.descends c.put_part.ensures.descends

@@ -1,4 +1,4 @@
-use Rattle.std.proofs.Common.{◌+◌, ◌*◌, refl, arith}
+use Rattle.std.proofs.Common.{◌+◌, ◌*◌, refl, arith, rules}
 use Rattle.aug_model.specs.Keys.{list_of}
 use Rattle.aug_query.proofs.Choosing.{child_fits, count_of, chosen_left, chosen_right, chosen_within, set_rises}
 use Rattle.aug_query.proofs.Descending.{counted, counted_other, within}
@@ -39,8 +39,8 @@ returns-clause-same g c =
     let low = count_of (g.D.Descend.set_of c.args.tree.now) (g.D.Descend.set_of c.left-left.new.self) c.args.level (2 * c.args.place) c.count-below.result c.left-left.ensures.descends.same_set c.count-below.ensures.value in
     chosen_right (list_of (g.D.Descend.set_of c.args.tree.now)) c.args.level c.args.place c.count-below.result c.args.i (set_rises node.is_tree_set) low (omega (arith, c.if-i-below.false))
 
-pub returns-then-i-below-clause-descends : goal.returns-then-i-below-clause-descends
-returns-then-i-below-clause-descends g c = within (counted g.met.D.Descend.keeps_on c.left-left.ensures.descends c.count-below.ensures.descends) (omega arith) (omega arith) (omega arith) (omega arith)
+pub returns-then-i-below-clause-child : goal.returns-then-i-below-clause-child
+returns-then-i-below-clause-child g c = record { name = search rules; descends = within (counted g.met.D.Descend.keeps_on c.left-left.ensures.descends c.count-below.ensures.descends) (omega arith) (omega arith) (omega arith) (omega arith) }
 
-pub returns-clause-descends : goal.returns-clause-descends
-returns-clause-descends g c = counted_other g.met.D.Descend.keeps_on c.left-left.ensures.descends c.count-below.ensures.descends c.right.ensures.descends
+pub returns-clause-child : goal.returns-clause-child
+returns-clause-child g c = record { descends = counted_other g.met.D.Descend.keeps_on c.left-left.ensures.descends c.count-below.ensures.descends c.right.ensures.descends; name = c.right.ensures.name }

@@ -26,14 +26,14 @@ returns-then-is_full-clause-next g t c room =
     ]
 
 pub is_under-requires : goal.is_under-requires
-is_under-requires g t c = let node = g.met.D.Descend.name_stands c.args.tree.now _ _ c.args.node.now c.requires.name in omega (arith, node.level_fits, node.is_tree_set.few_bits)
+is_under-requires g t c = let node = g.met.D.Descend.name_stands c.args.tree.now _ _ c.args.node.now c.requires.node.name in omega (arith, node.level_fits, node.is_tree_set.few_bits)
 
 pub returns-then-not-is_under-clause-answer : goal.returns-then-not-is_under-clause-answer
 returns-then-not-is_under-clause-answer g t c =
     let earlier = g.L.MemberList.set_of c.args.list.now in let set = g.D.Descend.set_of c.args.tree.now in
-    let node = g.met.D.Descend.name_stands c.args.tree.now _ _ c.args.node.now c.requires.name in
+    let node = g.met.D.Descend.name_stands c.args.tree.now _ _ c.args.node.now c.requires.node.name in
     let old = c.args.merge.now.page.items in
-    takes_nothing (32 - length old) old _ (empty_changes earlier set c.args.from c.args.level c.args.place c.args.merge.now.next c.requires.rising c.requires.next c.if-from-level.false (none_under earlier.pairs c.args.merge.now.next c.args.level c.args.place c.is_under.ensures c.if-not-is_under.true) c.args.count node.is_tree_set c.requires.count c.if-count-eq0.true)
+    takes_nothing (32 - length old) old _ (empty_changes earlier set c.args.from c.args.level c.args.place c.args.merge.now.next c.requires.rising c.requires.next c.if-from-level.false (none_under earlier.pairs c.args.merge.now.next c.args.level c.args.place c.is_under.ensures c.if-not-is_under.true) c.args.count node.is_tree_set c.requires.node.count c.if-count-eq0.true)
 
 pub returns-then-not-is_under-clause-next : goal.returns-then-not-is_under-clause-next
 returns-then-not-is_under-clause-next g t c room =
@@ -42,12 +42,12 @@ returns-then-not-is_under-clause-next g t c room =
 
 pub overflow_mul-place : goal.overflow_mul-place
 overflow_mul-place g t c =
-    let node = g.met.D.Descend.name_stands c.args.tree.now _ _ c.args.node.now c.requires.name in
+    let node = g.met.D.Descend.name_stands c.args.tree.now _ _ c.args.node.now c.requires.node.name in
     omega (arith, child_fits (g.D.Descend.set_of c.args.tree.now) c.args.level (c.args.level - 1) c.args.place node.is_tree_set (omega (arith, c.if-level-eq0.false)) node.place_fits)
 
 pub overflow_mul-place-2 : goal.overflow_mul-place-2
 overflow_mul-place-2 g t c =
-    let node = g.met.D.Descend.name_stands c.args.tree.now _ _ c.args.node.now c.requires.name in
+    let node = g.met.D.Descend.name_stands c.args.tree.now _ _ c.args.node.now c.requires.node.name in
     omega (arith, child_fits (g.D.Descend.set_of c.args.tree.now) c.args.level (c.args.level - 1) c.args.place node.is_tree_set (omega (arith, c.if-level-eq0.false)) node.place_fits)
 
 pub put_since-requires : goal.put_since-requires
@@ -56,7 +56,7 @@ put_since-requires g t c κs lives =
     let name = c.count-some.ensures.descends.keeps_names _ _ _ c.left-left.ensures.name in
     let count = count_of (g.D.Descend.set_of c.count-some.new.self) (g.D.Descend.set_of c.left-left.new.self) l (2 * c.args.place) c.count-some.result (sym c.count-some.ensures.descends.same_set) c.count-some.ensures.value in
     let next = first_place c.args.from c.args.level l c.args.place (omega (arith, c.if-level-eq0.false)) _ c.args.merge.now.next c.requires.next in
-    (omega (arith, c.decreases, c.if-level-eq0.false), (lives.0, (lives.1.0, (lives.1.1.0, (lives.1.1.1.0, (lives.1.1.1.1, (name, (count, (c.requires.rising, next)))))))))
+    (omega (arith, c.decreases, c.if-level-eq0.false), (lives.0, (lives.1.0, (lives.1.1.0, (lives.1.1.1.0, (lives.1.1.1.1, (record { name = name; count = count }, (c.requires.rising, next))))))))
 
 pub returns-then-is_full-2-clause-answer : goal.returns-then-is_full-2-clause-answer
 returns-then-is_full-2-clause-answer g t c =
@@ -68,9 +68,9 @@ returns-then-is_full-2-clause-answer g t c =
 pub returns-then-is_full-2-clause-descends : goal.returns-then-is_full-2-clause-descends
 returns-then-is_full-2-clause-descends g t c =
     let earlier = g.L.MemberList.set_of c.args.list.now in let set = g.D.Descend.set_of c.args.tree.now in
-    let node = g.met.D.Descend.name_stands c.args.tree.now _ _ c.args.node.now c.requires.name in
+    let node = g.met.D.Descend.name_stands c.args.tree.now _ _ c.args.node.now c.requires.node.name in
     let same = c.count-some.ensures.descends.same_set ∙ c.left-left.ensures.descends.same_set in
-    let some = some_below earlier set c.args.from c.args.level c.args.place c.args.merge.now.next c.args.count c.requires.rising c.requires.next c.if-from-level.false c.requires.count (elim c.else-count-eq0.branch [
+    let some = some_below earlier set c.args.from c.args.level c.args.place c.args.merge.now.next c.args.count c.requires.rising c.requires.next c.if-from-level.false c.requires.node.count (elim c.else-count-eq0.branch [
       | else-count-eq0-via-then-count-eq0+else-not-is_under w ↦ inr (w.is_under.ensures.0 w.if-not-is_under.false)
       | else-count-eq0-via-else-count-eq0 w ↦ inl w.if-count-eq0.false
     ]) in
@@ -81,32 +81,32 @@ pub right-right-requires : goal.right-right-requires
 right-right-requires g t c =
     let there : c.args.level - 1 + 1 ≡ c.args.level = omega (arith, c.if-level-eq0.false) in
     subst (λ (z : ℕ). g.D.Descend.Names c.put_since.new.tree z c.args.place c.args.node.now) (sym there)
-    (c.put_since.ensures.descends.keeps_names _ _ _ (c.count-some.ensures.descends.keeps_names _ _ _ (c.left-left.ensures.descends.keeps_names _ _ _ c.requires.name)))
+    (c.put_since.ensures.descends.keeps_names _ _ _ (c.count-some.ensures.descends.keeps_names _ _ _ (c.left-left.ensures.descends.keeps_names _ _ _ c.requires.node.name)))
 
 pub overflow_mul-place-3 : goal.overflow_mul-place-3
 overflow_mul-place-3 g t c =
-    let node = g.met.D.Descend.name_stands c.args.tree.now _ _ c.args.node.now c.requires.name in
+    let node = g.met.D.Descend.name_stands c.args.tree.now _ _ c.args.node.now c.requires.node.name in
     omega (arith, child_fits (g.D.Descend.set_of c.args.tree.now) c.args.level (c.args.level - 1) c.args.place node.is_tree_set (omega (arith, c.if-level-eq0.false)) node.place_fits)
 
 pub overflow_add-place : goal.overflow_add-place
 overflow_add-place g t c =
-    let node = g.met.D.Descend.name_stands c.args.tree.now _ _ c.args.node.now c.requires.name in
+    let node = g.met.D.Descend.name_stands c.args.tree.now _ _ c.args.node.now c.requires.node.name in
     omega (arith, child_fits (g.D.Descend.set_of c.args.tree.now) c.args.level (c.args.level - 1) c.args.place node.is_tree_set (omega (arith, c.if-level-eq0.false)) node.place_fits)
 
 pub overflow_sub-count : goal.overflow_sub-count
 overflow_sub-count g t c =
-    let node = g.met.D.Descend.name_stands c.args.tree.now _ _ c.args.node.now c.requires.name in
-    left_few (g.D.Descend.set_of c.args.tree.now) (g.D.Descend.set_of c.left-left.new.self) c.args.level (c.args.level - 1) c.args.place c.args.count c.count-some.result node.is_tree_set (omega (arith, c.if-level-eq0.false)) c.left-left.ensures.descends.same_set c.requires.count c.count-some.ensures.value
+    let node = g.met.D.Descend.name_stands c.args.tree.now _ _ c.args.node.now c.requires.node.name in
+    left_few (g.D.Descend.set_of c.args.tree.now) (g.D.Descend.set_of c.left-left.new.self) c.args.level (c.args.level - 1) c.args.place c.args.count c.count-some.result node.is_tree_set (omega (arith, c.if-level-eq0.false)) c.left-left.ensures.descends.same_set c.requires.node.count c.count-some.ensures.value
 
 pub put_since-requires-2 : goal.put_since-requires-2
 put_since-requires-2 g t c κs lives =
     let set = g.D.Descend.set_of c.args.tree.now in
-    let node = g.met.D.Descend.name_stands c.args.tree.now _ _ c.args.node.now c.requires.name in
+    let node = g.met.D.Descend.name_stands c.args.tree.now _ _ c.args.node.now c.requires.node.name in
     let same = c.right-right.ensures.descends.same_set ∙ c.put_since.ensures.descends.same_set ∙ c.count-some.ensures.descends.same_set ∙ c.left-left.ensures.descends.same_set in
-    let count = right_count set (g.D.Descend.set_of c.left-left.new.self) (g.D.Descend.set_of c.right-right.new.self) c.args.level (c.args.level - 1) c.args.place c.args.count c.count-some.result node.is_tree_set (omega (arith, c.if-level-eq0.false)) c.left-left.ensures.descends.same_set same c.requires.count c.count-some.ensures.value in
+    let count = right_count set (g.D.Descend.set_of c.left-left.new.self) (g.D.Descend.set_of c.right-right.new.self) c.args.level (c.args.level - 1) c.args.place c.args.count c.count-some.result node.is_tree_set (omega (arith, c.if-level-eq0.false)) c.left-left.ensures.descends.same_set same c.requires.node.count c.count-some.ensures.value in
     let room : length c.put_since.new.merge.page.items < 32 = omega (arith, eqb-false _ _ (sym c.if-is_full-2.ensures.value), c.is_full-2.ensures.fits) in
     let next = second_place c.args.from c.args.level (c.args.level - 1) c.args.place (omega (arith, c.if-level-eq0.false)) _ c.put_since.new.merge.next (c.put_since.ensures.next room) in
-    (omega (arith, c.decreases, c.if-level-eq0.false), (lives.0, (lives.1.0, (lives.1.1.0, (lives.1.1.1.0, (lives.1.1.1.1, (c.right-right.ensures.name, (count, (c.requires.rising, next)))))))))
+    (omega (arith, c.decreases, c.if-level-eq0.false), (lives.0, (lives.1.0, (lives.1.1.0, (lives.1.1.1.0, (lives.1.1.1.1, (record { name = c.right-right.ensures.name; count = count }, (c.requires.rising, next))))))))
 
 pub returns-clause-answer : goal.returns-clause-answer
 returns-clause-answer g t c =
@@ -122,10 +122,10 @@ returns-clause-next g t c room = last_place c.args.from c.args.level (c.args.lev
 pub returns-clause-descends : goal.returns-clause-descends
 returns-clause-descends g t c =
     let earlier = g.L.MemberList.set_of c.args.list.now in let set = g.D.Descend.set_of c.args.tree.now in
-    let node = g.met.D.Descend.name_stands c.args.tree.now _ _ c.args.node.now c.requires.name in
+    let node = g.met.D.Descend.name_stands c.args.tree.now _ _ c.args.node.now c.requires.node.name in
     let low = c.count-some.ensures.descends.same_set ∙ c.left-left.ensures.descends.same_set in
     let high = c.right-right.ensures.descends.same_set ∙ c.put_since.ensures.descends.same_set ∙ low in
-    let some = some_below earlier set c.args.from c.args.level c.args.place c.args.merge.now.next c.args.count c.requires.rising c.requires.next c.if-from-level.false c.requires.count (elim c.else-count-eq0.branch [
+    let some = some_below earlier set c.args.from c.args.level c.args.place c.args.merge.now.next c.args.count c.requires.rising c.requires.next c.if-from-level.false c.requires.node.count (elim c.else-count-eq0.branch [
       | else-count-eq0-via-then-count-eq0+else-not-is_under w ↦ inr (w.is_under.ensures.0 w.if-not-is_under.false)
       | else-count-eq0-via-else-count-eq0 w ↦ inl w.if-count-eq0.false
     ]) in

@@ -1,4 +1,4 @@
-use Rattle.std.proofs.Common.{refl, subst, sym, ◌+◌, ℕ, arith}
+use Rattle.std.proofs.Common.{refl, subst, sym, ◌+◌, ℕ, arith, rules}
 use Rattle.aug_core.specs.Effects.{HasSeen}
 use Rattle.aug_core.specs.Faces.{face}
 use Rattle.aug_core.specs.Fields.{field_offset}
@@ -29,10 +29,8 @@ invariant_of-self g c = let w = c.words.invariant in let sits = sits_at _ _ _ _ 
     let told = c.load.ensures.2 (record_start c.self.inside.seat.me.0.shape c.args.number + c.offset.result) (omega arith) in
     lead_looked (face g.A.Monoid.parts g.B.Monoid.parts) _ _ c.self.inside.base c.self.inside.next c.self.inside.root c.self.inside.draft.base c.self.inside.draft.shown.items c.self.inside.parts c.self.inside.seat.me c.load.new.seat.me c.self.invariant c.load.ensures.0 _ told.1.stepped told.0
 
-pub returns-clause-view : goal.returns-clause-view
-returns-clause-view g c =
-    let w = c.words.invariant in let sits = sits_at _ _ _ _ c.self.inside.base c.words.inside.lanes c.words.inside.records c.self.view_is c.words.view_is c.requires.together c.self.invariant.0 w.lanes_are w.records_are in
+pub returns : goal.returns
+returns g c = let w = c.words.invariant in let sits = sits_at _ _ _ _ c.self.inside.base c.words.inside.lanes c.words.inside.records c.self.view_is c.words.view_is c.requires.together c.self.invariant.0 w.lanes_are w.records_are in
     let begins = sits.records_are in let at = c.record_word-place.ensures in let place : ℕ = record_start c.self.inside.seat.me.0.shape c.args.number + c.offset.result in
     let told = tells c.self.inside.seat.me.0 c.load.new.seat.me.0 place c.args.number c.offset.result c.load.result c.offset.ensures.small refl (c.load.ensures.2 place (omega arith)).1 in
-    subst (λ (k : Known). LoadsRecordWord k.view c.args.number (field_offset c.args.field) c.load.result c.load.new.seat.me.0) c.self.view_is
-    (subst (λ (z : ℕ). LoadsRecordWord c.self.inside.seat.me.0 c.args.number z c.load.result c.load.new.seat.me.0) c.offset.ensures.value told)
+    record { table = search rules; view = subst (λ (k : Known). LoadsRecordWord k.view c.args.number (field_offset c.args.field) c.load.result c.load.new.seat.me.0) c.self.view_is (subst (λ (z : ℕ). LoadsRecordWord c.self.inside.seat.me.0 c.args.number z c.load.result c.load.new.seat.me.0) c.offset.ensures.value told) }

@@ -1,4 +1,4 @@
-use Rattle.std.proofs.Common.{ap, subst, sym, ◌∙◌, ◌≡◌, ◌+◌, arith}
+use Rattle.std.proofs.Common.{ap, subst, sym, ◌∙◌, ◌≡◌, ◌+◌, arith, rules}
 use Rattle.aug_core.specs.Faces.{face}
 use Rattle.aug_core.specs.Addresses.{root_place}
 use Rattle.aug_core.specs.Renewals.{Surveys}
@@ -20,7 +20,7 @@ invariant_of-self g c = let f = face g.A.Monoid.parts g.B.Monoid.parts in let v 
     let told = c.load-number.ensures.2 (root_place v.shape) at in
     lead_loaded f _ _ c.self.inside.base c.self.inside.next c.self.inside.root c.self.inside.draft.base c.self.inside.draft.shown.items c.self.inside.parts c.self.inside.seat.me c.load-number.new.seat.me c.self.invariant c.load-number.ensures.0 c.load-number.result told.0 (told.1 inner).loaded
 
-pub returns-clause-view : goal.returns-clause-view
-returns-clause-view g c = let f = face g.A.Monoid.parts g.B.Monoid.parts in let v : SeatView = c.self.inside.seat.me.0 in let bits = c.self.invariant.1.knows.laid_out.bits in let inner = root_inner v.shape bits.0 bits.1 in
+pub returns : goal.returns
+returns g c = let f = face g.A.Monoid.parts g.B.Monoid.parts in let v : SeatView = c.self.inside.seat.me.0 in let bits = c.self.invariant.1.knows.laid_out.bits in let inner = root_inner v.shape bits.0 bits.1 in
     let at : c.args.root ≡ v.base + root_place v.shape = subst (λ (k : Known). c.args.root ≡ k.view.base + root_place k.view.shape) (sym c.self.view_is) c.requires.root in
-    subst (λ (k : Known). Surveys f k.view (root_place k.view.shape) c.load-number.result c.load-number.new.seat.me.0) c.self.view_is ((c.load-number.ensures.2 (root_place v.shape) at).1 inner)
+    record { table = search rules; view = subst (λ (k : Known). Surveys f k.view (root_place k.view.shape) c.load-number.result c.load-number.new.seat.me.0) c.self.view_is ((c.load-number.ensures.2 (root_place v.shape) at).1 inner) }

@@ -17,7 +17,7 @@ pub invariant_of-self : goal.invariant_of-self
 invariant_of-self g c =
     let f = face g.A.Monoid.parts g.B.Monoid.parts in let s : Shape = c.args.words.now.shape in let me : Sat = c.self.inside.seat.me in
     let stored = ap (λ (z : Store). z.shape) c.words.view_is in let one = c.requires.together.one_shape in
-    let shape : me.0.shape ≡ s = ap (λ (k : Known). k.view.shape) c.self.view_is ∙ ap (λ (z : SeatView). z.shape) c.survey-size.ensures.surveys.loaded.stepped ∙ one in
+    let shape : me.0.shape ≡ s = ap (λ (k : Known). k.view.shape) c.self.view_is ∙ ap (λ (z : SeatView). z.shape) c.survey-size.ensures.view.loaded.stepped ∙ one in
     let e = c.aim.ensures in let parts : Parts = c.aim.new.parts in let base : ℕ = c.aim.new.self.base in let shown : List ℕ = c.aim.new.self.shown.items in
     let aims = aimed f _ c.self.inside.base c.self.inside.next c.self.inside.root _ _ c.self.inside.parts me c.self.invariant s shape (subst (λ (z : Shape). 2 ^ z.bits ≤ z.members) one c.requires.room)
     _ (c.words-size.ensures.value ∙ ap word_count stored) parts base shown e.own e.out e.next e.same e.turned in
@@ -27,7 +27,7 @@ pub bring-done-requires-clause-may : goal.bring-done-requires-clause-may
 bring-done-requires-clause-may g c =
     let f = face g.A.Monoid.parts g.B.Monoid.parts in let s : Shape = c.args.words.now.shape in let me : Sat = c.self.inside.seat.me in
     let stored = ap (λ (z : Store). z.shape) c.words.view_is in let one = c.requires.together.one_shape in
-    let shape : me.0.shape ≡ s = ap (λ (k : Known). k.view.shape) c.self.view_is ∙ ap (λ (z : SeatView). z.shape) c.survey-size.ensures.surveys.loaded.stepped ∙ one in
+    let shape : me.0.shape ≡ s = ap (λ (k : Known). k.view.shape) c.self.view_is ∙ ap (λ (z : SeatView). z.shape) c.survey-size.ensures.view.loaded.stepped ∙ one in
     let e = c.aim.ensures in let parts : Parts = c.aim.new.parts in let base : ℕ = c.aim.new.self.base in let shown : List ℕ = c.aim.new.self.shown.items in
     let aims = aimed f _ c.self.inside.base c.self.inside.next c.self.inside.root _ _ c.self.inside.parts me c.self.invariant s shape (subst (λ (z : Shape). 2 ^ z.bits ≤ z.members) one c.requires.room)
     _ (c.words-size.ensures.value ∙ ap word_count stored) parts base shown e.own e.out e.next e.same e.turned in
@@ -40,7 +40,7 @@ pub bring-done-requires-clause-named : goal.bring-done-requires-clause-named
 bring-done-requires-clause-named g c =
     let f = face g.A.Monoid.parts g.B.Monoid.parts in let s : Shape = c.args.words.now.shape in let me : Sat = c.self.inside.seat.me in
     let stored = ap (λ (z : Store). z.shape) c.words.view_is in let one = c.requires.together.one_shape in
-    let shape : me.0.shape ≡ s = ap (λ (k : Known). k.view.shape) c.self.view_is ∙ ap (λ (z : SeatView). z.shape) c.survey-size.ensures.surveys.loaded.stepped ∙ one in
+    let shape : me.0.shape ≡ s = ap (λ (k : Known). k.view.shape) c.self.view_is ∙ ap (λ (z : SeatView). z.shape) c.survey-size.ensures.view.loaded.stepped ∙ one in
     let e = c.aim.ensures in let parts : Parts = c.aim.new.parts in let base : ℕ = c.aim.new.self.base in let shown : List ℕ = c.aim.new.self.shown.items in
     let aims = aimed f _ c.self.inside.base c.self.inside.next c.self.inside.root _ _ c.self.inside.parts me c.self.invariant s shape (subst (λ (z : Shape). 2 ^ z.bits ≤ z.members) one c.requires.room)
     _ (c.words-size.ensures.value ∙ ap word_count stored) parts base shown e.own e.out e.next e.same e.turned in
@@ -51,7 +51,7 @@ pub bring-done-requires-clause-below : goal.bring-done-requires-clause-below
 bring-done-requires-clause-below g c =
     let f = face g.A.Monoid.parts g.B.Monoid.parts in let s : Shape = c.args.words.now.shape in let me : Sat = c.self.inside.seat.me in
     let stored = ap (λ (z : Store). z.shape) c.words.view_is in let one = c.requires.together.one_shape in
-    let shape : me.0.shape ≡ s = ap (λ (k : Known). k.view.shape) c.self.view_is ∙ ap (λ (z : SeatView). z.shape) c.survey-size.ensures.surveys.loaded.stepped ∙ one in
+    let shape : me.0.shape ≡ s = ap (λ (k : Known). k.view.shape) c.self.view_is ∙ ap (λ (z : SeatView). z.shape) c.survey-size.ensures.view.loaded.stepped ∙ one in
     let e = c.aim.ensures in let parts : Parts = c.aim.new.parts in let base : ℕ = c.aim.new.self.base in let shown : List ℕ = c.aim.new.self.shown.items in
     let aims = aimed f _ c.self.inside.base c.self.inside.next c.self.inside.root _ _ c.self.inside.parts me c.self.invariant s shape (subst (λ (z : Shape). 2 ^ z.bits ≤ z.members) one c.requires.room)
     _ (c.words-size.ensures.value ∙ ap word_count stored) parts base shown e.own e.out e.next e.same e.turned in
@@ -63,7 +63,7 @@ pub invariant_of-self-2 : goal.invariant_of-self-2
 invariant_of-self-2 g c =
     let f = face g.A.Monoid.parts g.B.Monoid.parts in let s : Shape = c.args.words.now.shape in let me : Sat = c.self.inside.seat.me in
     let stored = ap (λ (z : Store). z.shape) c.words.view_is in let one = c.requires.together.one_shape in
-    let shape : me.0.shape ≡ s = ap (λ (k : Known). k.view.shape) c.self.view_is ∙ ap (λ (z : SeatView). z.shape) c.survey-size.ensures.surveys.loaded.stepped ∙ one in
+    let shape : me.0.shape ≡ s = ap (λ (k : Known). k.view.shape) c.self.view_is ∙ ap (λ (z : SeatView). z.shape) c.survey-size.ensures.view.loaded.stepped ∙ one in
     let e = c.aim.ensures in let parts : Parts = c.aim.new.parts in let base : ℕ = c.aim.new.self.base in let shown : List ℕ = c.aim.new.self.shown.items in
     let aims = aimed f _ c.self.inside.base c.self.inside.next c.self.inside.root _ _ c.self.inside.parts me c.self.invariant s shape (subst (λ (z : Shape). 2 ^ z.bits ≤ z.members) one c.requires.room)
     _ (c.words-size.ensures.value ∙ ap word_count stored) parts base shown e.own e.out e.next e.same e.turned in

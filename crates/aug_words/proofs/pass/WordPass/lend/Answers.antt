@@ -8,7 +8,7 @@ use Rattle.aug_words.proofs.Passes.{works_on}
 use Rattle.aug_words.proofs.pass.WordPass.lend.Goals as goal
 
 pub split_seat-seat-requires : goal.split_seat-seat-requires
-split_seat-seat-requires g c = (c.self.invariant.0.seated, pass_has_words _ _ _ _ _ _ _ _ _ c.self.invariant.0 c.self.invariant.1, lends_in_its_era _ _ _ _ (works_on _ _ _ _ c.self.invariant.1))
+split_seat-seat-requires g c = (c.self.invariant.sits.seated, pass_has_words _ _ _ _ _ _ _ _ _ c.self.invariant, lends_in_its_era _ _ _ _ (works_on _ _ _ _ c.self.invariant.seat))
 
 pub invariant_of-self : goal.invariant_of-self
 invariant_of-self g c = let split = c.split_seat-seat.ensures.2 in

@@ -1,4 +1,4 @@
-use Rattle.std.proofs.Common.{ap, subst, sym, ◌+◌, ℕ, arith}
+use Rattle.std.proofs.Common.{ap, subst, sym, ◌+◌, ℕ, arith, rules}
 use Rattle.aug_core.specs.Faces.{face}
 use Rattle.aug_core.specs.Addresses.{IsInner}
 use Rattle.aug_core.specs.Effects.{LoadsNode}
@@ -9,17 +9,17 @@ use Rattle.aug_words.proofs.pass.WordPass.load_node.Goals as goal
 
 pub load-requires : goal.load-requires
 load-requires g c =
-    let sits = c.self.invariant.0 in let wide = sits.placed.wide in let base = sits.placed.base_is in
+    let sits = c.self.invariant.sits in let wide = sits.placed.wide in let base = sits.placed.base_is in
     let inner = subst (λ (k : Known). IsInner k.view.shape c.args.node) (sym c.self.view_is) c.requires in let low = inner.inside in
-    (sits.seated, omega arith, loads_node _ _ _ _ c.args.node _ _ (works_on _ _ _ _ c.self.invariant.1) c.self.invariant.1.live c.self.invariant.1.no_slot (omega arith) (omega arith))
+    (sits.seated, omega arith, loads_node _ _ _ _ c.args.node _ _ (works_on _ _ _ _ c.self.invariant.seat) c.self.invariant.seat.live c.self.invariant.seat.no_slot (omega arith) (omega arith))
 
 pub invariant_of-self : goal.invariant_of-self
 invariant_of-self g c = let m = g.A.Monoid in let n = g.B.Monoid in let f = face m.parts n.parts in
     let inner = subst (λ (k : Known). IsInner k.view.shape c.args.node) (sym c.self.view_is) c.requires in
-    let told = c.load.ensures.2 c.args.node (ap (λ (z : ℕ). z + c.args.node) c.self.invariant.0.placed.base_is) in
+    let told = c.load.ensures.2 c.args.node (ap (λ (z : ℕ). z + c.args.node) c.self.invariant.sits.placed.base_is) in
     pass_loaded_node f _ _ _ _ _ _ _ _ c.self.inside.seat.me c.load.new.seat.me c.self.invariant c.load.ensures.0 c.args.node c.load.result told.0 (told.1 inner)
 
-pub returns-clause-view : goal.returns-clause-view
-returns-clause-view g c = let m = g.A.Monoid in let n = g.B.Monoid in let f = face m.parts n.parts in
+pub returns : goal.returns
+returns g c = let m = g.A.Monoid in let n = g.B.Monoid in let f = face m.parts n.parts in
     let inner = subst (λ (k : Known). IsInner k.view.shape c.args.node) (sym c.self.view_is) c.requires in
-    subst (λ (k : Known). LoadsNode f k.view c.args.node c.load.result c.load.new.seat.me.0) c.self.view_is ((c.load.ensures.2 c.args.node (ap (λ (z : ℕ). z + c.args.node) c.self.invariant.0.placed.base_is)).1 inner)
+    record { table = search rules; view = subst (λ (k : Known). LoadsNode f k.view c.args.node c.load.result c.load.new.seat.me.0) c.self.view_is ((c.load.ensures.2 c.args.node (ap (λ (z : ℕ). z + c.args.node) c.self.invariant.sits.placed.base_is)).1 inner) }

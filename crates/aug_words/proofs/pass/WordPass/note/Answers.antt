@@ -3,4 +3,4 @@ use Rattle.aug_words.proofs.Leads.{pass_has_words}
 use Rattle.aug_words.proofs.pass.WordPass.note.Goals as goal
 
 pub split_seat-seat-requires : goal.split_seat-seat-requires
-split_seat-seat-requires g c = (c.self.invariant.0.seated, pass_has_words _ _ _ _ _ _ _ _ _ c.self.invariant.0 c.self.invariant.1, notes_in_its_era _ _ _ _)
+split_seat-seat-requires g c = (c.self.invariant.sits.seated, pass_has_words _ _ _ _ _ _ _ _ _ c.self.invariant, notes_in_its_era _ _ _ _)

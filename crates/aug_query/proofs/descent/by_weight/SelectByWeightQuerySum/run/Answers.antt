@@ -53,10 +53,10 @@ loop-level-preserved g c =
     let same = subst (λ s. first_over (pairs_below s.pairs (level - 1) child.result.1) child.result.2 ≡ first_over (pairs_below s.pairs (level - 1 + 1) c.loop-level.place) c.loop-level.rest) inv.descends.same_set child.ensures.same in
     record {
       most = omega (arith, inv.most);
-      name = child.ensures.name;
+      name = child.ensures.child.name;
       within = subst (λ s. child.result.2 < sum_of_weights (pairs_below s.pairs (level - 1) child.result.1)) inv.descends.same_set child.ensures.within;
       same = same ∙ ap (λ n. first_over (pairs_below (g.D.Descend.set_of c.args.tree.now).pairs n c.loop-level.place) c.loop-level.rest) above ∙ inv.same;
-      descends = further g.met.D.Descend.keeps_on inv.descends child.ensures.descends (omega (arith, inv.most, c.loop-level-test.true)) (omega arith) (omega (arith, inv.most, c.loop-level-test.true)) (omega arith);
+      descends = further g.met.D.Descend.keeps_on inv.descends child.ensures.child.descends (omega (arith, inv.most, c.loop-level-test.true)) (omega arith) (omega (arith, inv.most, c.loop-level-test.true)) (omega arith);
     }
 
 pub returns-clause-descends : goal.returns-clause-descends

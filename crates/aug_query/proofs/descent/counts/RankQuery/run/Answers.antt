@@ -42,9 +42,9 @@ loop-level-preserved g c =
     let below = step.counted ∙ ap (λ s. rank_of (list_of s) (first_key level (c.args.self.0 / 2 ^ level))) inv.walk.same_set in
     record {
       most = omega (arith, inv.most, some);
-      node = subst (λ l. g.D.Descend.Names c.toward_counting-child.new.tree l (c.args.self.0 / 2 ^ l) c.toward_counting-child.result.0) (sym down) step.name;
+      node = subst (λ l. g.D.Descend.Names c.toward_counting-child.new.tree l (c.args.self.0 / 2 ^ l) c.toward_counting-child.result.0) (sym down) step.child.name;
       below = subst (λ l. c.toward_counting-child.result.1 ≡ rank_of (list_of (g.D.Descend.set_of c.args.tree.now)) (first_key l (c.args.self.0 / 2 ^ l))) (sym down) below;
-      walk = further g.met.D.Descend.keeps_on inv.walk step.descends (omega (arith, inv.most, some)) (omega arith) (omega arith) (omega (arith, inv.most, some));
+      walk = further g.met.D.Descend.keeps_on inv.walk step.child.descends (omega (arith, inv.most, some)) (omega arith) (omega arith) (omega (arith, inv.most, some));
     }
 
 pub overflow_add-below : goal.overflow_add-below

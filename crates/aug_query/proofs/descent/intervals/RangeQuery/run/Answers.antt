@@ -27,8 +27,8 @@ returns-then-b-a-2-clause-answer g c =
     let a = c.args.self.0 in
     let b = c.min-b.result in
     let level = c.spanning-level.result.0 in
-    let same = c.spanning-level.ensures.descends.same_set in
-    let node = of_set same (g.met.D.Descend.name_stands c.spanning-level.new.tree _ _ c.spanning-level.result.1 c.spanning-level.ensures.name) in
+    let same = c.spanning-level.ensures.node.descends.same_set in
+    let node = of_set same (g.met.D.Descend.name_stands c.spanning-level.new.tree _ _ c.spanning-level.result.1 c.spanning-level.ensures.node.name) in
     let wide : b - a ≡ 2 ^ level = c.if-b-a-2.true ∙ wrapped_width level level (a / 2 ^ level) refl (few_keys node) in
     c.summary.ensures.value ∙ ap (λ s. sum_of whole_sum s.pairs (keys_below (list_of s) level (a / 2 ^ level))) same
     ∙ ap (sum_of whole_sum set.pairs) (whole_node keys a b level (members_rise node) c.if-b-a.false c.spanning-level.ensures.both wide) ∙ asked_is whole_sum c.universe.ensures.set a c.args.self.1 b (c.min-b.ensures ∙ ap (min c.args.self.1) c.universe.ensures.value)
@@ -61,7 +61,7 @@ joined-requires g c =
     let a = c.args.self.0 in
     let z = c.min-b.result - 1 in
     let level = c.spanning-level.result.0 - 1 in
-    let same = c.left-left.ensures.descends.same_set ∙ c.spanning-level.ensures.descends.same_set in
+    let same = c.left-left.ensures.descends.same_set ∙ c.spanning-level.ensures.node.descends.same_set in
     let next = c.right-right.ensures.descends.same_set ∙ c.from-low.ensures.descends.same_set ∙ same in
     let low = c.from-low.ensures.answer ∙ ap (λ s. sum_of whole_sum s.pairs (range_of (list_of s) a (end_key level (a / 2 ^ level)))) same in
     let high = c.until-high.ensures.answer ∙ ap (λ s. sum_of whole_sum s.pairs (range_of (list_of s) (first_key level (z / 2 ^ level)) (z + 1))) next in
@@ -84,7 +84,7 @@ returns-clause-answer g c =
     let middle = end_key level (a / 2 ^ level) in
     let meet = part_between a z level both (span.lowest inner) in
     let last : z + 1 ≡ b = omega (arith, c.if-b-a.false) in
-    let same = c.left-left.ensures.descends.same_set ∙ span.descends.same_set in
+    let same = c.left-left.ensures.descends.same_set ∙ span.node.descends.same_set in
     let next = c.right-right.ensures.descends.same_set ∙ c.from-low.ensures.descends.same_set ∙ same in
     let low = c.from-low.ensures.answer ∙ ap (λ s. sum_of whole_sum s.pairs (range_of (list_of s) a middle)) same in
     let high = c.until-high.ensures.answer ∙ ap (λ s. sum_of whole_sum s.pairs (range_of (list_of s) (first_key level (z / 2 ^ level)) (z + 1))) next ∙ ap (λ x. sum (range_of keys x (z + 1))) (sym meet) ∙ ap (λ x. sum (range_of keys middle x)) last in
@@ -94,26 +94,26 @@ pub returns-clause-descends : goal.returns-clause-descends
 returns-clause-descends g c =
     let span = c.spanning-level.ensures in
     let inner = no_leaf c.args.self.0 c.min-b.result c.spanning-level.result.0 c.if-b-a.false span.both c.if-b-a-2.false in
-    let node = of_set span.descends.same_set (g.met.D.Descend.name_stands c.spanning-level.new.tree _ _ c.spanning-level.result.1 span.name) in
-    both_ways g.met.D.Descend.keeps_on span.descends c.left-left.ensures.descends c.from-low.ensures.descends c.right-right.ensures.descends c.until-high.ensures.descends inner node.level_fits
+    let node = of_set span.node.descends.same_set (g.met.D.Descend.name_stands c.spanning-level.new.tree _ _ c.spanning-level.result.1 span.node.name) in
+    both_ways g.met.D.Descend.keeps_on span.node.descends c.left-left.ensures.descends c.from-low.ensures.descends c.right-right.ensures.descends c.until-high.ensures.descends inner node.level_fits
 
 pub overflow_shl-level : goal.overflow_shl-level
 overflow_shl-level g c =
-    let node = g.met.D.Descend.name_stands c.spanning-level.new.tree _ _ c.spanning-level.result.1 c.spanning-level.ensures.name in
+    let node = g.met.D.Descend.name_stands c.spanning-level.new.tree _ _ c.spanning-level.result.1 c.spanning-level.ensures.node.name in
     let few = node.is_tree_set.few_bits in
     let fits = node.level_fits in
     omega (arith, few, fits)
 
 pub overflow_shr-a : goal.overflow_shr-a
 overflow_shr-a g c =
-    let node = g.met.D.Descend.name_stands c.spanning-level.new.tree _ _ c.spanning-level.result.1 c.spanning-level.ensures.name in
+    let node = g.met.D.Descend.name_stands c.spanning-level.new.tree _ _ c.spanning-level.result.1 c.spanning-level.ensures.node.name in
     let few = node.is_tree_set.few_bits in
     let fits = node.level_fits in
     omega (arith, few, fits)
 
 pub overflow_shr-place : goal.overflow_shr-place
 overflow_shr-place g c =
-    let node = g.met.D.Descend.name_stands c.spanning-level.new.tree _ _ c.spanning-level.result.1 c.spanning-level.ensures.name in
+    let node = g.met.D.Descend.name_stands c.spanning-level.new.tree _ _ c.spanning-level.result.1 c.spanning-level.ensures.node.name in
     let few = node.is_tree_set.few_bits in
     let fits = node.level_fits in
     omega (arith, few, fits)
@@ -124,7 +124,7 @@ returns-then-b-a-clause-descends g c = still g.met.D.Descend.keeps_so
 pub returns-then-b-a-2-clause-descends : goal.returns-then-b-a-2-clause-descends
 returns-then-b-a-2-clause-descends g c =
     let some = c.universe.ensures.set.some_bits in
-    further g.met.D.Descend.keeps_on c.spanning-level.ensures.descends c.summary.ensures.descends (omega (arith, some)) (omega arith) (omega (arith, some)) (omega arith)
+    further g.met.D.Descend.keeps_on c.spanning-level.ensures.node.descends c.summary.ensures.descends (omega (arith, some)) (omega arith) (omega (arith, some)) (omega arith)
 
 pub overflow_sub-level : goal.overflow_sub-level
 overflow_sub-level g c = no_leaf c.args.self.0 c.min-b.result c.spanning-level.result.0 c.if-b-a.false c.spanning-level.ensures.both c.if-b-a-2.false

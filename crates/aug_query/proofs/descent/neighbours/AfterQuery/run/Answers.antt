@@ -40,12 +40,12 @@ loop-level-preserved-then-after-gt0 g c =
     let counted = subst (λ s. rank_of (list_of s) (end_key (c.loop-level.level - 1) (c.args.self.0 / 2 ^ (c.loop-level.level - 1))) + child.result.1 ≡ rank_of (list_of s) (end_key (c.loop-level.level - 1 + 1) (c.args.self.0 / 2 ^ (c.loop-level.level - 1 + 1)))) inv.descends.same_set child.ensures.after in
     record {
       most = omega (arith, inv.most);
-      name = child.ensures.name;
+      name = child.ensures.child.name;
       kept = (
-        child.ensures.descends.keeps_names _ _ c.loop-level.node name,
+        child.ensures.child.descends.keeps_names _ _ c.loop-level.node name,
         right_ahead _ c.args.self.0 (c.loop-level.level - 1) child.result.1 (members_rise node) (child.ensures.left c.if-after-gt0.true) counted c.if-after-gt0.true,
       );
-      descends = further g.met.D.Descend.keeps_on inv.descends child.ensures.descends (omega (arith, inv.most, c.loop-level-test.true)) (omega arith) (omega arith) (omega (arith, inv.most, c.loop-level-test.true));
+      descends = further g.met.D.Descend.keeps_on inv.descends child.ensures.child.descends (omega (arith, inv.most, c.loop-level-test.true)) (omega arith) (omega arith) (omega (arith, inv.most, c.loop-level-test.true));
     }
 
 pub loop-level-preserved : goal.loop-level-preserved
@@ -57,9 +57,9 @@ loop-level-preserved g c =
     let here = ap (λ n. rank_of (list_of (g.D.Descend.set_of c.args.tree.now)) (end_key n (c.args.self.0 / 2 ^ n))) above in
     record {
       most = omega (arith, inv.most);
-      name = child.ensures.name;
-      kept = keeps_after (list_of (g.D.Descend.set_of c.args.tree.now)) c.args.self.0 (end_key c.loop-level.level (c.args.self.0 / 2 ^ c.loop-level.level)) (end_key (c.loop-level.level - 1) (c.args.self.0 / 2 ^ (c.loop-level.level - 1))) c.loop-level.parent child.ensures.descends.keeps_names (omega (arith, counted, here, c.if-after-gt0.false)) inv.kept;
-      descends = further g.met.D.Descend.keeps_on inv.descends child.ensures.descends (omega (arith, inv.most, c.loop-level-test.true)) (omega arith) (omega arith) (omega (arith, inv.most, c.loop-level-test.true));
+      name = child.ensures.child.name;
+      kept = keeps_after (list_of (g.D.Descend.set_of c.args.tree.now)) c.args.self.0 (end_key c.loop-level.level (c.args.self.0 / 2 ^ c.loop-level.level)) (end_key (c.loop-level.level - 1) (c.args.self.0 / 2 ^ (c.loop-level.level - 1))) c.loop-level.parent child.ensures.child.descends.keeps_names (omega (arith, counted, here, c.if-after-gt0.false)) inv.kept;
+      descends = further g.met.D.Descend.keeps_on inv.descends child.ensures.child.descends (omega (arith, inv.most, c.loop-level-test.true)) (omega arith) (omega arith) (omega (arith, inv.most, c.loop-level-test.true));
     }
 
 pub returns-in_err-level-clause-answer : goal.returns-in_err-level-clause-answer

@@ -44,12 +44,12 @@ loop-level-preserved-then-before-gt0 g c =
     let counted = subst (λ s. rank_of (list_of s) (first_key (c.loop-level.level - 1) (c.args.self.0 / 2 ^ (c.loop-level.level - 1))) ≡ rank_of (list_of s) (first_key (c.loop-level.level - 1 + 1) (c.args.self.0 / 2 ^ (c.loop-level.level - 1 + 1))) + child.result.1) inv.descends.same_set child.ensures.before in
     record {
       most = omega (arith, inv.most);
-      name = child.ensures.name;
+      name = child.ensures.child.name;
       kept = (
-        child.ensures.descends.keeps_names _ _ c.loop-level.node name,
+        child.ensures.child.descends.keeps_names _ _ c.loop-level.node name,
         left_behind _ c.args.self.0 (c.loop-level.level - 1) child.result.1 (members_rise node) (child.ensures.right c.if-before-gt0.true) counted c.if-before-gt0.true,
       );
-      descends = further g.met.D.Descend.keeps_on inv.descends child.ensures.descends (omega (arith, inv.most, c.loop-level-test.true)) (omega arith) (omega arith) (omega (arith, inv.most, c.loop-level-test.true));
+      descends = further g.met.D.Descend.keeps_on inv.descends child.ensures.child.descends (omega (arith, inv.most, c.loop-level-test.true)) (omega arith) (omega arith) (omega (arith, inv.most, c.loop-level-test.true));
     }
 
 pub loop-level-preserved : goal.loop-level-preserved
@@ -61,9 +61,9 @@ loop-level-preserved g c =
     let here = ap (λ n. rank_of (list_of (g.D.Descend.set_of c.args.tree.now)) (first_key n (c.args.self.0 / 2 ^ n))) above in
     record {
       most = omega (arith, inv.most);
-      name = child.ensures.name;
-      kept = keeps_before (list_of (g.D.Descend.set_of c.args.tree.now)) c.args.self.0 (first_key c.loop-level.level (c.args.self.0 / 2 ^ c.loop-level.level)) (first_key (c.loop-level.level - 1) (c.args.self.0 / 2 ^ (c.loop-level.level - 1))) c.loop-level.parent child.ensures.descends.keeps_names (omega (arith, counted, here, c.if-before-gt0.false)) inv.kept;
-      descends = further g.met.D.Descend.keeps_on inv.descends child.ensures.descends (omega (arith, inv.most, c.loop-level-test.true)) (omega arith) (omega arith) (omega (arith, inv.most, c.loop-level-test.true));
+      name = child.ensures.child.name;
+      kept = keeps_before (list_of (g.D.Descend.set_of c.args.tree.now)) c.args.self.0 (first_key c.loop-level.level (c.args.self.0 / 2 ^ c.loop-level.level)) (first_key (c.loop-level.level - 1) (c.args.self.0 / 2 ^ (c.loop-level.level - 1))) c.loop-level.parent child.ensures.child.descends.keeps_names (omega (arith, counted, here, c.if-before-gt0.false)) inv.kept;
+      descends = further g.met.D.Descend.keeps_on inv.descends child.ensures.child.descends (omega (arith, inv.most, c.loop-level-test.true)) (omega arith) (omega arith) (omega (arith, inv.most, c.loop-level-test.true));
     }
 
 pub returns-in_err-level-clause-answer : goal.returns-in_err-level-clause-answer

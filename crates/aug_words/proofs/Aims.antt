@@ -113,7 +113,6 @@ module _ (face : ℕ → ℕ → List (ℕ × ℕ) → List ℕ) (a a' t : Table
       only = seat.only;
       named = seat.named;
       taken = seat.taken;
-      long = seat.long;
       exists = seat.exists;
       follows = seat.follows;
       lends = lends;

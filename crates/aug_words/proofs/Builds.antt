@@ -19,7 +19,7 @@ use Rattle.aug_model.proofs.Ranges.{Rises, rises_from, all_below_from, count_few
 use Rattle.aug_core.specs.Places.{Shape, own_records, lane_place, record_start, word_count, level_start, record_words}
 use Rattle.aug_core.specs.Addresses.{place_count, IsInner, left_of, right_of, level_of, place_on}
 use Rattle.aug_core.specs.inside.WordPlaces.{IsWord}
-use Rattle.aug_core.specs.Lanes.{block_start}
+use Rattle.aug_core.specs.Book.{word_of_leaf}
 use Rattle.aug_core.specs.Opening.{Opening, opening_leaf_word, has_members, has_room, owns, own_before, number_at, opening_pairs, opening_number, opening_words, shared_words}
 use Rattle.aug_model.specs.NodeKeys.{keys_below, pairs_below}
 use Rattle.aug_core.specs.Faces.{face}
@@ -127,7 +127,7 @@ leaf_word : (members : List (ℕ × ℕ)) (key : ℕ) → (if is_member (keys_of
 leaf_word members key = either (is_member (keys_of members) key) (weight-none members key)
   where
     either : (b : Bool) → (b ≡ false → weight_in members key ≡ 0)
-        → (if b then (if b then 1 else 0) * 2 ^ 32 + weight_in members key else 0) ≡ (if b then 1 else 0) * 2 ^ 32 + weight_in members key
+        → (if b then word_of_leaf (if b then 1 else 0) (weight_in members key) else 0) ≡ word_of_leaf (if b then 1 else 0) (weight_in members key)
     either true weighs = refl
     either false weighs = let zero_weight = weighs refl in omega arith
 
@@ -135,7 +135,7 @@ leaf_word members key = either (is_member (keys_of members) key) (weight-none me
 number_none : (o : Opening) → has_room o ≡ false → Rises (keys_of o.members) → (l p : ℕ) → length (keys_below (keys_of o.members) l p) ≡ 0 → number_at o l p ≡ l - 1
 number_none o no_room up zero p none = leaf_none (is_member (keys_of o.members) p) (let e = ap length (below_leaf o up p) in omega arith) (weight-none o.members p)
   where
-    leaf_none : (b : Bool) → length (if b then p ∷ [] else []) ≡ 0 → (b ≡ false → weight_in o.members p ≡ 0) → (if b then 1 else 0) * 2 ^ 32 + weight_in o.members p ≡ 0 - 1
+    leaf_none : (b : Bool) → length (if b then p ∷ [] else []) ≡ 0 → (b ≡ false → weight_in o.members p ≡ 0) → word_of_leaf (if b then 1 else 0) (weight_in o.members p) ≡ 0 - 1
     leaf_none true e weighs = absurd (omega arith)
     leaf_none false e weighs = let zero_weight = weighs refl in omega arith
 number_none o no_room up (suc l) p none = number_shared o l p (owns_some o (suc l) p no_room ∙ none_there o (suc l) p none) ∙ (let e : l ≡ suc l - 1 = omega arith in e)
@@ -145,7 +145,7 @@ pub number_tells : (o : Opening) → has_room o ≡ false → Rises (keys_of o.m
     → ((0 < length (keys_below (keys_of o.members) l p)) × (least ≤ number_at o l p)) ⊎ ((length (keys_below (keys_of o.members) l p) ≡ 0) × (number_at o l p < least))
 number_tells o no_room up zero p least few leaf node = of_leaf (is_member (keys_of o.members) p) (below_leaf o up p) refl (weight-none o.members p)
   where
-    of_leaf : (b : Bool) → keys_below (keys_of o.members) 0 p ≡ (if b then p ∷ [] else []) → number_at o 0 p ≡ (if b then 1 else 0) * 2 ^ 32 + weight_in o.members p → (b ≡ false → weight_in o.members p ≡ 0)
+    of_leaf : (b : Bool) → keys_below (keys_of o.members) 0 p ≡ (if b then p ∷ [] else []) → number_at o 0 p ≡ word_of_leaf (if b then 1 else 0) (weight_in o.members p) → (b ≡ false → weight_in o.members p ≡ 0)
         → ((0 < length (keys_below (keys_of o.members) 0 p)) × (least ≤ number_at o 0 p)) ⊎ ((length (keys_below (keys_of o.members) 0 p) ≡ 0) × (number_at o 0 p < least))
     of_leaf true is e weighs = let serial = leaf refl in let n = ap length is in inl (omega arith, omega arith)
     of_leaf false is e weighs = let serial = leaf refl in let n = ap length is in let zero_weight = weighs refl in inr (omega arith, omega arith)
@@ -189,7 +189,7 @@ module _ (face : ℕ → ℕ → List (ℕ × ℕ) → List ℕ) (o : Opening) (
             (λ other. built.records r past' (omega arith) k small) (cases_eq r q);
         idle = λ number k unused small. stays (record_start o.shape number + k) (λ e. omega arith) ∙ built.idle number k unused small;
         lanes = λ lane low. stays (lane_place o.shape lane) (λ e. omega arith) ∙ built.lanes lane low;
-        blocks = λ lane k low small. stays (block_start o.shape lane + k) (λ e. omega arith) ∙ built.blocks lane k low small;
+        blank = λ i high. stays i (λ e. omega arith) ∙ built.blank i high;
       }
 
   -- a node without one of its own has the record that its level shares
@@ -213,7 +213,7 @@ module _ (face : ℕ → ℕ → List (ℕ × ℕ) → List ℕ) (o : Opening) (
             (λ (ge : n ≤ number). writes.behind (record_start o.shape number + k) (let other : n ≢ number = λ same. unused.unnamed q inner (e ∙ same) in omega (arith, other, ge)) ∙ built.idle number k unused small)
             (cases_lt number n);
         lanes = λ lane small. writes.before (lane_place o.shape lane) (omega arith) ∙ built.lanes lane small;
-        blocks = λ lane k small few. writes.behind (block_start o.shape lane + k) (omega arith) ∙ built.blocks lane k small few;
+        blank = λ i high. writes.behind i (omega arith) ∙ built.blank i high;
       } (λ k small. ap (λ (z : ℕ). get_or mid (record_start o.shape z + k) 0) e ∙ writes.written k small ∙ ap (λ (z : List ℕ). get_or z k 0) words)
 
   -- one shared record more
@@ -227,7 +227,7 @@ module _ (face : ℕ → ℕ → List (ℕ × ℕ) → List ℕ) (o : Opening) (
     records = λ q past low. absurd (omega arith);
     idle = λ number k unused small. let own = unused.own in writes.behind (record_start o.shape number + k) (omega arith) ∙ built.idle number k unused small;
     lanes = λ lane low. writes.before (lane_place o.shape lane) (omega arith) ∙ built.lanes lane low;
-    blocks = λ lane k low small. writes.behind (block_start o.shape lane + k) (omega arith) ∙ built.blocks lane k low small;
+    blank = λ i high. writes.behind i (omega arith) ∙ built.blank i high;
   }
 
   -- the members' leaves are set
@@ -241,7 +241,7 @@ module _ (face : ℕ → ℕ → List (ℕ × ℕ) → List ℕ) (o : Opening) (
         records = λ q past low. absurd (omega arith);
         idle = λ number k unused small. free (record_start o.shape number + k) (omega arith);
         lanes = λ lane low. free (lane_place o.shape lane) (omega arith);
-        blocks = λ lane k low small. free (block_start o.shape lane + k) (omega arith);
+        blank = λ i high. free i (omega arith);
       }
     where
       unmarked : (b : Bool) (x : ℕ) → (b ≡ true → ⊥) → (if b then x else 0) ≡ 0
@@ -260,7 +260,7 @@ pub member_word : (members : List (ℕ × ℕ)) (i : ℕ) → IsStrictlyIncreasi
 member_word members i up low =
     let key : ℕ = (get_or members i (0, 0)).0 in let weighs = weight_at_place members i up low in
     let there : is_member (keys_of members) key ≡ true = list_any_at (λ x. eqb x key) (keys_of members) i 0 (let long = length-keys_of members in omega arith) (eq-eqb _ key (key_at members i (0, 0) low)) in
-    ap (λ (z : Bool). (if z then 1 else 0) * 2 ^ 32 + weight_in members key) there ∙ (let is : 1 * 2 ^ 32 + weight_in members key ≡ 2 ^ 32 + (get_or members i (0, 0)).1 = omega arith in is)
+    ap (λ (z : Bool). word_of_leaf (if z then 1 else 0) (weight_in members key)) there ∙ (let is : 1 * 2 ^ 32 + weight_in members key ≡ 2 ^ 32 + (get_or members i (0, 0)).1 = omega arith in is)
 
 -- one member more is marked
 pub marks_more : (old words : List ℕ) (members : List (ℕ × ℕ)) (i word : ℕ) → IsStrictlyIncreasing (keys_of members) → i < length members → get_or (keys_of members) i 0 < length old
@@ -329,14 +329,14 @@ leaf_there o up fit q x low is some = pairs_of_leaf o up q low ∙ there (is_mem
     weight : weight_in o.members q < 2 ^ 32
     weight = weight_fits o.members q fit
 
-    there : (b : Bool) → x ≡ (if b then 1 else 0) * 2 ^ 32 + weight_in o.members q → ◌≡◌ {A = List (ℕ × ℕ)} (if b then (q, weight_in o.members q) ∷ [] else []) ((q, x % 2 ^ 32) ∷ [])
+    there : (b : Bool) → x ≡ word_of_leaf (if b then 1 else 0) (weight_in o.members q) → ◌≡◌ {A = List (ℕ × ℕ)} (if b then (q, weight_in o.members q) ∷ [] else []) ((q, x % 2 ^ 32) ∷ [])
     there true e = let w = weight in let same : weight_in o.members q ≡ x % 2 ^ 32 = omega arith in ap (λ (z : ℕ). (q, z) ∷ []) same
     there false e = let w = weight in absurd (omega arith)
 
 pub leaf_not : (o : Opening) → Rises (keys_of o.members) → (q x : ℕ) → q < 2 ^ o.shape.bits → x ≡ opening_number o q → x < 2 ^ 32 → opening_pairs o q ≡ []
 leaf_not o up q x low is none = pairs_of_leaf o up q low ∙ not_there (is_member (keys_of o.members) q) (is ∙ number_of_leaf o q low)
   where
-    not_there : (b : Bool) → x ≡ (if b then 1 else 0) * 2 ^ 32 + weight_in o.members q → ◌≡◌ {A = List (ℕ × ℕ)} (if b then (q, weight_in o.members q) ∷ [] else []) []
+    not_there : (b : Bool) → x ≡ word_of_leaf (if b then 1 else 0) (weight_in o.members q) → ◌≡◌ {A = List (ℕ × ℕ)} (if b then (q, weight_in o.members q) ∷ [] else []) []
     not_there true e = absurd (omega arith)
     not_there false e = refl
 
@@ -427,7 +427,7 @@ built_opens face o words all set fit few built padded =
     let long = built.long in let zeros : List ℕ = replicate padded.zeros 0 in
     let here : table_part 0 (word_count o.shape) all ≡ words = ap (take (word_count o.shape)) padded.is ∙ take-append-le (word_count o.shape) words zeros (omega arith) ∙ take_all (word_count o.shape) words (omega arith) in
     first_opening face o (length all) all refl (subst (IsOpened face o) (sym here) (built_is_opened face o words set fit few built))
-    (λ lane k low small. ap (λ (z : List ℕ). get_or z (block_start o.shape lane + k) 0) here ∙ built.blocks lane k low small)
+    (λ i high. ap (λ (z : List ℕ). get_or z i 0) here ∙ built.blank i high)
     (λ i past. ap (λ (z : List ℕ). get_or z i 0) padded.is ∙ get_or-append_right words zeros (length words) i 0 refl (omega arith) ∙ blank_zeros (i - length words) padded.zeros)
 
 -- its word tells what is there

@@ -11,7 +11,7 @@ use Rattle.aug_model.proofs.Ranges.{rises_from}
 use Rattle.aug_monoid.specs.Parts.{Parts}
 use Rattle.aug_core.specs.Places.{Shape, level_start, opening_count, own_records, record_start, word_count, record_words}
 use Rattle.aug_core.specs.Addresses.{place_count, IsInner, left_of, right_of, level_of, place_on}
-use Rattle.aug_core.specs.Book.{Book, At, ArePrefixes, IsBook, StandsOver, word_of_leaf}
+use Rattle.aug_core.specs.Book.{Book, At, ArePrefixes, IsBook, NamesOnce, StandsOver, word_of_leaf}
 use Rattle.aug_core.specs.Cuts.{Cut, pairs_of_cut}
 use Rattle.aug_core.specs.Eras.{opening_with}
 use Rattle.aug_core.specs.Faces.{face}
@@ -23,7 +23,9 @@ use Rattle.aug_core.proofs.Sizes.{twice, own_none, own_more}
 use Rattle.aug_core.proofs.FaceLemmas.{left_in as left_is, right_in as right_is, count_in, a_in, b_in, face_is}
 use Rattle.aug_core.proofs.Levels.{Above, above, on_level, room_above, leaf_level, leaf_word, level_inside, level_is, one_level}
 use Rattle.aug_core.proofs.Below.{own_is_place, owns_all, number_is, number_own, number_of_leaf, pairs_are, pairs_of_leaf}
-use Rattle.aug_core.proofs.Books.{at_below, same_index}
+use Rattle.aug_core.proofs.Books.{at_below}
+use Rattle.aug_core.proofs.Fits.{HasFewSerials}
+use Rattle.aug_core.proofs.Refreshing.{same_word}
 use Rattle.aug_core.proofs.EntryCuts.{entry_is, cut_later, left_part, right_part, part_pairs}
 use Rattle.aug_core.proofs.PrefixLemmas.{entry_stays}
 use Rattle.aug_words.specs.inside.Builds.{IsReady}
@@ -215,13 +217,6 @@ module _ (s : Shape) (room : 2 ^ s.bits ≤ s.members) where
         let was : get_or h (q - 2 ^ s.bits) 0 ≡ n + 1 = sym (b.others q inner (λ z. apart q z at)) ∙ shown in
         laid_kept q n v w b.keeps.long (λ r inside z. b.keeps.others r inside (λ y. apart r y (chunk_in s l c' (level_of s q) (place_on s q) q r on at z))) (below q n inner at was)
 
-    -- two entries of one place that one word names are one
-    pub one_named : IsBook f s book → (q i j : ℕ) (e g : Entry) → q < place_count s → At book q i e → At book q j g → e.word ≡ g.word → i ≡ j
-    one_named b q i j e g inside at at' same = ⊎_elim
-        (λ (low : q < 2 ^ s.bits). let x = b.serials q i e low at in let y = b.serials q j g low at' in let n = x.named in let m = y.named in let fits = x.fits in let fits' = y.fits in omega (arith, same))
-        (λ (past : 2 ^ s.bits ≤ q). let inner : IsInner s q = record { past_leaves = past; inside = inside } in same_index f s book b q i j e g inside at at' (sym (b.named q i e inner at) ∙ same ∙ b.named q j g inner at'))
-        (cases_lt q (2 ^ s.bits))
-
     module _ (q : ℕ) (inner : IsInner s q) where
       abbrev t : Above s q
       t = above s q inner
@@ -347,18 +342,18 @@ module _ (s : Shape) (room : 2 ^ s.bits ≤ s.members) where
                   } in subst (λ (z : ℕ × ℕ). Brings f s book z.0 z.1 w v h (set k (slot q) (word + 1))) (λ i. (sym on.0 i, sym on.1 i)) brought
 
               -- and it is laid out as the entry over those as which its halves are
-              pub node_as : IsBook f s book → (i x y word : ℕ) (e : Entry) → At book q i e → e.word ≡ word → (l g : Entry) → At book (left_of s q) e.left l → At book (right_of s q) e.right g → l.word ≡ x → g.word ≡ y
+              pub node_as : IsBook f s book → NamesOnce s book → HasFewSerials s book → (i x y word : ℕ) (e : Entry) → At book q i e → e.word ≡ word → (l g : Entry) → At book (left_of s q) e.left l → At book (right_of s q) e.right g → l.word ≡ x → g.word ≡ y
                   → IsLaidAs f s book (left_of s q) x w' → IsLaidAs f s book (right_of s q) y u → ((cut : Cut) → IsPartOfCut s book cut (suc t.level) t.place q i → five ≡ opening_words f (opening_with s (pairs_of_cut cut)) q)
                   → IsLaidAs f s book q word v
-              node_as b i x y word e at named l g left_at right_at lx gy as_left as_right opens =
+              node_as b once few i x y word e at named l g left_at right_at lx gy as_left as_right opens =
                   let left_inside = level_inside s (left_of s q) t.level (2 * t.place) t.left in let right_inside = level_inside s (right_of s q) t.level (2 * t.place + 1) t.right in
                   let in_left : InChunk s t.level (2 * t.place) (left_of s q) = node_in s t.level (2 * t.place) (left_of s q) t.left in
                   let in_right : InChunk s t.level (2 * t.place + 1) (right_of s q) = node_in s t.level (2 * t.place + 1) (right_of s q) t.right in
                   let left_u = laid_kept (left_of s q) x w' u second.keeps.long (λ r inside z. second.keeps.others r inside (λ z'. halves_apart s t.level t.place r (chunk_in s t.level (2 * t.place) (level_of s (left_of s q)) (place_on s (left_of s q)) (left_of s q) r (on_level s (left_of s q) left_inside) in_left z) z')) as_left in
                   let left_v = half_laid (2 * t.place) (left_of s q) x not_left left_inside in_left left_u in
                   let right_v = half_laid (2 * t.place + 1) (right_of s q) y not_right right_inside in_right as_right in
-                  let one_left : left_v.names.index ≡ e.left = one_named b (left_of s q) left_v.names.index e.left left_v.names.entry l left_inside left_v.names.at left_at (left_v.names.named ∙ sym lx) in
-                  let one_right : right_v.names.index ≡ e.right = one_named b (right_of s q) right_v.names.index e.right right_v.names.entry g right_inside right_v.names.at right_at (right_v.names.named ∙ sym gy) in
+                  let one_left : left_v.names.index ≡ e.left = same_word f s book b once few (left_of s q) left_v.names.index e.left left_v.names.entry l left_inside left_v.names.at left_at (left_v.names.named ∙ sym lx) in
+                  let one_right : right_v.names.index ≡ e.right = same_word f s book b once few (right_of s q) right_v.names.index e.right right_v.names.entry g right_inside right_v.names.at right_at (right_v.names.named ∙ sym gy) in
                   let is = entry_is book q i e at in record {
                     names = record { index = i; entry = e; at = at; named = named };
                     laid = λ cut part r c.
@@ -386,8 +381,8 @@ module _ (s : Shape) (room : 2 ^ s.bits ≤ s.members) where
         let pairs : one_if (eqb (i % 2) 1) key e.weight ≡ one_if (is_member (keys_of members) key) key (weight_in members key) =
         sym serial.there_if_odd ∙ ap (λ (z : Entry). z.pairs) (sym (entry_is book key i e at)) ∙ part_pairs f s book b cut 0 key key i part ∙ sym (pairs_are o key 0 key (leaf_level s key low))
         ∙ pairs_of_leaf o (rises_from (keys_of members) (members_rise cut)) key low in
-        let over : e.word / 2 ^ 32 ≡ i = omega arith in let under : e.word % 2 ^ 32 ≡ e.weight = omega arith in
-        let is : renewed_word e.word ≡ (if eqb (i % 2) 1 then 2 ^ 32 + e.weight else 0) = λ j. if eqb (over j % 2) 1 then 2 ^ 32 + under j else 0 in
+        let over : e.word / 2 ^ 32 % 2 ≡ i % 2 = omega arith in let under : e.word % 2 ^ 32 ≡ e.weight = omega arith in
+        let is : renewed_word e.word ≡ (if eqb (i % 2) 1 then 2 ^ 32 + e.weight else 0) = λ j. if eqb (over j) 1 then 2 ^ 32 + under j else 0 in
         is ∙ leaf_cases (eqb (i % 2) 1) (is_member (keys_of members) key) key e.weight (weight_in members key) (weight-none members key) pairs ∙ sym (number_of_leaf o key low)
       where
         leaf_cases : (x y : Bool) (key v w : ℕ) → (y ≡ false → w ≡ 0) → one_if x key v ≡ one_if y key w → (if x then 2 ^ 32 + v else 0) ≡ word_of_leaf (if y then 1 else 0) w
@@ -471,10 +466,10 @@ module _ {A B : Type 0} (parts_a : Parts A) (parts_b : Parts B) (s : Shape) (roo
     pub right_named : NamesEntry book (right_of s q) (get_or five 1 0)
     right_named = record { index = e.right; entry = over.right_child; at = over.right_at; named = right_word }
 
-    pub node_laid : (word : ℕ) → e.word ≡ word → (w h w' h' u k v : List ℕ) (below : ShownBelow (face parts_a parts_b) s book w h (level_of s q) (place_on s q))
+    pub node_laid : NamesOnce s book → HasFewSerials s book → (word : ℕ) → e.word ≡ word → (w h w' h' u k v : List ℕ) (below : ShownBelow (face parts_a parts_b) s book w h (level_of s q) (place_on s q))
         → (left : Brings (face parts_a parts_b) s book (level_of s (left_of s q)) (place_on s (left_of s q)) w w' (set h (q - 2 ^ s.bits) 0) h')
         → Brings (face parts_a parts_b) s book (level_of s (right_of s q)) (place_on s (right_of s q)) w' u h' k → q - 2 ^ s.bits < length h → LaysNode s q (next_record s q five) u v → length w ≡ word_count s
         → IsLaidAs (face parts_a parts_b) s book (left_of s q) (get_or five 0 0) w' → IsLaidAs (face parts_a parts_b) s book (right_of s q) (get_or five 1 0) u → IsLaidAs (face parts_a parts_b) s book q word v
-    node_laid word named w h w' h' u k v below left right slots lays wide as_left as_right =
-        node_as s room (face parts_a parts_b) book q inner w h below w' h' left u k right slots (next_record s q five) v lays wide b i (get_or five 0 0) (get_or five 1 0) word e at named over.left_child over.right_child over.left_at over.right_at left_word right_word as_left as_right
+    node_laid once few word named w h w' h' u k v below left right slots lays wide as_left as_right =
+        node_as s room (face parts_a parts_b) book q inner w h below w' h' left u k right slots (next_record s q five) v lays wide b once few i (get_or five 0 0) (get_or five 1 0) word e at named over.left_child over.right_child over.left_at over.right_at left_word right_word as_left as_right
         (λ cut part. let t = above s q inner in five_opens q i inner e five at says cut t.level t.place part)

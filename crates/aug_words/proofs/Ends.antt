@@ -8,14 +8,12 @@ use Rattle.aug_core.specs.Renewals.{EndWith}
 use Rattle.aug_core.specs.Effects.{opening_of}
 use Rattle.aug_core.proofs.Renewals.{met_rule}
 use Rattle.aug_core.specs.Addresses.{IsInner}
-use Rattle.aug_core.specs.Lanes.{first_record}
 use Rattle.aug_core.specs.Book.{At}
 use Rattle.aug_core.specs.Opening.{Opening, opening_entry}
 use Rattle.aug_core.specs.Rule.{Kept}
 use Rattle.aug_core.specs.declared.view.Entry.{Entry}
 use Rattle.aug_core.specs.declared.view.SeatView.{SeatView}
-use Rattle.aug_core.specs.Places.{Shape, record_words, word_count}
-use Rattle.aug_core.proofs.Sizes.{in_block}
+use Rattle.aug_core.specs.Places.{Shape, record_start, word_count}
 use Rattle.aug_core.proofs.Moves.{St}
 use Rattle.aug_core.proofs.Openings.{inner_history}
 use Rattle.aug_words.specs.Rests.{ShowAll}
@@ -29,13 +27,12 @@ module _ (face : ℕ → ℕ → List (ℕ × ℕ) → List ℕ) (o : Opening) w
 
     pub shows_all : (id : ℕ) (v : SeatView) → get_elem? s.views id ≡ some v → ShowAll face o v s.words
     shows_all id v at = let kn = r.each_view id v at in record {
-      opening_records = λ q field inner small. r.tree.written q 0 field (opening_entry face o q) inner (opening_at q inner) small;
-      shared_records = λ level field low small. r.tree.shared level field low small;
+      opening_records = λ q field inner small. r.tree.written q 0 (opening_entry face o q) inner (opening_at q inner) field small;
+      shared_records = λ level field low small. r.tree.shared level low field small;
       idle_records = λ number field is small. r.tree.idle number field is small;
-      seen_records = λ q i field e inner p small. r.tree.written q i field e inner (entry_stays kn.saw q i e p) small;
+      seen_records = λ q i field e inner p small. r.tree.written q i e inner (entry_stays kn.saw q i e p) field small;
       lanes = λ a h p. (kn.holds a h p).state;
-      records = λ a number field h p of_lane small. let b = in_block o.shape h.lane number field of_lane small in
-          ap (λ (z : ℕ). get_or s.words z 0) b.0 ∙ (kn.holds a h p).exact (record_words * (number - first_record o.shape h.lane) + field) b.1;
+      records = λ number field x owns small. ap (λ (z : ℕ). get_or s.words (record_start o.shape z + field) 0) (sym owns.numbered) ∙ ((kn.holds owns.index owns.lane owns.at).owns x owns.listed).exact field small;
     }
 
   module _ (v : SeatView) (words : List ℕ) (end : EndWith face o v words) where

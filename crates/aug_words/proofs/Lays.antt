@@ -24,6 +24,7 @@ use Rattle.aug_core.specs.Lanes.{word_of_state}
 use Rattle.aug_core.specs.Effects.{Sat, Says, KnowsTable}
 use Rattle.aug_core.specs.inside.ClearParts.{IsClear}
 use Rattle.aug_core.specs.Eras.{table_part, Ruled}
+use Rattle.aug_core.proofs.Clients.{says_same}
 use Rattle.aug_core.proofs.Eras.{part_set, part_long, beside_set}
 use Rattle.aug_core.proofs.Renewals.{looks_beside, lays}
 use Rattle.atomic_table.specs.Table.{step, Allows}
@@ -148,7 +149,7 @@ module _ (base : ℕ) (s : Shape) where
 -- ---- a lead that brings it up to what it has seen
 
 pub knows_steps : (f : ℕ → ℕ → List (ℕ × ℕ) → List ℕ) (v : SeatView) (whole : List ℕ) (steps : List StepTaken) → KnowsTable f v → KnowsTable f record v { whole = whole; steps = steps }
-knows_steps f v whole steps kn = record { laid_out = kn.laid_out; key_set = kn.key_set; members_fit = kn.members_fit; few_members = kn.few_members; book = kn.book; opened = kn.opened; fits = kn.fits }
+knows_steps f v whole steps kn = record { laid_out = kn.laid_out; key_set = kn.key_set; members_fit = kn.members_fit; few_members = kn.few_members; book = kn.book; named = kn.named; opened = kn.opened; fits = kn.fits }
 
 module _ (base : ℕ) (s : Shape) where
   pub beside_on : (u v w : SeatView) → StepsBeside base s u v → StepsBeside base s v w → StepsBeside base s u w
@@ -175,7 +176,7 @@ module _ (base : ℕ) (s : Shape) where
 
   -- what a word says of a record that was seen before
   pub says_on : (v w : SeatView) (number field r : ℕ) → StepsBeside base s v w → Says w number field r → Says v number field r
-  says_on v w number field r b told = subst (λ (z : SeatView). Says z number field r) b.view_is told
+  says_on v w number field r b told = says_same v w number field r (ap (λ (z : SeatView). z.shape) b.view_is) (ap (λ (z : SeatView). z.seen) b.view_is) told
 
   module _ (f : ℕ → ℕ → List (ℕ × ℕ) → List ℕ) (a a' t : TableId) (records : ℕ) (me me' : Sat) (m : MayBring f a t records base s me) where
     -- it may go on to do so

@@ -1,13 +1,13 @@
 -- The seat of a lead, and the table that it sits at.
 use Rattle.std.proofs.Common.{◌≡◌, ℕ, ◌+◌, ◌^◌, ◌<◌, ◌≤◌, List, [], ◌∷◌, ◌++◌, ◌-◌, ◌*◌, length, map, min, set, get_or, All, Option, Some, option_map, sym, refl, ap, ◌∙◌, subst, arith, ⊎_elim, inl, inr}
 use Rattle.std.specs.Prelude.{unwrap_or}
-use Rattle.aug_core.specs.Lanes.{IsOfLane}
+use Rattle.aug_core.specs.Lanes.{lane_records, first_record, new_lane}
 use Rattle.aug_core.specs.Addresses.{IsInner, root_place, level_of, place_on}
 use Rattle.aug_core.specs.Places.{record_start, word_count}
 use Rattle.aug_core.specs.Book.{Book, ArePrefixes, IsNewest, GoesOnFromBoth}
 use Rattle.aug_core.specs.Pasts.{IsLearnt, learnt_of}
 use Rattle.aug_core.specs.Learning.{learning}
-use Rattle.aug_core.specs.Effects.{Sat, stepping, LoadsNode, handing_out, handed_out, taking, taking_back, in_state, new_lane, own_lane_place, MayStore, MayChange}
+use Rattle.aug_core.specs.Effects.{Sat, stepping, LoadsNode, handing_out, handed_out, taking, taking_back, in_state, own_lane_place, MayStore, MayChange}
 use Rattle.aug_core.specs.declared.view.LaneState.TheVariants.{Taken}
 use Rattle.aug_core.specs.declared.view.PastEra.{PastEra}
 use Rattle.aug_core.specs.declared.step.StepTaken.{StepTaken}
@@ -15,7 +15,6 @@ use Rattle.aug_core.specs.declared.view.SeatView.{SeatView}
 use Rattle.aug_core.proofs.PlaceLemmas.{keys-within}
 use Rattle.aug_core.proofs.Sizes.{twice}
 use Rattle.aug_core.proofs.Books.{goes_on_from_both}
-use Rattle.aug_core.proofs.Splits.{block_long}
 use Rattle.aug_core.proofs.Clients.{new_pass_may_store, new_pass_may_change}
 use Rattle.aug_core.specs.Eras.{seen_in}
 use Rattle.aug_core.proofs.Eras.{seen_now}
@@ -245,7 +244,6 @@ new_pass face next root place lead me seat low empty is =
       only = refl;
       named = which;
       taken = refl;
-      long = block_long lead.0.shape lead.0.words (unwrap_or lead.0.spare 0);
       exists = low;
       follows = refl;
       lends = record { count = inl refl; few = omega arith; here = λ b has. absurd (some-ne-none b (sym has.1)) };
@@ -277,9 +275,10 @@ module _ (face : ℕ → ℕ → List (ℕ × ℕ) → List ℕ) (lead after pas
   next_spare lane spare = ap (λ (z : SeatView). z.spare) h.lead_is ∙ ap (λ (z : SeatView). option_map (λ n. n + 1) z.spare) h.loaded.stepped ∙ ap (option_map (λ n. n + 1)) spare
 
   -- and the new pass may store the records of its lane, and make a change
-  pub pass_may_store : (lane number : ℕ) → lead.spare ≡ Some lane → IsOfLane lead.shape lane number → MayStore pass number
-  pass_may_store lane number spare of_lane = new_pass_may_store h.between pass (own_lane_place (handed_out h.between)) lane number (ap (λ (z : SeatView). z.spare) h.loaded.stepped ∙ spare)
-      (subst (λ (z : Shape). IsOfLane z lane number) (sym (ap (λ (z : SeatView). z.shape) h.loaded.stepped)) of_lane) h.pass_is
+  pub pass_may_store : (lane k : ℕ) → IsNextLane lead lane → k < lane_records lead.shape → MayStore pass (first_record lead.shape lane + k)
+  pass_may_store lane k next low = let same : lead.shape ≡ h.between.shape = sym (ap (λ (z : SeatView). z.shape) h.loaded.stepped) in
+      subst (λ (z : Shape). MayStore pass (first_record z lane + k)) (sym same) (new_pass_may_store h.between pass (own_lane_place (handed_out h.between)) lane k (ap (λ (z : SeatView). z.spare) h.loaded.stepped ∙ next.next)
+      (subst (λ (z : Shape). lane < z.workers) same next.exists) (subst (λ (z : Shape). k < lane_records z) same low) h.pass_is)
 
   pub pass_may_change : 0 < lead.shape.updates → MayChange pass
   pass_may_change room = new_pass_may_change h.between pass (own_lane_place (handed_out h.between)) (subst (λ (z : Shape). 0 < z.updates) (sym (ap (λ (z : SeatView). z.shape) h.loaded.stepped)) room) h.pass_is

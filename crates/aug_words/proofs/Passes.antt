@@ -4,10 +4,9 @@ use mathlib.Core.Option.{some}
 use lib.ListN.{get_elem?}
 use Rattle.atomic_table.specs.Seated.{TableId}
 use Rattle.aug_core.specs.Places.{Shape, lane_place, record_start, record_count, record_words, word_count}
-use Rattle.aug_core.specs.Lanes.{IsOfLane, block_start, block_size}
 use Rattle.aug_core.specs.Book.{Book}
 use Rattle.std.proofs.lemmas.Bool.{cases_eq}
-use Rattle.aug_core.specs.Effects.{Sat, stepping, old_word, new_word, made_by, with_changes, with_published, Sees, LoadsLeaf, BeginsAtLeaf, LoadsNode, TriesLeaf, TriesNode, HoldsOnly, HasSeen, KnowsTable, Owns, MayStore, ReadsRecord, on_first, with_word, storing, beginning}
+use Rattle.aug_core.specs.Effects.{Sat, stepping, old_word, new_word, made_by, with_changes, publishing_from, Sees, LoadsLeaf, BeginsAtLeaf, LoadsNode, TriesLeaf, TriesNode, HoldsOnly, GuardsRecord, KnowsTable, MayStore, ReadsRecord, on_first, storing_in, going_from, storing, beginning}
 use Rattle.aug_core.specs.Eras.{IsAtWork}
 use Rattle.aug_core.specs.inside.LaneStates.{HasTakenLane}
 use Rattle.aug_core.specs.Kinds.{load_leaf, try_leaf, load_node, try_node, load_record_word, store_record_word}
@@ -17,9 +16,8 @@ use Rattle.aug_core.specs.declared.view.Advance.{Advance}
 use Rattle.aug_core.specs.declared.view.Held.{Held}
 use Rattle.aug_core.specs.declared.view.LaneState.TheVariants.{Taken}
 use Rattle.aug_core.specs.declared.view.SeatView.{SeatView}
-use Rattle.aug_core.proofs.Sizes.{record_inside}
 use Rattle.aug_core.proofs.Fits.{knows_shown, knows_same}
-use Rattle.aug_core.proofs.Stores.{alone, one_held}
+use Rattle.aug_core.proofs.Stores.{one_held}
 use Rattle.aug_core.proofs.Eras.{holds_lane}
 use Rattle.aug_words.specs.inside.SeatState.{IsPlaced, SitsAt, IsPassSeat, HasPassSeat, LendsHere}
 use Rattle.aug_words.specs.Seats.{AreTogether, Known, MayLoad, LoadsRecordWord, Store}
@@ -47,9 +45,12 @@ sits_at k now store words base lanes records is stored together placed l r =
       records_are = λ i. placed.base_is i + (r ∙ ap (λ (s : Shape). record_start s 0) shape) i;
     }
 
--- a record that was seen is one of the table
-pub seen_inside : (face : ℕ → ℕ → List (ℕ × ℕ) → List ℕ) (v : SeatView) (number : ℕ) → KnowsTable face v → HasSeen v number → number < record_count v.shape
-seen_inside face v number knows seen = subst (λ (z : ℕ). z < record_count v.shape) seen.numbered (knows.book.below seen.place seen.index seen.entry seen.inner seen.at)
+-- a record that a view guards is one of the table, and so is one that it may store
+pub guarded_inside : (face : ℕ → ℕ → List (ℕ × ℕ) → List ℕ) (v : SeatView) (number : ℕ) → KnowsTable face v → GuardsRecord v number → number < record_count v.shape
+guarded_inside face v number knows g = subst (λ (z : ℕ). z < record_count v.shape) g.numbered (knows.book.below g.place g.index g.entry g.guards.inner g.guards.at)
+
+pub stores_inside : (v : SeatView) (number : ℕ) → MayStore v number → number < record_count v.shape
+stores_inside v number may = subst (λ (z : ℕ). z < record_count v.shape) may.numbered may.exists
 
 -- a seat that stayed at its table and in its part
 pub sits_on : (a a' t : TableId) (b l r : ℕ) (v w : SeatView) → SitsAt a t b l r v → a' ≡ a → w.shape ≡ v.shape → w.base ≡ v.base → SitsAt a' t b l r w
@@ -62,9 +63,9 @@ sits_on a a' t b l r v w sits one shape base = record {
 
 module _ (face : ℕ → ℕ → List (ℕ × ℕ) → List ℕ) (a a' t : TableId) (b l r lane lent : ℕ) (me me' : Sat) (is_pass : HasPassSeat face a t b l r lane lent me) (one : a' ≡ a) where
   -- a pass that was shown the whole book, and whose lane is the one that it was
-  shown : (h : Held) (held : List Held) (book : Book) (began : Beginning) (steps : List StepTaken) → held ≡ h ∷ [] → h.lane ≡ lane → h.state ≡ Taken → length h.words ≡ block_size me.0.shape → me'.1 ≡ []
+  shown : (h : Held) (held : List Held) (book : Book) (began : Beginning) (steps : List StepTaken) → held ≡ h ∷ [] → h.lane ≡ lane → h.state ≡ Taken → me'.1 ≡ []
       → me'.0 ≡ record me.0 { seen = book; held = held; began = began; steps = steps } → Sees face me.0 me'.0 → HasPassSeat face a' t b l r lane lent me'
-  shown h held book began steps only named taken long empty is sees = let seat = is_pass.seat in let same : me'.0.shape ≡ me.0.shape = ap (λ (z : SeatView). z.shape) is in record {
+  shown h held book began steps only named taken empty is sees = let seat = is_pass.seat in let same : me'.0.shape ≡ me.0.shape = ap (λ (z : SeatView). z.shape) is in record {
     sits = sits_on a a' t b l r me.0 me'.0 is_pass.sits one same (ap (λ (z : SeatView). z.base) is);
     seat = record {
       live = ap (λ (z : SeatView). z.live) is ∙ seat.live;
@@ -73,7 +74,6 @@ module _ (face : ℕ → ℕ → List (ℕ × ℕ) → List ℕ) (a a' t : Table
       only = ap (λ (z : SeatView). z.held) is ∙ only;
       named = named;
       taken = taken;
-      long = subst (λ (z : Shape). length h.words ≡ block_size z) (sym same) long;
       exists = subst (λ (z : Shape). lane < z.workers) (sym same) seat.exists;
       follows = ap (λ (z : SeatView). z.spare) is ∙ seat.follows;
       lends = subst (λ (z : SeatView). LendsHere lent z.base z.lent) (sym is) seat.lends;
@@ -83,7 +83,7 @@ module _ (face : ℕ → ℕ → List (ℕ × ℕ) → List ℕ) (a a' t : Table
 
   -- the lane is as it was
   watched : (began : Beginning) (steps : List StepTaken) → me'.1 ≡ [] → me'.0 ≡ record me.0 { seen = me'.0.seen; began = began; steps = steps } → Sees face me.0 me'.0 → HasPassSeat face a' t b l r lane lent me'
-  watched began steps empty is sees = let seat = is_pass.seat in shown seat.held me.0.held me'.0.seen began steps seat.only seat.named seat.taken seat.long empty is sees
+  watched began steps empty is sees = let seat = is_pass.seat in shown seat.held me.0.held me'.0.seen began steps seat.only seat.named seat.taken empty is sees
 
   pub pass_loaded_leaf : (key word : ℕ) → me'.1 ≡ [] → LoadsLeaf face me.0 key word me'.0 → HasPassSeat face a' t b l r lane lent me'
   pass_loaded_leaf key word empty did = watched me.0.began (me.0.steps ++ load_leaf key word ∷ []) empty did.stepped did.sees
@@ -96,19 +96,19 @@ module _ (face : ℕ → ℕ → List (ℕ × ℕ) → List ℕ) (a a' t : Table
 
   pub pass_tried_leaf : (key : ℕ) (a : Advance) (found : ℕ) → me'.1 ≡ [] → TriesLeaf face me.0 key a found me'.0 → HasPassSeat face a' t b l r lane lent me'
   pass_tried_leaf key a found empty did = let seat = is_pass.seat in let taken : StepTaken = try_leaf key (old_word a) (new_word a) found in ⊎_elim
-      (λ (hit : found ≡ old_word a). shown (with_changes (made_by key a) seat.held) (on_first (with_changes (made_by key a)) me.0.held) me'.0.seen me.0.began (me.0.steps ++ taken ∷ [])
-      (ap (on_first (with_changes (made_by key a))) seat.only) seat.named seat.taken seat.long empty (did.hit hit).0 did.sees)
+      (λ (hit : found ≡ old_word a). let made = made_by key (going_from (did.hit hit).0.serial a) in shown (with_changes made seat.held) (on_first (with_changes made) me.0.held) me'.0.seen me.0.began (me.0.steps ++ taken ∷ [])
+      (ap (on_first (with_changes made)) seat.only) seat.named seat.taken empty (did.hit hit).0.changed did.sees)
       (λ miss. watched me.0.began (me.0.steps ++ taken ∷ []) empty (did.miss miss).0 did.sees) (cases_eq found (old_word a))
 
   pub pass_tried_node : (q old number found : ℕ) → me'.1 ≡ [] → TriesNode face me.0 q old number found me'.0 → HasPassSeat face a' t b l r lane lent me'
   pass_tried_node q old number found empty did = let seat = is_pass.seat in let taken : StepTaken = try_node q old number found in ⊎_elim
-      (λ (hit : found ≡ old). shown (with_published number seat.held) (on_first (with_published number) me.0.held) me'.0.seen me.0.began (me.0.steps ++ taken ∷ [])
-      (ap (on_first (with_published number)) seat.only) seat.named seat.taken seat.long empty (did.hit hit).0 did.sees)
+      (λ (hit : found ≡ old). shown (publishing_from number seat.held) (on_first (publishing_from number) me.0.held) me'.0.seen me.0.began (me.0.steps ++ taken ∷ [])
+      (ap (on_first (publishing_from number)) seat.only) seat.named seat.taken empty (did.hit hit).0 did.sees)
       (λ miss. watched me.0.began (me.0.steps ++ taken ∷ []) empty (did.miss miss).0 did.sees) (cases_eq found old)
 
   -- a pass that was shown nothing of the book
-  kept : (h : Held) (held : List Held) (steps : List StepTaken) → held ≡ h ∷ [] → h.lane ≡ lane → h.state ≡ Taken → length h.words ≡ block_size me.0.shape → me'.1 ≡ [] → me'.0 ≡ record me.0 { held = held; steps = steps } → HasPassSeat face a' t b l r lane lent me'
-  kept h held steps only named taken long empty is = let seat = is_pass.seat in record {
+  kept : (h : Held) (held : List Held) (steps : List StepTaken) → held ≡ h ∷ [] → h.lane ≡ lane → h.state ≡ Taken → me'.1 ≡ [] → me'.0 ≡ record me.0 { held = held; steps = steps } → HasPassSeat face a' t b l r lane lent me'
+  kept h held steps only named taken empty is = let seat = is_pass.seat in record {
     sits = sits_on a a' t b l r me.0 me'.0 is_pass.sits one (ap (λ (z : SeatView). z.shape) is) (ap (λ (z : SeatView). z.base) is);
     seat = subst (IsPassSeat face lane lent) (λ i. (sym is i, sym empty i)) record {
       live = seat.live;
@@ -117,7 +117,6 @@ module _ (face : ℕ → ℕ → List (ℕ × ℕ) → List ℕ) (a a' t : Table
       only = only;
       named = named;
       taken = taken;
-      long = long;
       exists = seat.exists;
       follows = seat.follows;
       lends = seat.lends;
@@ -126,12 +125,11 @@ module _ (face : ℕ → ℕ → List (ℕ × ℕ) → List ℕ) (a a' t : Table
   }
 
   pub pass_loaded : (place word : ℕ) → (me'.1 ≡ []) × ReadsRecord me.0 place word me'.0 → HasPassSeat face a' t b l r lane lent me'
-  pass_loaded place word did = let seat = is_pass.seat in kept seat.held me.0.held (me.0.steps ++ load_record_word place word ∷ []) seat.only seat.named seat.taken seat.long did.0 did.1.stepped
+  pass_loaded place word did = let seat = is_pass.seat in kept seat.held me.0.held (me.0.steps ++ load_record_word place word ∷ []) seat.only seat.named seat.taken did.0 did.1.stepped
 
   pub pass_stored : (place value : ℕ) → (me'.1 ≡ []) × (me'.0 ≡ storing me.0 place value) → HasPassSeat face a' t b l r lane lent me'
   pass_stored place value did = let seat = is_pass.seat in
-      kept (with_word me.0.shape place value seat.held) (on_first (with_word me.0.shape place value) me.0.held) (me.0.steps ++ store_record_word place value ∷ []) (ap (on_first (with_word me.0.shape place value)) seat.only) seat.named seat.taken
-      (length-set seat.held.words (place - block_start me.0.shape seat.held.lane) value ∙ seat.long) did.0 did.1
+      kept (storing_in me.0.shape place value seat.held) (on_first (storing_in me.0.shape place value) me.0.held) (me.0.steps ++ store_record_word place value ∷ []) (ap (on_first (storing_in me.0.shape place value)) seat.only) seat.named seat.taken did.0 did.1
 
 module _ (face : ℕ → ℕ → List (ℕ × ℕ) → List ℕ) (lane lent : ℕ) (me : Sat) (seat : IsPassSeat face lane lent me) where
   -- a pass's lane is taken
@@ -143,20 +141,12 @@ module _ (face : ℕ → ℕ → List (ℕ × ℕ) → List ℕ) (lane lent : �
   works_on = holds_lane me.0 seat.held seat.only
 
   -- and what is said of the lane that it holds is said of that one
-  pub lane_named : (h : Held) → HoldsOnly me.0 h → (h.lane ≡ lane) × (h.state ≡ Taken) × (length h.words ≡ block_size me.0.shape)
-  lane_named h only = let same = one_held me.0 h seat.held only seat.only in (ap (λ (z : Held). z.lane) same ∙ seat.named, ap (λ (z : Held). z.state) same ∙ seat.taken, ap (λ (z : Held). length z.words) same ∙ seat.long)
+  pub lane_named : (h : Held) → HoldsOnly me.0 h → (h.lane ≡ lane) × (h.state ≡ Taken)
+  lane_named h only = let same = one_held me.0 h seat.held only seat.only in (ap (λ (z : Held). z.lane) same ∙ seat.named, ap (λ (z : Held). z.state) same ∙ seat.taken)
 
-  -- a record that a pass owns or has seen is one of the table
+  -- a record that a pass guards or owns is one of the table
   pub loads_inside : (number : ℕ) → MayLoad me.0 number → number < record_count me.0.shape
-  loads_inside number may = ⊎_elim
-      (seen_inside face me.0 number seat.knows)
-      (λ (owns : Owns me.0 number). let t = alone seat.held owns.lane owns.index (subst (λ (z : List Held). get_elem? z owns.index ≡ some owns.lane) seat.only owns.at) in
-      let is : owns.lane.lane ≡ lane = ap (λ (z : Held). z.lane) (sym t.1) ∙ seat.named in
-      record_inside me.0.shape lane number seat.exists (subst (λ (z : ℕ). IsOfLane me.0.shape z number) is owns.of_lane)) may
-
-  -- and so is one that it may store
-  pub stores_inside : (number : ℕ) → MayStore me.0 number → number < record_count me.0.shape
-  stores_inside number may = record_inside me.0.shape lane number seat.exists (subst (λ (z : ℕ). IsOfLane me.0.shape z number) (lane_named may.lane may.only).0 may.of_lane)
+  loads_inside number may = ⊎_elim (guarded_inside face me.0 number seat.knows) (stores_inside me.0 number) may
 
 -- what a load at a record's word tells of the record
 pub tells : (v w : SeatView) (place number field r : ℕ) → field < record_words → place ≡ record_start v.shape number + field → ReadsRecord v place r w → LoadsRecordWord v number field r w

@@ -20,7 +20,8 @@ use Rattle.aug_words.specs.Rests.{OpensAgain}
 use Rattle.aug_words.specs.Seats.{NamesRoot}
 use Rattle.aug_words.specs.inside.Laying.{OpensOver, ChangesPart, FreesLanes, InChunk, IsLaidAs, SharesRecords, ShownBelow, StepsBeside, words_in}
 use Rattle.aug_words.proofs.CutSets.{cut_light, cut_members, members_fit, root_pairs}
-use Rattle.aug_words.proofs.Chunks.{one_named}
+use Rattle.aug_core.proofs.Fits.{few_serials}
+use Rattle.aug_core.proofs.Refreshing.{same_word}
 use Rattle.aug_words.proofs.Leads.{root_inner}
 use Rattle.aug_words.proofs.Lays.{beside_on, beside_stored, laid_opens, whole}
 
@@ -62,7 +63,7 @@ module _ (f : ℕ → ℕ → List (ℕ × ℕ) → List ℕ) (other root : ℕ)
       pub opened_here : IsOpened f (opening_with s members) (words_in other s v3)
       opened_here =
           let names = r.laid.names in let inner = root_inner s kn.laid_out.bits.0 kn.laid_out.bits.1 in
-          let same : names.index ≡ n.index = one_named s r.room f v.seen kn.book (root_place s) names.index n.index names.entry n.entry bits names.at n.newest.at (names.named ∙ n.named ∙ sym (kn.book.named (root_place s) n.index n.entry inner n.newest.at)) in
+          let same : names.index ≡ n.index = same_word f s v.seen kn.book kn.named (few_serials s v.seen kn.laid_out kn.fits) (root_place s) names.index n.index names.entry n.entry bits names.at n.newest.at (names.named ∙ n.named ∙ sym (kn.book.named (root_place s) n.index n.entry inner n.newest.at)) in
           let on = level_is s (root_place s) s.bits 0 (root_word s) in let has = at_below _ n.index n.entry n.newest.at in
           let part : IsPartOfCut s v.seen cut (level_of s (root_place s)) (place_on s (root_place s)) (root_place s) names.index =
           subst (λ (z : ℕ × ℕ × ℕ). IsPartOfCut s v.seen cut z.0 z.1 (root_place s) z.2) (λ i. (sym on.0 i, sym on.1 i, sym same i)) (root_part f s v.seen kn.book n.index has) in

@@ -5,11 +5,12 @@ use mathlib.Core.Option.{some}
 use lib.ListN.{get_elem?}
 use Rattle.aug_core.specs.Places.{Shape, lane_place, record_start, record_words, word_count}
 use Rattle.aug_core.specs.Addresses.{IsInner, root_place}
-use Rattle.aug_core.specs.Lanes.{IsOfLane, word_of_state}
+use Rattle.aug_core.specs.Lanes.{word_of_state}
 use Rattle.aug_core.specs.Book.{At, IsNewest}
 use Rattle.aug_core.specs.Prefixes.{IsPrefix}
 use Rattle.aug_core.specs.Opening.{Opening, IsIdle, opening_number, opening_words, shared_words}
-use Rattle.aug_core.specs.Effects.{LoadsNode, held_word, opening_of}
+use Rattle.aug_core.specs.Effects.{LoadsNode, Owns, opening_of}
+use Rattle.aug_core.specs.declared.view.Owned.{Owned}
 use Rattle.aug_core.specs.Eras.{table_part}
 use Rattle.aug_core.specs.Renewals.{EndWith, renewing, reopening}
 use Rattle.aug_core.specs.declared.view.Entry.{Entry}
@@ -34,8 +35,8 @@ module _ (face : ℕ → ℕ → List (ℕ × ℕ) → List ℕ) (o : Opening) (
     pub seen_records : (q i field : ℕ) (e : Entry) → IsInner o.shape q → At v.seen q i e → field < record_words → slice_index words (record_start o.shape e.number + field) ≡ slice_index e.words field
     -- a lane of the view is as the view has it
     pub lanes : (a : ℕ) (h : Held) → get_elem? v.held a ≡ some h → slice_index words (lane_place o.shape h.lane) ≡ word_of_state h.state
-    -- and so is each word of its records
-    pub records : (a number field : ℕ) (h : Held) → get_elem? v.held a ≡ some h → IsOfLane o.shape h.lane number → field < record_words → slice_index words (record_start o.shape number + field) ≡ held_word o.shape h number field
+    -- and so is each word of the records that it owns
+    pub records : (number field : ℕ) (x : Owned) → Owns v number x → field < record_words → slice_index words (record_start o.shape number + field) ≡ slice_index x.words field
 
 module _ (face : ℕ → ℕ → List (ℕ × ℕ) → List ℕ) where
   -- a lead that ends an era knows its last book, as a load of the root would show it; and all words

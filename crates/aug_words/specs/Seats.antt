@@ -4,9 +4,9 @@ use Rattle.std.specs.Prelude.{◌≡◌, ℕ, ◌+◌, ◌<◌, ◌⊎◌, ◌�
 use Rattle.atomic_table.specs.Seated.{TableId}
 use Rattle.aug_core.specs.Places.{Shape, record_start}
 use Rattle.aug_core.specs.Addresses.{root_place}
-use Rattle.aug_core.specs.Book.{At, IsNewest}
+use Rattle.aug_core.specs.Book.{IsNewest}
 use Rattle.aug_core.specs.Kinds.{load_record_word}
-use Rattle.aug_core.specs.Effects.{stepping, HasSeen, Owns, Says, SaysOwn, IsAdvance, old_word, new_word, TriesLeaf, TriesNode}
+use Rattle.aug_core.specs.Effects.{stepping, GuardsRecord, MayStore, Says, SaysOwn, IsAdvance, KnowsSerial, old_word, new_word, TriesLeaf, TriesNode}
 use Rattle.aug_core.specs.declared.view.Advance.{Advance}
 use Rattle.aug_core.specs.declared.view.Entry.{Entry}
 use Rattle.aug_core.specs.declared.view.SeatView.{SeatView}
@@ -41,9 +41,9 @@ pub record IsNextLane (v : SeatView) (lane : ℕ) : Type 0 where
   pub next : v.spare ≡ Some lane
   pub exists : lane < v.shape.workers
 
--- the record is one that the view has seen, or of a lane that it holds
+-- the record is one that the view guards, or its own
 abbrev pub MayLoad : SeatView → ℕ → Type 0
-MayLoad v number = HasSeen v number ⊎ Owns v number
+MayLoad v number = GuardsRecord v number ⊎ MayStore v number
 
 -- a word of a record was loaded
 pub record LoadsRecordWord (v : SeatView) (number field r : ℕ) (w : SeatView) : Type 0 where
@@ -57,9 +57,7 @@ pub record MayAdvance (v : SeatView) (key old new : ℕ) : Type 0 where
   pub is_advance : IsAdvance advance
   pub from : old ≡ old_word advance
   pub to : new ≡ new_word advance
-  pub entry : Entry
-  pub at : At v.seen key advance.serial entry
-  pub weighs : entry.weight ≡ advance.weight
+  pub known : KnowsSerial v key advance
 
 -- the number is that of the newest record of the root that the view has seen
 pub record NamesRoot (v : SeatView) (number : ℕ) : Type 0 where
@@ -73,7 +71,7 @@ module _ (face : ℕ → ℕ → List (ℕ × ℕ) → List ℕ) where
   pub record TriedLeaf (v : SeatView) (key old new : ℕ) (done : Bool) (w : SeatView) : Type 0 where
     pub found : ℕ
     pub decided : IsTrue done ↔ (found ≡ old)
-    pub told : (a : Advance) → IsAdvance a → old ≡ old_word a → new ≡ new_word a → TriesLeaf face v key a found w
+    pub told : (a : Advance) → IsAdvance a → KnowsSerial v key a → old ≡ old_word a → new ≡ new_word a → TriesLeaf face v key a found w
 
   -- the answer says whether the node's word was the old number
   pub record TriedNode (v : SeatView) (q old number : ℕ) (done : Bool) (w : SeatView) : Type 0 where

@@ -2,7 +2,7 @@
 //! opening records of the nodes, each of which has its own.
 ghost use Rattle.std.specs.Prelude.{◌≡◌, ℕ, ◌+◌, ◌-◌, ◌*◌, ◌^◌, ◌<◌, ◌≤◌, ◌∷◌, [], true, None, length, slice_index};
 ghost use Rattle.aug_core.specs.Addresses.{IsInner, level_of, place_count, place_on};
-ghost use Rattle.aug_core.specs.Effects.{HasSeen, Says};
+ghost use Rattle.aug_core.specs.Effects.{GuardsRecord, Says};
 ghost use Rattle.aug_core.specs.Faces.{face};
 ghost use Rattle.aug_core.specs.Opening.{shared_words};
 ghost use Rattle.aug_core.specs.Places.{record_start, record_words, word_count};
@@ -104,7 +104,7 @@ impl<A: Monoid, B: Monoid> Words<A, B> {
         field: usize,
     ) -> u64
         requires may { MayBring (face A.parts B.parts) seat.old.table_id self.now.table records base self.now.shape seat.old.me }
-        requires seen { HasSeen seat.old.me.0 number }
+        requires guards { GuardsRecord seat.old.me.0 number }
         requires field { field < record_words }
         ensures may { MayBring (face A.parts B.parts) seat.new.table_id self.now.table records base self.now.shape seat.new.me }
         ensures view { StepsBeside base self.now.shape seat.old.me.0 seat.new.me.0 }
@@ -137,7 +137,7 @@ impl<A: Monoid, B: Monoid> Words<A, B> {
         node: usize,
     ) -> [u64; RECORD_WORDS]
         requires may { MayBring (face A.parts B.parts) seat.old.table_id self.now.table records base self.now.shape seat.old.me }
-        requires seen { HasSeen seat.old.me.0 number }
+        requires guards { GuardsRecord seat.old.me.0 number }
         requires node { IsInner self.now.shape node }
         ensures may { MayBring (face A.parts B.parts) seat.new.table_id self.now.table records base self.now.shape seat.new.me }
         ensures view { StepsBeside base self.now.shape seat.old.me.0 seat.new.me.0 }

@@ -4,7 +4,7 @@ ghost use Rattle.aug_core.specs.Faces.{face};
 ghost use Rattle.aug_core.specs.Addresses.{root_place};
 ghost use Rattle.aug_core.specs.Places.{lane_place, word_count};
 ghost use Rattle.aug_core.specs.Fields.{field_offset};
-ghost use Rattle.aug_core.specs.Effects.{HasSeen, KnowsTable, taking, finishing, own_lane_place};
+ghost use Rattle.aug_core.specs.Effects.{GuardsRecord, KnowsTable, taking, finishing, own_lane_place};
 ghost use Rattle.aug_core.specs.Renewals.{Surveys};
 ghost use Rattle.aug_core.specs.inside.LaneStates.{MayTake, HasTakenLane};
 ghost use Rattle.aug_words.specs.Leads.{HandsLaneOut, MayOpen, Prepares, TakesLaneBack, TakesReader};
@@ -212,7 +212,7 @@ impl<A: Monoid, B: Monoid> Lead<A, B> {
     #[inline(always)]
     pub fn load_record_word(&mut self, words: &Words<A, B>, number: u64, field: RecordField) -> u64
         requires together { AreTogether words.now self.old }
-        requires seen { HasSeen self.old.view number }
+        requires guards { GuardsRecord self.old.view number }
         ensures { StaysAt self.old self.new (LoadsRecordWord self.old.view number (field_offset field) result self.new.view) }
     {
         let place = record_word(self.base + words.records, number, field.offset());

@@ -1,6 +1,5 @@
 //! What one thread knows of a table, and its steps.
 ghost use Rattle.std.specs.Prelude.{◌≡◌, ◌^◌, ◌<◌, ◌≤◌, ◌+◌, ◌*◌, ℕ, length};
-ghost use Rattle.aug_core.specs.Lanes.{block_size};
 ghost use Rattle.aug_core.specs.Places.{record_start, record_words};
 ghost use Rattle.aug_core.specs.Faces.{face};
 ghost use Rattle.aug_core.specs.Addresses.{IsInner};
@@ -58,7 +57,6 @@ impl<'r, A: Monoid, B: Monoid> WordPass<'r, A, B> {
     pub fn lane(&self) -> u32
         ensures value { (held : Held) → HoldsOnly self.now.view held → held.lane ≡ result }
         ensures taken { (held : Held) → HoldsOnly self.now.view held → held.state ≡ Taken }
-        ensures words { (held : Held) → HoldsOnly self.now.view held → length held.words ≡ block_size self.now.view.shape }
         ensures knows { KnowsTable (face A.parts B.parts) self.now.view }
     {
         self.lane

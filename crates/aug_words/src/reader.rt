@@ -1,6 +1,6 @@
 //! A seat that reads what its lender had seen.
 ghost use Rattle.std.specs.Prelude.{◌≡◌, ◌+◌};
-ghost use Rattle.aug_core.specs.Effects.{HasSeen};
+ghost use Rattle.aug_core.specs.Effects.{GuardsRecord};
 ghost use Rattle.aug_core.specs.Fields.{field_offset};
 ghost use Rattle.aug_core.specs.Readers.{lending, reader_of};
 ghost use Rattle.aug_words.specs.Leads.{TakesReader};
@@ -41,7 +41,7 @@ impl<A: Monoid, B: Monoid> WordReader<A, B> {
     #[inline(always)]
     pub fn load_record_word(&mut self, words: &Words<A, B>, number: u64, field: RecordField) -> u64
         requires together { AreTogether words.now self.old }
-        requires seen { HasSeen self.old.view number }
+        requires guards { GuardsRecord self.old.view number }
         ensures { StaysAt self.old self.new (LoadsRecordWord self.old.view number (field_offset field) result self.new.view) }
     {
         let place = record_word(self.base + words.records, number, field.offset());

@@ -3,7 +3,6 @@ use Rattle.std.specs.Prelude.{◌≡◌, ◌≢◌, ◌⊎◌, ℕ, ◌+◌, ◌
 use Rattle.atomic_table.specs.Seated.{TableId}
 use Rattle.aug_core.specs.Places.{Shape, lane_place, record_start, word_count}
 use Rattle.aug_core.specs.Layout.{IsLayout}
-use Rattle.aug_core.specs.Lanes.{block_size}
 use Rattle.aug_core.specs.Book.{At}
 use Rattle.aug_core.specs.Effects.{Sat, HoldsOnly, KnowsTable}
 use Rattle.aug_core.specs.Readers.{times_in}
@@ -74,7 +73,7 @@ pub record ArePartsOf (table : TableId) (parts : Parts) (base other : ℕ) (s : 
   pub starts : (b : ℕ) → Lists lent b → (k : ℕ) × (k < length parts.out.items) × (b ≡ k * word_count s)
 
 module _ (face : ℕ → ℕ → List (ℕ × ℕ) → List ℕ) where
-  -- what holds for the seat of a pass: it has one lane, which is taken, and all words of its records, hands none out, and knows its table
+  -- what holds for the seat of a pass: it has one lane, which is taken, hands none out, and knows its table
   pub record IsPassSeat (lane lent : ℕ) (me : Sat) : Type 0 where
     pub live : me.0.live ≡ true
     pub no_slot : me.1 ≡ []
@@ -82,7 +81,6 @@ module _ (face : ℕ → ℕ → List (ℕ × ℕ) → List ℕ) where
     pub only : HoldsOnly me.0 held
     pub named : held.lane ≡ lane
     pub taken : held.state ≡ Taken
-    pub long : length held.words ≡ block_size me.0.shape
     pub exists : lane < me.0.shape.workers
     pub knows : KnowsTable face me.0
     pub follows : me.0.spare ≡ None

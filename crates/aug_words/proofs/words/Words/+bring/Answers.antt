@@ -2,7 +2,7 @@ use Rattle.std.proofs.Common.{refl, ap, ⊎_elim, sym, subst, ◌∙◌, ◌≡�
 use Rattle.std.proofs.lemmas.Bool.{false≢true}
 use Rattle.std.proofs.lemmas.List.{get_or_read}
 use Rattle.aug_core.specs.Addresses.{IsInner, left_of, right_of, level_of, place_on}
-use Rattle.aug_core.specs.Book.{Book, IsBook}
+use Rattle.aug_core.specs.Book.{Book, IsBook, NamesOnce}
 use Rattle.aug_core.specs.Eras.{table_part}
 use Rattle.aug_core.specs.Faces.{face}
 use Rattle.aug_core.specs.Places.{Shape, record_words, word_count}
@@ -11,6 +11,7 @@ use Rattle.aug_core.proofs.Levels.{on_level}
 use Rattle.aug_words.specs.Seats.{Store}
 use Rattle.aug_words.specs.inside.Laying.{Brings, IsLaidAs, NamesEntry, MayBring, renewed_word, words_in, LaysNode, StepsBeside, next_record}
 use Rattle.aug_words.proofs.Brought.{inner_by, slot_in}
+use Rattle.aug_core.proofs.Fits.{HasFewSerials, few_serials}
 use Rattle.aug_words.proofs.Chunks.{below_same, brings_leaf, brings_none, brings_same, leaf_as, left_below, left_named, node_in, right_below, right_named, brings_halves, brings_node, laid_same, node_laid}
 use Rattle.aug_words.proofs.Lays.{beside_seen, leaves_are, part_words, beside_on, beside_stored, brings_on}
 use Rattle.aug_core.proofs.Sizes.{twice}
@@ -45,12 +46,12 @@ overflow_add-word-then-right g t c =
     let past = c.if-node-leaves.false in let inner : IsInner s q = record { past_leaves = omega arith; inside = c.requires.node } in let number : named.entry.number ≡ c.args.word = sym (b.named q named.index named.entry inner named.at) ∙ named.named in
     let fits = m.knows.book.below q named.index named.entry (subst (λ (z : Shape). IsInner z q) (sym m.shaped) inner) named.at in let most = m.knows.laid_out.words in omega (arith, number, fits)
 
-pub load_record-five-requires-clause-seen : goal.load_record-five-requires-clause-seen
-load_record-five-requires-clause-seen g t c =
+pub load_record-five-requires-clause-guards : goal.load_record-five-requires-clause-guards
+load_record-five-requires-clause-guards g t c =
     let s : Shape = c.args.self.now.shape in let leaves = leaves_are _ _ _ s _ _ c.self.invariant (ap (λ (z : Store). z.shape) c.self.view_is) in let m = c.requires.may in let f = face g.A.Monoid.parts g.B.Monoid.parts in let v : SeatView = c.args.seat.now.me.0 in let base : ℕ = c.args.draft.now.base in let q : ℕ = c.args.node in
     let book : Book = v.seen in let b : IsBook f s book = subst (λ (z : Shape). IsBook f z book) m.shaped m.knows.book in let named = c.requires.named in
     let past = c.if-node-leaves.false in let inner : IsInner s q = record { past_leaves = omega arith; inside = c.requires.node } in let number : named.entry.number ≡ c.args.word = sym (b.named q named.index named.entry inner named.at) ∙ named.named in
-    record { place = q; index = named.index; entry = named.entry; inner = subst (λ (z : Shape). IsInner z q) (sym m.shaped) inner; at = named.at; numbered = number }
+    record { place = q; index = named.index; entry = named.entry; guards = record { inner = subst (λ (z : Shape). IsInner z q) (sym m.shaped) inner; at = named.at }; numbered = number }
 
 pub returns-then-index-word-clause-done : goal.returns-then-index-word-clause-done
 returns-then-index-word-clause-done g t c is =
@@ -71,7 +72,7 @@ bring-left-requires g t c κs lives =
     let book : Book = v.seen in let b : IsBook f s book = subst (λ (z : Shape). IsBook f z book) m.shaped m.knows.book in let named = c.requires.named in
     let past = c.if-node-leaves.false in let inner : IsInner s q = record { past_leaves = omega arith; inside = c.requires.node } in let number : named.entry.number ≡ c.args.word = sym (b.named q named.index named.entry inner named.at) ∙ named.named in
     let h : List ℕ = c.args.draft.now.shown.items in let five : List ℕ = c.load_record-five.result in let w : List ℕ = words_in base s v in
-    let says : (field : ℕ) → field < record_words → get_or five field 0 ≡ get_or named.entry.words field 0 = λ field low. c.load_record-five.ensures.says field low q named.index named.entry (subst (λ (z : Shape). IsInner z q) (sym m.shaped) inner) named.at number in
+    let says : (field : ℕ) → field < record_words → get_or five field 0 ≡ get_or named.entry.words field 0 = λ field low. c.load_record-five.ensures.says field low q named.index named.entry record { inner = subst (λ (z : Shape). IsInner z q) (sym m.shaped) inner; at = named.at } number in
     let slot : q - (c.self.inside.lanes / 2 + 1) ≡ q - 2 ^ s.bits = omega arith in let left_at : 2 * (q - (c.self.inside.lanes / 2 + 1)) ≡ left_of s q = omega arith in let right_at : 2 * (q - (c.self.inside.lanes / 2 + 1)) + 1 ≡ right_of s q = omega arith in
     let same : c.passes.new.self.base ≡ base = c.passes.ensures.base in
     let cleared : set c.passes.new.self.shown.items (q - (c.self.inside.lanes / 2 + 1)) 0 ≡ set h (q - 2 ^ s.bits) 0 = λ i. set ((ap (λ z. z.items) c.passes.ensures.shown) i) (slot i) 0 in
@@ -85,7 +86,7 @@ bring-right-requires g t c κs lives =
     let book : Book = v.seen in let b : IsBook f s book = subst (λ (z : Shape). IsBook f z book) m.shaped m.knows.book in let named = c.requires.named in
     let past = c.if-node-leaves.false in let inner : IsInner s q = record { past_leaves = omega arith; inside = c.requires.node } in let number : named.entry.number ≡ c.args.word = sym (b.named q named.index named.entry inner named.at) ∙ named.named in
     let h : List ℕ = c.args.draft.now.shown.items in let five : List ℕ = c.load_record-five.result in let w : List ℕ = words_in base s v in
-    let says : (field : ℕ) → field < record_words → get_or five field 0 ≡ get_or named.entry.words field 0 = λ field low. c.load_record-five.ensures.says field low q named.index named.entry (subst (λ (z : Shape). IsInner z q) (sym m.shaped) inner) named.at number in
+    let says : (field : ℕ) → field < record_words → get_or five field 0 ≡ get_or named.entry.words field 0 = λ field low. c.load_record-five.ensures.says field low q named.index named.entry record { inner = subst (λ (z : Shape). IsInner z q) (sym m.shaped) inner; at = named.at } number in
     let slot : q - (c.self.inside.lanes / 2 + 1) ≡ q - 2 ^ s.bits = omega arith in let left_at : 2 * (q - (c.self.inside.lanes / 2 + 1)) ≡ left_of s q = omega arith in let right_at : 2 * (q - (c.self.inside.lanes / 2 + 1)) + 1 ≡ right_of s q = omega arith in
     let same : c.passes.new.self.base ≡ base = c.passes.ensures.base in
     let cleared : set c.passes.new.self.shown.items (q - (c.self.inside.lanes / 2 + 1)) 0 ≡ set h (q - 2 ^ s.bits) 0 = λ i. set ((ap (λ z. z.items) c.passes.ensures.shown) i) (slot i) 0 in
@@ -117,7 +118,7 @@ returns-then-right-clause-done g t c is =
     let book : Book = v.seen in let b : IsBook f s book = subst (λ (z : Shape). IsBook f z book) m.shaped m.knows.book in let named = c.requires.named in
     let past = c.if-node-leaves.false in let inner : IsInner s q = record { past_leaves = omega arith; inside = c.requires.node } in let number : named.entry.number ≡ c.args.word = sym (b.named q named.index named.entry inner named.at) ∙ named.named in
     let h : List ℕ = c.args.draft.now.shown.items in let five : List ℕ = c.load_record-five.result in let w : List ℕ = words_in base s v in
-    let says : (field : ℕ) → field < record_words → get_or five field 0 ≡ get_or named.entry.words field 0 = λ field low. c.load_record-five.ensures.says field low q named.index named.entry (subst (λ (z : Shape). IsInner z q) (sym m.shaped) inner) named.at number in
+    let says : (field : ℕ) → field < record_words → get_or five field 0 ≡ get_or named.entry.words field 0 = λ field low. c.load_record-five.ensures.says field low q named.index named.entry record { inner = subst (λ (z : Shape). IsInner z q) (sym m.shaped) inner; at = named.at } number in
     let slot : q - (c.self.inside.lanes / 2 + 1) ≡ q - 2 ^ s.bits = omega arith in let left_at : 2 * (q - (c.self.inside.lanes / 2 + 1)) ≡ left_of s q = omega arith in let right_at : 2 * (q - (c.self.inside.lanes / 2 + 1)) + 1 ≡ right_of s q = omega arith in
     let same : c.passes.new.self.base ≡ base = c.passes.ensures.base in
     let cleared : set c.passes.new.self.shown.items (q - (c.self.inside.lanes / 2 + 1)) 0 ≡ set h (q - 2 ^ s.bits) 0 = λ i. set ((ap (λ z. z.items) c.passes.ensures.shown) i) (slot i) 0 in
@@ -136,7 +137,7 @@ returns-then-right-clause-done g t c is =
     let as_left : IsLaidAs f s book (left_of s q) (get_or five 0 0) w1 = laid_same s m.room f book _ _ (left_of s q) _ (get_or five 0 0) _ w1 seen0 left_at refl (ap (λ (z : ℕ). words_in z s c.bring-left.new.seat.me.0) same) (c.bring-left.ensures.done c.if-left.true) in
     let as_right : IsLaidAs f s book (right_of s q) (get_or five 1 0) w2 = laid_same s m.room f book _ _ (right_of s q) _ (get_or five 1 0) _ w2 seen1 right_at refl (ap (λ (z : ℕ). words_in z s c.bring-right.new.seat.me.0) same1) (c.bring-right.ensures.done c.if-right.true) in
     let below = c.requires.below in
-    let laid = node_laid g.A.Monoid.parts g.B.Monoid.parts s m.room book b q named.index inner named.entry five named.at says c.args.word named.named w h w1 h1 w2 h2 w3 below left right slots lays wide as_left as_right in
+    let laid = node_laid g.A.Monoid.parts g.B.Monoid.parts s m.room book b q named.index inner named.entry five named.at says (subst (λ (z : Shape). NamesOnce z book) m.shaped m.knows.named) (subst (λ (z : Shape). HasFewSerials z book) m.shaped (few_serials v.shape book m.knows.laid_out m.knows.fits)) c.args.word named.named w h w1 h1 w2 h2 w3 below left right slots lays wide as_left as_right in
     laid
 
 pub returns-then-right-clause-brings : goal.returns-then-right-clause-brings
@@ -145,7 +146,7 @@ returns-then-right-clause-brings g t c =
     let book : Book = v.seen in let b : IsBook f s book = subst (λ (z : Shape). IsBook f z book) m.shaped m.knows.book in let named = c.requires.named in
     let past = c.if-node-leaves.false in let inner : IsInner s q = record { past_leaves = omega arith; inside = c.requires.node } in let number : named.entry.number ≡ c.args.word = sym (b.named q named.index named.entry inner named.at) ∙ named.named in
     let h : List ℕ = c.args.draft.now.shown.items in let five : List ℕ = c.load_record-five.result in let w : List ℕ = words_in base s v in
-    let says : (field : ℕ) → field < record_words → get_or five field 0 ≡ get_or named.entry.words field 0 = λ field low. c.load_record-five.ensures.says field low q named.index named.entry (subst (λ (z : Shape). IsInner z q) (sym m.shaped) inner) named.at number in
+    let says : (field : ℕ) → field < record_words → get_or five field 0 ≡ get_or named.entry.words field 0 = λ field low. c.load_record-five.ensures.says field low q named.index named.entry record { inner = subst (λ (z : Shape). IsInner z q) (sym m.shaped) inner; at = named.at } number in
     let slot : q - (c.self.inside.lanes / 2 + 1) ≡ q - 2 ^ s.bits = omega arith in let left_at : 2 * (q - (c.self.inside.lanes / 2 + 1)) ≡ left_of s q = omega arith in let right_at : 2 * (q - (c.self.inside.lanes / 2 + 1)) + 1 ≡ right_of s q = omega arith in
     let same : c.passes.new.self.base ≡ base = c.passes.ensures.base in
     let cleared : set c.passes.new.self.shown.items (q - (c.self.inside.lanes / 2 + 1)) 0 ≡ set h (q - 2 ^ s.bits) 0 = λ i. set ((ap (λ z. z.items) c.passes.ensures.shown) i) (slot i) 0 in
@@ -164,7 +165,7 @@ returns-then-right-clause-brings g t c =
     let as_left : IsLaidAs f s book (left_of s q) (get_or five 0 0) w1 = laid_same s m.room f book _ _ (left_of s q) _ (get_or five 0 0) _ w1 seen0 left_at refl (ap (λ (z : ℕ). words_in z s c.bring-left.new.seat.me.0) same) (c.bring-left.ensures.done c.if-left.true) in
     let as_right : IsLaidAs f s book (right_of s q) (get_or five 1 0) w2 = laid_same s m.room f book _ _ (right_of s q) _ (get_or five 1 0) _ w2 seen1 right_at refl (ap (λ (z : ℕ). words_in z s c.bring-right.new.seat.me.0) same1) (c.bring-right.ensures.done c.if-right.true) in
     let below = c.requires.below in
-    let laid = node_laid g.A.Monoid.parts g.B.Monoid.parts s m.room book b q named.index inner named.entry five named.at says c.args.word named.named w h w1 h1 w2 h2 w3 below left right slots lays wide as_left as_right in
+    let laid = node_laid g.A.Monoid.parts g.B.Monoid.parts s m.room book b q named.index inner named.entry five named.at says (subst (λ (z : Shape). NamesOnce z book) m.shaped m.knows.named) (subst (λ (z : Shape). HasFewSerials z book) m.shaped (few_serials v.shape book m.knows.laid_out m.knows.fits)) c.args.word named.named w h w1 h1 w2 h2 w3 below left right slots lays wide as_left as_right in
     subst (λ (z : ℕ). Brings f s book (level_of s q) (place_on s q) w w3 h (set h2 z (c.args.word + 1))) (sym slot) (brings_node s m.room f book q inner w h below w1 h1 left w2 h2 right slots (next_record s q five) w3 lays wide c.args.word laid)
 
 pub returns-else-left-clause-view : goal.returns-else-left-clause-view
@@ -180,7 +181,7 @@ returns-else-left-clause-brings g t c =
     let book : Book = v.seen in let b : IsBook f s book = subst (λ (z : Shape). IsBook f z book) m.shaped m.knows.book in let named = c.requires.named in
     let past = c.if-node-leaves.false in let inner : IsInner s q = record { past_leaves = omega arith; inside = c.requires.node } in let number : named.entry.number ≡ c.args.word = sym (b.named q named.index named.entry inner named.at) ∙ named.named in
     let h : List ℕ = c.args.draft.now.shown.items in let five : List ℕ = c.load_record-five.result in let w : List ℕ = words_in base s v in
-    let says : (field : ℕ) → field < record_words → get_or five field 0 ≡ get_or named.entry.words field 0 = λ field low. c.load_record-five.ensures.says field low q named.index named.entry (subst (λ (z : Shape). IsInner z q) (sym m.shaped) inner) named.at number in
+    let says : (field : ℕ) → field < record_words → get_or five field 0 ≡ get_or named.entry.words field 0 = λ field low. c.load_record-five.ensures.says field low q named.index named.entry record { inner = subst (λ (z : Shape). IsInner z q) (sym m.shaped) inner; at = named.at } number in
     let slot : q - (c.self.inside.lanes / 2 + 1) ≡ q - 2 ^ s.bits = omega arith in let left_at : 2 * (q - (c.self.inside.lanes / 2 + 1)) ≡ left_of s q = omega arith in let right_at : 2 * (q - (c.self.inside.lanes / 2 + 1)) + 1 ≡ right_of s q = omega arith in
     let same : c.passes.new.self.base ≡ base = c.passes.ensures.base in
     let cleared : set c.passes.new.self.shown.items (q - (c.self.inside.lanes / 2 + 1)) 0 ≡ set h (q - 2 ^ s.bits) 0 = λ i. set ((ap (λ z. z.items) c.passes.ensures.shown) i) (slot i) 0 in

@@ -35,11 +35,10 @@ use Rattle.aug_trie.specs.inside.Climbing.{CameTo, Settled}
 use Rattle.aug_trie.specs.inside.Counted.{HasCounts}
 use Rattle.aug_trie.specs.inside.Goes.{Goes, HasLeaves, HasRoom}
 use Rattle.aug_trie.specs.inside.Knows.{knows, KnowsRound}
-use Rattle.aug_trie.specs.inside.PassState.{pass_facts, known_in, IsPass}
+use Rattle.aug_trie.specs.inside.PassState.{pass_facts, known_in, IsPass, KeepsPass}
 use Rattle.aug_trie.proofs.Accepting.{comes_to, knowledge_on, shown_number, stayed_by, updated_knowledge}
 use Rattle.aug_trie.proofs.Going.{goes_after, room_on}
 use Rattle.aug_trie.proofs.LeavingAll.{steps_in, made_in}
-use Rattle.aug_trie.proofs.PassCalls.{Holds}
 use Rattle.aug_trie.proofs.Passing.{pass_told, pass_on, updates_on, weighed_by, stored_by}
 use Rattle.aug_trie.proofs.Raising.{newest_later}
 use Rattle.aug_trie.proofs.Trees.{keeps_on}
@@ -118,7 +117,7 @@ module _ {A B : Type 0} (parts_a : Parts A) (parts_b : Parts B) where
 
   -- a batch came to this, from a pass as contracts saw it
   pub record BatchMade (now : PassFacts) (keys : List ℕ) (requests : List Request) (outcomes : List Outcome) (z : Known) (after : Account) : Type 0 where
-    pub holds : Holds parts_a parts_b (Some z) after
+    pub holds : KeepsPass f (Some z) after
     pub does : DoesBatch requests keys outcomes now (pass_facts z after.left)
     pub goes_on : (steps : ℕ) × GoesOn (length keys) steps now (pass_facts z after.left)
     pub keeps : Keeps (summary_of parts_a parts_b) now (pass_facts z after.left)
@@ -139,16 +138,16 @@ module _ {A B : Type 0} (parts_a : Parts A) (parts_b : Parts B) where
     pub room : HasRoom w a.next (length keys * a.bits)
     pub small : a.next + length keys * a.bits < 2 ^ 60
 
-  module _ {words : Option Known} {a : Account} {now : PassFacts} {k : Known} (holds : Holds parts_a parts_b words a) (facts : pass_facts (known_in words) a.left ≡ now) (there : words ≡ Some k) where
+  module _ {words : Option Known} {a : Account} {now : PassFacts} {k : Known} (holds : KeepsPass f words a) (facts : pass_facts (known_in words) a.left ≡ now) (there : words ≡ Some k) where
     told : IsPass f k.view a.leaves a.bits a.next a.left × (pass_facts k a.left ≡ now)
-    told = pass_told f words k a.leaves a.bits a.next a.left now holds.0 there facts
+    told = pass_told f words k a.leaves a.bits a.next a.left now holds.pass there facts
 
     module _ {keys : List ℕ} (low : All (λ (key : ℕ). key < 2 ^ now.round.bits) keys) (budget : now.spent + length keys ≤ now.round.updates) where
       pub may_batch : MayBatch keys a k
       may_batch = record {
         low = subst (λ (z : PassFacts). All (λ (key : ℕ). key < 2 ^ z.round.bits) keys) (sym told.1) low;
         is_pass = told.0;
-        counts = subst (λ (z : Option Known). HasCounts (changes_of (known_in z).view.held) a.inserts a.removals) there holds.1;
+        counts = subst (λ (z : Option Known). HasCounts (changes_of (known_in z).view.held) a.inserts a.removals) there holds.counts;
         budget = let b = subst (λ (z : PassFacts). z.spent + length keys ≤ z.round.updates) (sym told.1) budget in omega (arith, b);
       }
 
@@ -231,7 +230,7 @@ module _ {A B : Type 0} (parts_a : Parts A) (parts_b : Parts B) where
           batch_made = let k' : Known = record { table = k.table; view = z.view } in let pass = pass_on f k.view z.view a.leaves a.bits a.next a.left n (made_in left.parts) p may_batch.budget left.few_made goes known in
               subst (λ (x : PassFacts × TableId). BatchMade x.0 keys requests outcomes (record { table = x.1; view = z.view }) after) (λ j. (told.1 j, sym (same_table ∙ table) j))
               (subst (λ (x : Account). BatchMade (pass_facts k a.left) keys requests outcomes k' x) (sym account) record {
-                holds = (record { known = k'; there = refl; is_pass = pass }, subst (λ (x : List Change). HasCounts x after.inserts after.removals) (sym same_changes) counts);
+                holds = record { pass = record { known = k'; there = refl; is_pass = pass }; counts = subst (λ (x : List Change). HasCounts x after.inserts after.removals) (sym same_changes) counts };
                 does = does;
                 goes_on = goes_on;
                 keeps = keeps_on parts_a parts_b k k' a.left (a.left - n) p.knows_table goes.knows_table goes.shaped goes.later;

@@ -7,10 +7,11 @@ use Rattle.aug_core.proofs.Fits.{knows_lent}
 use Rattle.aug_words.specs.Seats.{Store, Known, AreTogether}
 use Rattle.aug_trie.specs.Pass.{PassFacts}
 use Rattle.aug_trie.specs.Round.{TableFacts, table_of}
+use Rattle.aug_trie.specs.declared.rounds.account.Account.{Account}
 use Rattle.aug_trie.specs.inside.Counted.{HasCounts}
 use Rattle.aug_trie.specs.inside.CrewState.{HoldsCrew}
 use Rattle.aug_trie.specs.inside.Goes.{Looks}
-use Rattle.aug_trie.specs.inside.PassState.{pass_facts, known_in, IsPass, HoldsPass}
+use Rattle.aug_trie.specs.inside.PassState.{pass_facts, known_in, IsPass, KeepsPass}
 use Rattle.aug_trie.specs.inside.ReaderState.{HoldsReader}
 use Rattle.aug_trie.specs.inside.RoundState.{facts_of}
 use Rattle.aug_trie.proofs.Passing.{pass_told}
@@ -38,13 +39,12 @@ module _ (f : ℕ → ℕ → List (ℕ × ℕ) → List ℕ) where
   }
 
   -- a pass that lent a reader, or took one back
-  module _ (words : Option Known) (k w : Known) (leaves bits next left inserts removals : ℕ) (now : PassFacts) (holds : HoldsPass f words leaves bits next left) (counts : HasCounts (changes_of (known_in words).view.held) inserts removals)
-      (there : words ≡ Some k) (facts : pass_facts (known_in words) left ≡ now) (lent : w.view ≡ record k.view { lent = w.view.lent }) where
-    pub lent_holds : HoldsPass f (Some w) leaves bits next left × HasCounts (changes_of w.view.held) inserts removals
-    lent_holds = let told = pass_told f words k leaves bits next left now holds there facts in (
-      record { known = w; there = refl; is_pass = subst (λ (z : SeatView). IsPass f z leaves bits next left) (sym lent) (lent_pass k.view w.view.lent leaves bits next left told.0) },
-      subst (λ (z : SeatView). HasCounts (changes_of z.held) inserts removals) (sym lent) (subst (λ (z : Option Known). HasCounts (changes_of (known_in z).view.held) inserts removals) there counts),
-    )
+  module _ (words : Option Known) (k w : Known) (a : Account) (now : PassFacts) (holds : KeepsPass f words a) (there : words ≡ Some k) (facts : pass_facts (known_in words) a.left ≡ now) (lent : w.view ≡ record k.view { lent = w.view.lent }) where
+    pub lent_holds : KeepsPass f (Some w) a
+    lent_holds = let told = pass_told f words k a.leaves a.bits a.next a.left now holds.pass there facts in record {
+      pass = record { known = w; there = refl; is_pass = subst (λ (z : SeatView). IsPass f z a.leaves a.bits a.next a.left) (sym lent) (lent_pass k.view w.view.lent a.leaves a.bits a.next a.left told.0) };
+      counts = subst (λ (z : SeatView). HasCounts (changes_of z.held) a.inserts a.removals) (sym lent) (subst (λ (z : Option Known). HasCounts (changes_of (known_in z).view.held) a.inserts a.removals) there holds.counts);
+    }
 
   -- a crew that took a reader back is one still
   pub lent_crew : (v w : SeatView) (back inserts removals : ℕ) → w ≡ record v { lent = w.lent } → HoldsCrew f v back inserts removals → HoldsCrew f w back inserts removals

@@ -29,7 +29,7 @@ use Rattle.aug_trie.specs.inside.Counted.{HasCounts}
 use Rattle.aug_trie.specs.inside.CrewState.{crew_facts, HoldsCrew}
 use Rattle.aug_trie.specs.inside.Knows.{knows, root_history, KnowsRound}
 use Rattle.aug_trie.specs.inside.NoteState.{note_facts}
-use Rattle.aug_trie.specs.inside.PassState.{pass_facts, known_in, IsPass}
+use Rattle.aug_trie.specs.inside.PassState.{pass_facts, known_in, IsPass, KeepsPass}
 use Rattle.aug_trie.specs.inside.ReaderState.{HoldsReader}
 use Rattle.aug_trie.specs.inside.RoundState.{round_of, past_rounds}
 use Rattle.aug_trie.specs.declared.rounds.account.Account.{Account}
@@ -38,7 +38,7 @@ use Rattle.aug_trie.proofs.Keeping.{weighs_later}
 use Rattle.aug_trie.proofs.Chaining.{begins_alike, either_part}
 use Rattle.aug_trie.proofs.Histories.{is_history}
 use Rattle.aug_trie.proofs.Lending.{reader_told}
-use Rattle.aug_trie.proofs.PassCalls.{Holds, SnapshotTaken, snapshot_taken}
+use Rattle.aug_trie.proofs.PassCalls.{SnapshotTaken, snapshot_taken}
 use Rattle.aug_trie.proofs.Passing.{pass_told}
 use Rattle.aug_trie.proofs.Snapshots.{root_node}
 use Rattle.aug_trie.proofs.Trees.{keeps_on}
@@ -140,23 +140,23 @@ of_pass p = record { round = p.round; past = p.past; history = p.knows.history }
 
 -- ---- passes
 
-module _ {A B : Type 0} (parts_a : Parts A) (parts_b : Parts B) (words : Option Known) (a : Account) (now : PassFacts) (k : Known) (holds : Holds parts_a parts_b words a) (facts : pass_facts (known_in words) a.left ≡ now) (there : words ≡ Some k) where
+module _ {A B : Type 0} (parts_a : Parts A) (parts_b : Parts B) (words : Option Known) (a : Account) (now : PassFacts) (k : Known) (holds : KeepsPass (face parts_a parts_b) words a) (facts : pass_facts (known_in words) a.left ≡ now) (there : words ≡ Some k) where
   abbrev f : ℕ → ℕ → List (ℕ × ℕ) → List ℕ
   f = face parts_a parts_b
 
   told : IsPass f k.view a.leaves a.bits a.next a.left × (pass_facts k a.left ≡ now)
-  told = pass_told f words k a.leaves a.bits a.next a.left now holds.0 there facts
+  told = pass_told f words k a.leaves a.bits a.next a.left now holds.pass there facts
 
   -- a note was made, and the pass is what it was
   pub record NoteMade (note w : Known) : Type 0 where
-    pub still : Holds parts_a parts_b (Some w) a
+    pub still : KeepsPass (face parts_a parts_b) (Some w) a
     pub same : pass_facts w a.left ≡ now
     pub knows_table : KnowsTable f note.view
     pub note_is : note_facts note ≡ record { round = now.round; past = now.past; history = now.knows.history }
 
   pub note_made : (note w : Known) → w ≡ k → note.table ≡ k.table → note.view ≡ noted k.view → NoteMade note w
   note_made note w same table is = record {
-    still = subst (λ (z : Option Known). Holds parts_a parts_b z a) (there ∙ ap (λ (z : Known). Some z) (sym same)) holds;
+    still = subst (λ (z : Option Known). KeepsPass (face parts_a parts_b) z a) (there ∙ ap (λ (z : Known). Some z) (sym same)) holds;
     same = ap (λ (z : Known). pass_facts z a.left) same ∙ told.1;
     knows_table = subst (KnowsTable f) (sym is) (noted_table f k.view told.0.knows_table);
     note_is = (λ i. note_facts (record { table = table i; view = is i })) ∙ ap of_pass told.1;
@@ -177,9 +177,9 @@ module _ {A B : Type 0} (parts_a : Parts A) (parts_b : Parts B) (words : Option 
       let mid : Known = record { table = k.table; view = learning v n.view } in
       let root = root_node f v a.leaves a.bits a.next a.left p in
       let loads : LoadsNode f (learning v n.view) (2 * a.leaves - 2) number w.view = subst (λ (z : ℕ). LoadsNode f (learning v n.view) z number w.view) root.1 l.loaded in
-      let held : Holds parts_a parts_b (Some k) a = subst (λ (z : Option Known). Holds parts_a parts_b z a) there holds in
-      let counts : HasCounts (changes_of v.held) a.inserts a.removals = held.1 in
-      let still : Holds parts_a parts_b (Some mid) a = (record { known = mid; there = refl; is_pass = learning_pass f v n.view a.leaves a.bits a.next a.left p }, counts) in
+      let held : KeepsPass (face parts_a parts_b) (Some k) a = subst (λ (z : Option Known). KeepsPass (face parts_a parts_b) z a) there holds in
+      let counts : HasCounts (changes_of v.held) a.inserts a.removals = held.counts in
+      let still : KeepsPass (face parts_a parts_b) (Some mid) a = record { pass = record { known = mid; there = refl; is_pass = learning_pass f v n.view a.leaves a.bits a.next a.left p }; counts = counts } in
       let both : HasLearnt v.era (view_chain v) (knows v) (note_facts n) (view_chain w.view) (knows w.view) = learns_both f v n.view w.view number p.knows_table kn l n.table in record {
         learns = subst (λ (z : PassFacts × NoteFacts). HasLearnt z.0.round.era (chain_of z.0) z.0.knows z.1 (view_chain w.view) (knows w.view)) (λ j. (told.1 j, note_is j)) both;
         taken = snapshot_taken parts_a parts_b (Some mid) a now mid still told.1 refl number w loads table;

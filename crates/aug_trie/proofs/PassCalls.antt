@@ -23,7 +23,7 @@ use Rattle.aug_trie.specs.inside.Goes.{Looks}
 use Rattle.aug_trie.specs.inside.Knows.{knows}
 use Rattle.aug_trie.specs.inside.NamedCuts.{cut_named}
 use Rattle.aug_trie.specs.inside.NodeWords.{IsNodeAt}
-use Rattle.aug_trie.specs.inside.PassState.{pass_facts, known_in, IsPass, HoldsPass}
+use Rattle.aug_trie.specs.inside.PassState.{pass_facts, known_in, IsPass, KeepsPass}
 use Rattle.aug_trie.specs.declared.queries.node.Node.{Node}
 use Rattle.aug_trie.specs.declared.queries.snapshot.Snapshot.{Snapshot}
 use Rattle.aug_trie.specs.declared.rounds.account.Account.{Account}
@@ -53,13 +53,9 @@ module _ {A B : Type 0} (parts_a : Parts A) (parts_b : Parts B) where
   abbrev f : ℕ → ℕ → List (ℕ × ℕ) → List ℕ
   f = face parts_a parts_b
 
-  -- a pass's fields keep what they are to keep
-  abbrev pub Holds : Option Known → Account → Type 0
-  Holds words a = HoldsPass f words a.leaves a.bits a.next a.left × HasCounts (changes_of (known_in words).view.held) a.inserts a.removals
-
   -- an update came to this, from a pass as contracts saw it
   pub record UpdateMade (now : PassFacts) (key : ℕ) (request : Request) (made : LeafUpdate) (w : Known) (after : Account) : Type 0 where
-    pub holds : Holds (Some w) after
+    pub holds : KeepsPass f (Some w) after
     pub came_to : ComesTo request key made.outcome now.knows (knows w.view)
     pub tells : Tells request key (told_by made) now.knows (knows w.view)
     pub goes_on : (steps : ℕ) × GoesOn 1 steps now (pass_facts w after.left)
@@ -68,19 +64,19 @@ module _ {A B : Type 0} (parts_a : Parts A) (parts_b : Parts B) where
 
   -- a snapshot was taken
   pub record SnapshotTaken (now : PassFacts) (a : Account) (number : ℕ) (w : Known) : Type 0 where
-    pub holds : Holds (Some w) a
+    pub holds : KeepsPass f (Some w) a
     pub takes : TakesSnapshot now.knows (knows w.view) (snapshot_cut (pass_facts w a.left) number)
     pub known : HasSnapshot (pass_facts w a.left) number
     pub goes_on : GoesOn 0 1 now (pass_facts w a.left)
     pub step : w.view.steps ≡ now.steps ++ load_node (root_of now.round) number ∷ []
     pub keeps : Keeps (summary_of parts_a parts_b) now (pass_facts w a.left)
 
-  module _ (words : Option Known) (a : Account) (now : PassFacts) (k : Known) (holds : Holds words a) (facts : pass_facts (known_in words) a.left ≡ now) (there : words ≡ Some k) where
+  module _ (words : Option Known) (a : Account) (now : PassFacts) (k : Known) (holds : KeepsPass f words a) (facts : pass_facts (known_in words) a.left ≡ now) (there : words ≡ Some k) where
     told : IsPass f k.view a.leaves a.bits a.next a.left × (pass_facts k a.left ≡ now)
-    told = pass_told f words k a.leaves a.bits a.next a.left now holds.0 there facts
+    told = pass_told f words k a.leaves a.bits a.next a.left now holds.pass there facts
 
     counts : HasCounts (changes_of k.view.held) a.inserts a.removals
-    counts = subst (λ (z : Option Known). HasCounts (changes_of (known_in z).view.held) a.inserts a.removals) there holds.1
+    counts = subst (λ (z : Option Known). HasCounts (changes_of (known_in z).view.held) a.inserts a.removals) there holds.counts
 
     -- one more change may be counted
     pub has_count : (a.inserts + 1 < 2 ^ 32) × (a.removals + 1 < 2 ^ 32)
@@ -99,10 +95,10 @@ module _ {A B : Type 0} (parts_a : Parts A) (parts_b : Parts B) where
         let budget' = subst (λ (z : PassFacts). z.spent < z.round.updates) (sym now_is) budget in let some : 1 ≤ a.left = omega arith in
         let goes = (gained_by f k.view w.view a.leaves a.bits a.next a.left key request p some low' made.outcome u).2 in
         subst (λ (z : PassFacts × TableId × Account). UpdateMade z.0 key request made (record { table = z.1; view = w.view }) z.2) (λ j. (now_is j, sym table j, sym is j)) record {
-          holds = (
-            record { known = record { table = k.table; view = w.view }; there = refl; is_pass = pass_after f k.view w.view a.leaves a.bits a.next a.left key request p some low' made.outcome u },
-            counted_by f (a.next + a.bits) k.view w.view key a.inserts a.removals request made.outcome u counts,
-          );
+          holds = record {
+            pass = record { known = record { table = k.table; view = w.view }; there = refl; is_pass = pass_after f k.view w.view a.leaves a.bits a.next a.left key request p some low' made.outcome u };
+            counts = counted_by f (a.next + a.bits) k.view w.view key a.inserts a.removals request made.outcome u counts;
+          };
           came_to = comes_to f (a.next + a.bits) k.view key request w.view p.knows_table low' made.outcome (settled f u);
           tells = tells f k.view w.view a.leaves a.bits a.next a.left key request p some low' made from left;
           goes_on = (length u.more + 1, goes_on_by f k.view w.view a.leaves a.bits a.next a.left key request p some low' k.table made.outcome u);
@@ -120,10 +116,10 @@ module _ {A B : Type 0} (parts_a : Parts A) (parts_b : Parts B) where
         let l = subst (λ (z : ℕ). LoadsNode f k.view z number w.view) (sym root.1) loads in
         let goes = goes_seeing f k.view w.view _ l.stepped p.knows_table l.sees in
         subst (λ (z : PassFacts × TableId). SnapshotTaken z.0 a number (record { table = z.1; view = w.view })) (λ j. (now_is j, sym table j)) record {
-          holds = (
-            record { known = record { table = k.table; view = w.view }; there = refl; is_pass = pass_still f k.view w.view a.leaves a.bits a.next a.left p goes },
-            counted_still f 0 k.view w.view a.inserts a.removals goes counts,
-          );
+          holds = record {
+            pass = record { known = record { table = k.table; view = w.view }; there = refl; is_pass = pass_still f k.view w.view a.leaves a.bits a.next a.left p goes };
+            counts = counted_still f 0 k.view w.view a.inserts a.removals goes counts;
+          };
           takes = takes_snapshot f k.view w.view number a.leaves a.bits a.next a.left p l;
           known = has_snapshot f k.view w.view number a.leaves a.bits a.next a.left p l;
           goes_on = looked_on f k.view w.view number a.leaves a.bits a.next a.left p l k.table goes;
@@ -141,8 +137,8 @@ module _ {A B : Type 0} (parts_a : Parts A) (parts_b : Parts B) where
     top_at number has = subst (λ (z : ℕ). IsNodeAt k.view.shape k.view.seen (cut number) z 0 number) (sym told.0.bits_are) (top_is parts_a parts_b k a.left number told.0.knows_table (subst (λ (z : PassFacts). HasSnapshot z number) (sym told.1) has))
 
     module _ (most : ℕ) (w : Known) (looks : Looks most k.view w.view) where
-      pub looked : Holds (Some w) a
-      looked = still_by f k w a.leaves a.bits a.next a.left a.inserts a.removals most told.0 counts looks
+      pub looked : KeepsPass f (Some w) a
+      looked = let still = still_by f k w a.leaves a.bits a.next a.left a.inserts a.removals most told.0 counts looks in record { pass = still.0; counts = still.1 }
 
       pub reads : w.table ≡ k.table → Reads (summary_of parts_a parts_b) most now (pass_facts w a.left)
       reads table = subst (λ (z : PassFacts × TableId). Reads (summary_of parts_a parts_b) most z.0 (pass_facts (record { table = z.1; view = w.view }) a.left)) (λ j. (told.1 j, sym table j)) (reads_by parts_a parts_b k w.view a.left most looks)

@@ -14,7 +14,7 @@ use Rattle.aug_trie.specs.inside.Climbing.{Updated}
 use Rattle.aug_trie.specs.inside.Knows.{root_history, knows, root_numbers}
 use Rattle.aug_trie.specs.Updates.{ComesTo}
 use Rattle.aug_trie.specs.Pass.{PassFacts, GoesOn, StepsOf}
-use Rattle.aug_trie.specs.inside.PassState.{pass_facts}
+use Rattle.aug_trie.specs.inside.PassState.{pass_facts, KeepsPass}
 use Rattle.aug_trie.specs.inside.RoundState.{round_of, eras_of, past_rounds}
 use Rattle.aug_trie.specs.Node.{Keeps}
 use Rattle.aug_trie.specs.inside.Points.{OneStep}
@@ -32,7 +32,7 @@ use Rattle.aug_trie.specs.declared.turns.stages.Next.TheVariants.{More, Done}
 use Rattle.aug_trie.proofs.Accepting.{knows_on, comes_to, settled}
 use Rattle.aug_trie.proofs.Advancing.{goes_at}
 use Rattle.aug_trie.proofs.Counters.{may_count, counted_by}
-use Rattle.aug_trie.proofs.PassCalls.{Holds, account_after}
+use Rattle.aug_trie.proofs.PassCalls.{account_after}
 use Rattle.aug_trie.proofs.Passing.{gained_by, goes_on_by, steps_of, pass_after}
 use Rattle.aug_trie.proofs.Staging.{room_one}
 use Rattle.aug_trie.proofs.Trees.{keeps_on}
@@ -160,7 +160,7 @@ module _ {A B : Type 0} (parts_a : Parts A) (parts_b : Parts B) where
 
   -- the last one made a pass of it again
   pub record ClimbDone (now : ClimbFacts) (w : Known) (done : Outcome) (after : Account) : Type 0 where
-    pub holds : Holds parts_a parts_b (Some w) after
+    pub holds : KeepsPass both (Some w) after
     pub finish : Finishes done now (pass_facts w after.left)
     pub keeps : Keeps (summary_of parts_a parts_b) now.start (pass_facts w after.left)
 
@@ -183,10 +183,10 @@ module _ {A B : Type 0} (parts_a : Parts A) (parts_b : Parts B) where
       pub climb_done : (done : Outcome) (after : Account) → next ≡ Done done → after ≡ account_after a request done → ClimbDone now w done after
       climb_done done after next_is after_is = let u = held.began in let t = held.stage_at in let up = climbs (Done done) next_is in
           subst (λ (z : ClimbFacts × TableId × Account). ClimbDone z.0 (record { table = z.1; view = w.view }) done z.2) (λ j. (is j, sym table j, sym after_is j)) record {
-            holds = (
-              record { known = record { table = k.table; view = w.view }; there = refl; is_pass = pass_after both u w.view a.leaves a.bits a.next a.left key request t.is_pass t.some t.low done up },
-              counted_by both (a.next + a.bits) u w.view key a.inserts a.removals request done up held.counts,
-            );
+            holds = record {
+              pass = record { known = record { table = k.table; view = w.view }; there = refl; is_pass = pass_after both u w.view a.leaves a.bits a.next a.left key request t.is_pass t.some t.low done up };
+              counts = counted_by both (a.next + a.bits) u w.view key a.inserts a.removals request done up held.counts;
+            };
             finish = finishes both a.leaves a.bits a.next a.left key request u k.table k.view w.view stage t done step (subst (StageFalls a.bits stage) next_is falls) up;
             keeps = let goes = (gained_by both u w.view a.leaves a.bits a.next a.left key request t.is_pass t.some t.low done up).2 in
                 subst (λ (z : PassFacts). Keeps (summary_of parts_a parts_b) z (pass_facts (record { table = k.table; view = w.view }) (a.left - 1))) (sym (start_is both a.leaves a.bits a.next a.left key request u k.table stage k.view t))

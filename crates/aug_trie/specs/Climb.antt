@@ -1,7 +1,7 @@
 -- What contracts see of an update that is made by single turns. In between the pass may have changed its leaf while the root does not show that yet.
 -- So no clause there says that an accepted change stands in the last cut; `Finishes` says it, from the start to the end. To put 0 into the example
 -- takes 26 turns if nobody comes in between, and at most 50.
-use Rattle.std.specs.Prelude.{◌≡◌, ℕ, ◌<◌, ◌≤◌, true, [], ◌∷◌, ◌++◌}
+use Rattle.std.specs.Prelude.{◌≡◌, ℕ, ◌^◌, ◌<◌, ◌≤◌, true, [], ◌∷◌, ◌++◌}
 use Rattle.aug_core.specs.Kinds.{load_leaf, try_leaf}
 use Rattle.aug_core.specs.declared.step.StepTaken.{StepTaken}
 use Rattle.aug_model.specs.declared.outcome.Outcome.{Outcome}
@@ -18,6 +18,11 @@ pub record ClimbFacts : Type 0 where
   pub request : Request
   pub key : ℕ
   pub left : ℕ
+
+-- an update of a key of the round may begin: not all updates of the pass are made
+pub record MayUpdate (pass : PassFacts) (k : ℕ) : Type 0 where
+  pub key : k < 2 ^ pass.round.bits
+  pub budget : pass.spent < pass.round.updates
 
 -- an update begins, and none of its steps is made yet
 abbrev pub BeginsClimb : Request → ℕ → PassFacts → ClimbFacts → Type 0

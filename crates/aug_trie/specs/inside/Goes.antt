@@ -73,6 +73,11 @@ pub record HasLeaves (s : Shape) (leaves : ℕ) : Type 0 where
   pub are : leaves ≡ 2 ^ s.bits
   pub few : leaves ≤ 65536
 
+-- and the view knows the table
+pub record KnowsLeaves (face : ℕ → ℕ → List (ℕ × ℕ) → List ℕ) (v : SeatView) (many : ℕ) : Type 0 where
+  pub leaves : HasLeaves v.shape many
+  pub knows : KnowsTable face v
+
 -- how many words of a record tell what is below its node: a count and two folds
 abbrev pub part_words : ℕ
 part_words = 3

@@ -4,6 +4,8 @@ use Rattle.aug_core.specs.Counts.{changes_of}
 use Rattle.aug_core.specs.Effects.{KnowsTable, own_lane, spent}
 use Rattle.aug_words.specs.Seats.{Known}
 use Rattle.aug_core.specs.declared.view.SeatView.{SeatView}
+use Rattle.aug_trie.specs.declared.rounds.account.Account.{Account}
+use Rattle.aug_trie.specs.inside.Counted.{HasCounts}
 use Rattle.aug_trie.specs.inside.Goes.{HasLeaves, HasRoom}
 use Rattle.aug_trie.specs.inside.Knows.{knows, root_numbers, KnowsRound}
 use Rattle.aug_trie.specs.Pass.{PassFacts}
@@ -42,3 +44,8 @@ module _ (face : ℕ → ℕ → List (ℕ × ℕ) → List ℕ) where
     pub known : Known
     pub there : words ≡ Some known
     pub is_pass : IsPass known.view leaves bits next left
+
+  -- what a pass keeps, and its half: it holds its words, and its account says how many of its changes are insertions and how many removals
+  pub record KeepsPass (words : Option Known) (a : Account) : Type 0 where
+    pub pass : HoldsPass words a.leaves a.bits a.next a.left
+    pub counts : HasCounts (changes_of (known_in words).view.held) a.inserts a.removals

@@ -9,7 +9,7 @@ use Rattle.aug_core.specs.Effects.{KnowsTable, Says, own_lane, storing}
 use Rattle.aug_core.specs.declared.step.StepTaken.{StepTaken}
 use Rattle.aug_core.specs.declared.view.SeatView.{SeatView}
 use Rattle.aug_trie.specs.inside.RoundState.{eras_of}
-use Rattle.aug_trie.specs.inside.Goes.{Goes, Took, HasRoom, Tries, IsPart, part_words, part_steps, publish_steps, try_steps, Looks}
+use Rattle.aug_trie.specs.inside.Goes.{Goes, Took, HasLeaves, HasRoom, Tries, IsPart, part_words, part_steps, publish_steps, try_steps, Looks}
 use Rattle.aug_trie.specs.inside.LeafPairs.{leaf_pairs}
 use Rattle.aug_trie.specs.declared.turns.points.Reading.{Reading}
 use Rattle.aug_trie.specs.declared.turns.points.Filling.{Filling}
@@ -68,6 +68,13 @@ module _ {A B : Type 0} (parts_a : Parts A) (parts_b : Parts B) where
 
 -- a try that began at the view v
 module _ (face : ℕ → ℕ → List (ℕ × ℕ) → List ℕ) (v : SeatView) (q : ℕ) where
+  -- a try may begin, for which the record with a number is free
+  pub record MayRefresh (many number : ℕ) : Type 0 where
+    pub leaves : HasLeaves v.shape many
+    pub inner : IsInner v.shape q
+    pub knows : KnowsTable face v
+    pub room : HasRoom v number 1
+
   -- the node's word was loaded
   pub record AfterNode (from : ℕ) (w : SeatView) : Type 0 where
     pub goes : Goes face 0 [] v w

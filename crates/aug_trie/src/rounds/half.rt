@@ -26,16 +26,15 @@ pub struct PassHalf<A: Monoid, B: Monoid> {
 
 impl<A: Monoid, B: Monoid> Model for PassHalf<A, B> {
     ghost use Rattle.aug_core.specs.Faces.{face};
-    ghost use Rattle.aug_core.specs.Counts.{changes_of};
-    ghost use Rattle.aug_trie.specs.inside.Counted.{HasCounts};
+    ghost use Rattle.std.specs.Prelude.{Some};
     ghost use Rattle.aug_trie.specs.Pass.{PassFacts};
-    ghost use Rattle.aug_trie.specs.inside.PassState.{pass_facts, IsPass};
+    ghost use Rattle.aug_trie.specs.inside.PassState.{pass_facts, KeepsPass};
 
     ghost Value = { PassFacts };
 
     ghost view = { λ p. pass_facts p.words p.account.left };
 
-    ghost invariant = { λ p. IsPass (face A.parts B.parts) p.words.view p.account.leaves p.account.bits p.account.next p.account.left × HasCounts (changes_of p.words.view.held) p.account.inserts p.account.removals };
+    ghost invariant = { λ p. KeepsPass (face A.parts B.parts) (Some p.words) p.account };
 }
 
 impl<A: Monoid, B: Monoid> PassHalf<A, B> {

@@ -20,16 +20,14 @@ pub struct Members {
 }
 
 impl Model for Members {
-    ghost use Rattle.std.specs.Prelude.{All};
-    ghost use Rattle.aug_model.specs.Keys.{IsKeySet, SetFacts, keys_of};
-    ghost use Rattle.aug_core.specs.Layout.{IsWithin};
-    ghost use Rattle.aug_monoid.specs.Weighted.{FitsPair};
+    ghost use Rattle.aug_model.specs.Keys.{SetFacts};
+    ghost use Rattle.aug_query.specs.Tree.{IsTreeSet};
 
     ghost Value = { SetFacts };
 
     ghost view = { λ m. record { bits = m.bits; pairs = m.pairs.items } };
 
-    ghost invariant = { λ m. IsWithin 1 16 m.bits × IsKeySet m.bits (keys_of m.pairs.items) × All FitsPair m.pairs.items };
+    ghost invariant = { λ m. IsTreeSet (record { bits = m.bits; pairs = m.pairs.items }) };
 }
 
 impl Members {

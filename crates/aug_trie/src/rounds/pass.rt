@@ -32,16 +32,14 @@ pub struct Pass<'r, A: Monoid, B: Monoid> {
 
 impl<'r, A: Monoid, B: Monoid> Model for Pass<'r, A, B> {
     ghost use Rattle.aug_core.specs.Faces.{face};
-    ghost use Rattle.aug_core.specs.Counts.{changes_of};
-    ghost use Rattle.aug_trie.specs.inside.Counted.{HasCounts};
     ghost use Rattle.aug_trie.specs.Pass.{PassFacts};
-    ghost use Rattle.aug_trie.specs.inside.PassState.{pass_facts, known_in, HoldsPass};
+    ghost use Rattle.aug_trie.specs.inside.PassState.{pass_facts, known_in, KeepsPass};
 
     ghost Value = { PassFacts };
 
     ghost view = { λ p. pass_facts (known_in p.words) p.account.left };
 
-    ghost invariant = { λ p. HoldsPass (face A.parts B.parts) p.words p.account.leaves p.account.bits p.account.next p.account.left × HasCounts (changes_of (known_in p.words).view.held) p.account.inserts p.account.removals };
+    ghost invariant = { λ p. KeepsPass (face A.parts B.parts) p.words p.account };
 }
 
 impl<'r, A: Monoid, B: Monoid> Pass<'r, A, B> {

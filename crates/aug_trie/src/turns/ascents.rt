@@ -2,6 +2,7 @@
 ghost use Rattle.std.specs.Prelude.{◌≡◌, ℕ, List, ◌+◌, ◌/◌, ◌^◌, ◌<◌, ◌≤◌, false, IfSome};
 ghost use Rattle.aug_core.specs.Faces.{face};
 ghost use Rattle.aug_core.specs.declared.view.SeatView.{SeatView};
+ghost use Rattle.aug_words.specs.Seats.{StaysAt};
 ghost use Rattle.aug_trie.specs.inside.Goes.{HasLeaves};
 ghost use Rattle.aug_trie.specs.inside.Points.{QuietStep};
 ghost use Rattle.aug_trie.specs.inside.Stages.{IsOnWay, IsPastTry, Ascends, AscentFalls, ascent_turns, past_try_turns};
@@ -51,8 +52,7 @@ pub(crate) fn ascend<A: Monoid, B: Monoid>(
     requires leaves { HasLeaves pass.old.view.shape leaves }
     requires small { number + bits < 2 ^ 60 }
     requires on_way { (key : ℕ) × (leaf : SeatView) × IsOnWay (face A.parts B.parts) bits number key leaf ascent pass.old.view }
-    ensures table { pass.new.table ≡ pass.old.table }
-    ensures step { QuietStep pass.old.view pass.new.view }
+    ensures step { StaysAt pass.old pass.new (QuietStep pass.old.view pass.new.view) }
     ensures on { (key : ℕ) (leaf : SeatView) → IsOnWay (face A.parts B.parts) bits number key leaf ascent pass.old.view → Ascends (face A.parts B.parts) bits number key leaf result pass.new.view }
     ensures falls { AscentFalls bits ascent result }
 {

@@ -9,7 +9,7 @@ ghost use Rattle.aug_trie.specs.Node.{Keeps};
 ghost use Rattle.aug_trie.specs.inside.Points.{point_turns};
 ghost use Rattle.aug_trie.specs.inside.Climbing.{FitsRequest};
 ghost use Rattle.aug_trie.specs.inside.Stages.{ascent_turns, part_above};
-ghost use Rattle.aug_trie.specs.Climb.{ClimbFacts, BeginsClimb, TurnsOn, Finishes};
+ghost use Rattle.aug_trie.specs.Climb.{ClimbFacts, BeginsClimb, Finishes, MayUpdate, TurnsOn};
 
 use crate::rounds::account::Account;
 use crate::rounds::pass::Pass;
@@ -60,8 +60,7 @@ pub enum Turn<'r, A: Monoid, B: Monoid> {
 impl<'r, A: Monoid, B: Monoid> Pass<'r, A, B> {
     /// Begins to put a key in, with the key itself as its weight, turn by turn. No step is made yet.
     pub fn start_insert(self, k: u32) -> Climb<'r, A, B>
-        requires key { k < 2 ^ self.round.bits }
-        requires budget { self.spent < self.round.updates }
+        requires { MayUpdate self k }
         ensures { BeginsClimb Request.Insert k self.entry result }
     {
         start(self, k, Request::Insert)
@@ -69,8 +68,7 @@ impl<'r, A: Monoid, B: Monoid> Pass<'r, A, B> {
 
     /// Begins to take a key out, turn by turn. No step is made yet.
     pub fn start_remove(self, k: u32) -> Climb<'r, A, B>
-        requires key { k < 2 ^ self.round.bits }
-        requires budget { self.spent < self.round.updates }
+        requires { MayUpdate self k }
         ensures { BeginsClimb Request.Remove k self.entry result }
     {
         start(self, k, Request::Remove)
@@ -78,8 +76,7 @@ impl<'r, A: Monoid, B: Monoid> Pass<'r, A, B> {
 
     /// Begins to put a key in with a weight, as `put`, turn by turn. No step is made yet.
     pub fn start_put(self, k: u32, weight: u32) -> Climb<'r, A, B>
-        requires key { k < 2 ^ self.round.bits }
-        requires budget { self.spent < self.round.updates }
+        requires { MayUpdate self k }
         ensures { BeginsClimb (Request.Put weight) k self.entry result }
     {
         start(self, k, Request::Put(weight))
@@ -87,8 +84,7 @@ impl<'r, A: Monoid, B: Monoid> Pass<'r, A, B> {
 
     /// Begins to add to the weight of a key, as `add`, turn by turn. No step is made yet.
     pub fn start_add(self, k: u32, amount: u32) -> Climb<'r, A, B>
-        requires key { k < 2 ^ self.round.bits }
-        requires budget { self.spent < self.round.updates }
+        requires { MayUpdate self k }
         ensures { BeginsClimb (Request.Add amount) k self.entry result }
     {
         start(self, k, Request::Add(amount))
@@ -96,8 +92,7 @@ impl<'r, A: Monoid, B: Monoid> Pass<'r, A, B> {
 
     /// Begins to take from the weight of a key, as `sub`, turn by turn. No step is made yet.
     pub fn start_sub(self, k: u32, amount: u32) -> Climb<'r, A, B>
-        requires key { k < 2 ^ self.round.bits }
-        requires budget { self.spent < self.round.updates }
+        requires { MayUpdate self k }
         ensures { BeginsClimb (Request.Sub amount) k self.entry result }
     {
         start(self, k, Request::Sub(amount))
@@ -105,8 +100,7 @@ impl<'r, A: Monoid, B: Monoid> Pass<'r, A, B> {
 
     /// Begins to take a key of this weight out, as `take`, turn by turn. No step is made yet.
     pub fn start_take(self, k: u32, weight: u32) -> Climb<'r, A, B>
-        requires key { k < 2 ^ self.round.bits }
-        requires budget { self.spent < self.round.updates }
+        requires { MayUpdate self k }
         ensures { BeginsClimb (Request.Take weight) k self.entry result }
     {
         start(self, k, Request::Take(weight))
@@ -119,8 +113,7 @@ fn start<'r, A: Monoid, B: Monoid>(
     key: u32,
     request: Request,
 ) -> Climb<'r, A, B>
-    requires key { key < 2 ^ pass.round.bits }
-    requires budget { pass.spent < pass.round.updates }
+    requires may { MayUpdate pass key }
     requires fits { FitsRequest request }
     ensures { BeginsClimb request key pass.entry result }
 {

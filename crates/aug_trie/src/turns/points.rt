@@ -5,6 +5,7 @@ ghost use Rattle.aug_core.specs.Fields.{field_offset};
 ghost use Rattle.aug_core.specs.Places.{record_words};
 ghost use Rattle.aug_core.specs.Addresses.{left_of};
 ghost use Rattle.aug_core.specs.declared.view.SeatView.{SeatView};
+ghost use Rattle.aug_words.specs.Seats.{StaysAt};
 ghost use Rattle.aug_trie.specs.inside.Goes.{HasLeaves, part_words, part_steps};
 ghost use Rattle.aug_trie.specs.inside.Points.{QuietStep, TryAt, Advances, Falls, IsOverLeaves, five_over, reading_words, child_at, field_after};
 
@@ -127,8 +128,7 @@ fn load_right<A: Monoid, B: Monoid>(
 ) -> Point
     requires leaves { HasLeaves pass.old.view.shape leaves }
     requires begun { (v : SeatView) × (number : ℕ) × TryAt (face A.parts B.parts) v node number (Point.Right from left) pass.old.view }
-    ensures table { pass.new.table ≡ pass.old.table }
-    ensures step { QuietStep pass.old.view pass.new.view }
+    ensures step { StaysAt pass.old pass.new (QuietStep pass.old.view pass.new.view) }
     ensures on { (v : SeatView) (number : ℕ) → TryAt (face A.parts B.parts) v node number (Point.Right from left) pass.old.view → TryAt (face A.parts B.parts) v node number result pass.new.view }
     ensures falls { Falls (part_steps pass.old.view.shape (left_of pass.old.view.shape node)) (Point.Right from left) (Advanced.To result) }
 {
@@ -163,8 +163,7 @@ fn next_word(reading: Reading) -> (u64, RecordField)
 // Loads the next word of the children's records: one step.
 fn load_part<A: Monoid, B: Monoid>(pass: &mut WordPass<A, B>, reading: Reading) -> Point
     requires begun { (v : SeatView) × (node : ℕ) × (number : ℕ) × TryAt (face A.parts B.parts) v node number (Point.Part reading) pass.old.view }
-    ensures table { pass.new.table ≡ pass.old.table }
-    ensures step { QuietStep pass.old.view pass.new.view }
+    ensures step { StaysAt pass.old pass.new (QuietStep pass.old.view pass.new.view) }
     ensures on { (v : SeatView) (node number : ℕ) → TryAt (face A.parts B.parts) v node number (Point.Part reading) pass.old.view → TryAt (face A.parts B.parts) v node number result pass.new.view }
     ensures falls { Falls part_words (Point.Part reading) (Advanced.To result) }
 {
@@ -188,8 +187,7 @@ fn store_or_try<A: Monoid, B: Monoid>(
     filling: Filling,
 ) -> Advanced
     requires begun { (v : SeatView) × TryAt (face A.parts B.parts) v node number (Point.Record filling) pass.old.view }
-    ensures table { pass.new.table ≡ pass.old.table }
-    ensures step { QuietStep pass.old.view pass.new.view }
+    ensures step { StaysAt pass.old pass.new (QuietStep pass.old.view pass.new.view) }
     ensures on { (v : SeatView) → TryAt (face A.parts B.parts) v node number (Point.Record filling) pass.old.view → Advances (face A.parts B.parts) v node number result pass.new.view }
     ensures falls { Falls part_words (Point.Record filling) result }
 {
@@ -215,8 +213,7 @@ pub(crate) fn advance<A: Monoid, B: Monoid>(
 ) -> Advanced
     requires leaves { HasLeaves pass.old.view.shape leaves }
     requires begun { (v : SeatView) × TryAt (face A.parts B.parts) v node number point pass.old.view }
-    ensures table { pass.new.table ≡ pass.old.table }
-    ensures step { QuietStep pass.old.view pass.new.view }
+    ensures step { StaysAt pass.old pass.new (QuietStep pass.old.view pass.new.view) }
     ensures on { (v : SeatView) → TryAt (face A.parts B.parts) v node number point pass.old.view → Advances (face A.parts B.parts) v node number result pass.new.view }
     ensures falls { Falls (part_steps pass.old.view.shape (left_of pass.old.view.shape node)) point result }
 {

@@ -3,6 +3,7 @@ ghost use Rattle.std.specs.Prelude.{◌≡◌, ℕ, ◌+◌, ◌^◌, ◌<◌, [
 ghost use Rattle.aug_core.specs.Faces.{face};
 ghost use Rattle.aug_core.specs.Kinds.{load_leaf, try_leaf};
 ghost use Rattle.aug_core.specs.declared.view.SeatView.{SeatView};
+ghost use Rattle.aug_words.specs.Seats.{StaysAt};
 ghost use Rattle.aug_trie.specs.inside.Points.{OneStep};
 ghost use Rattle.aug_trie.specs.Requests.{word_after as word_of_request};
 ghost use Rattle.aug_trie.specs.inside.Stages.{StageAt, Climbs, StageFalls};
@@ -45,8 +46,7 @@ pub(crate) fn next_stage<A: Monoid, B: Monoid>(
     stage: Stage,
 ) -> Next
     requires at { (left : ℕ) × (u : SeatView) × StageAt (face A.parts B.parts) leaves bits number left key request u stage pass.old.view }
-    ensures table { pass.new.table ≡ pass.old.table }
-    ensures step { OneStep pass.old.view pass.new.view }
+    ensures step { StaysAt pass.old pass.new (OneStep pass.old.view pass.new.view) }
     ensures on { (left : ℕ) (u : SeatView) → StageAt (face A.parts B.parts) leaves bits number left key request u stage pass.old.view → Climbs (face A.parts B.parts) leaves bits number left key request u result pass.new.view }
     ensures falls { StageFalls bits stage result }
     ensures first { stage ≡ Stage.Leaf → (found : ℕ) × (pass.new.view.steps ≡ pass.old.view.steps ++ load_leaf key found ∷ []) }

@@ -3,6 +3,7 @@ ghost use Rattle.std.specs.Prelude.{◌≡◌, ◌+◌, ◌*◌, ◌^◌, ◌<�
 ghost use Rattle.aug_core.specs.Faces.{face};
 ghost use Rattle.aug_core.specs.Counts.{changes_of};
 ghost use Rattle.aug_core.specs.Effects.{MayChange, KnowsTable};
+ghost use Rattle.aug_words.specs.Seats.{StaysAt};
 ghost use Rattle.aug_trie.specs.UpdateBatches.{apart};
 ghost use Rattle.aug_trie.specs.inside.Climbing.{FitsRequest};
 ghost use Rattle.aug_trie.specs.inside.Goes.{HasLeaves, HasRoom};
@@ -38,8 +39,7 @@ fn at_leaf<A: Monoid, B: Monoid>(pass: &mut WordPass<A, B>, key: u32, request: R
     requires key { key < 2 ^ pass.old.view.shape.bits }
     requires knows { KnowsTable (face A.parts B.parts) pass.old.view }
     requires may { MayChange pass.old.view }
-    ensures table { pass.new.table ≡ pass.old.table }
-    ensures left { LeftLeaf (face A.parts B.parts) pass.old.view key request result pass.new.view }
+    ensures { StaysAt pass.old pass.new (LeftLeaf (face A.parts B.parts) pass.old.view key request result pass.new.view) }
 {
     let _amount = amount_in(request);
     let leaf = key as usize;

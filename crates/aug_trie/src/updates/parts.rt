@@ -2,10 +2,9 @@
 ghost use Rattle.std.specs.Prelude.{◌≡◌, ℕ, ◌<◌, ◌^◌, []};
 ghost use Rattle.aug_core.specs.Faces.{face};
 ghost use Rattle.aug_core.specs.Addresses.{place_count, IsInner};
-ghost use Rattle.aug_core.specs.Effects.{KnowsTable};
 ghost use Rattle.aug_core.specs.inside.Refreshes.{HasEntry};
 ghost use Rattle.aug_trie.specs.inside.LeafPairs.{leaf_pairs};
-ghost use Rattle.aug_trie.specs.inside.Goes.{IsPart, IsPartOf, Goes, Took, HasLeaves, part_words, part_steps};
+ghost use Rattle.aug_trie.specs.inside.Goes.{IsPart, IsPartOf, Goes, Took, KnowsLeaves, part_words, part_steps};
 
 use crate::updates::leaf_words::{leaf_serial, leaf_weight};
 use aug_core::RecordField;
@@ -67,8 +66,7 @@ fn node_part<A: Monoid, B: Monoid>(
     node: usize,
     number: u64,
 ) -> Part<A, B>
-    requires leaves { HasLeaves pass.old.view.shape leaves }
-    requires knows { KnowsTable (face A.parts B.parts) pass.old.view }
+    requires over { KnowsLeaves (face A.parts B.parts) pass.old.view leaves }
     requires inner { IsInner pass.old.view.shape node }
     requires named { HasEntry pass.old.view.seen node number }
     ensures table { pass.new.table ≡ pass.old.table }
@@ -90,8 +88,7 @@ pub(crate) fn any_part<A: Monoid, B: Monoid>(
     place: usize,
     word: u64,
 ) -> Part<A, B>
-    requires leaves { HasLeaves pass.old.view.shape leaves }
-    requires knows { KnowsTable (face A.parts B.parts) pass.old.view }
+    requires over { KnowsLeaves (face A.parts B.parts) pass.old.view leaves }
     requires place { place < place_count pass.old.view.shape }
     requires named { HasEntry pass.old.view.seen place word }
     ensures table { pass.new.table ≡ pass.old.table }

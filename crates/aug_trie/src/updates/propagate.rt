@@ -1,9 +1,9 @@
 //! From a leaf to the root.
 ghost use Rattle.std.specs.Prelude.{◌≡◌, ◌+◌, ◌^◌, ◌<◌, ◌≤◌};
 ghost use Rattle.aug_core.specs.Faces.{face};
-ghost use Rattle.aug_core.specs.Addresses.{IsInner};
-ghost use Rattle.aug_core.specs.Effects.{KnowsTable};
-ghost use Rattle.aug_trie.specs.inside.Goes.{HasLeaves, HasRoom};
+ghost use Rattle.aug_words.specs.Seats.{StaysAt};
+ghost use Rattle.aug_trie.specs.inside.Goes.{HasLeaves};
+ghost use Rattle.aug_trie.specs.inside.Points.{MayRefresh};
 ghost use Rattle.aug_trie.specs.inside.Batching.{Raises};
 ghost use Rattle.aug_trie.specs.inside.Stages.{IsCovered, MayRise, HasRisen};
 
@@ -20,12 +20,8 @@ fn refresh_twice<A: Monoid, B: Monoid>(
     node: usize,
     number: u64,
 )
-    requires leaves { HasLeaves pass.old.view.shape leaves }
-    requires inner { IsInner pass.old.view.shape node }
-    requires knows { KnowsTable (face A.parts B.parts) pass.old.view }
-    requires room { HasRoom pass.old.view number 1 }
-    ensures table { pass.new.table ≡ pass.old.table }
-    ensures covered { IsCovered (face A.parts B.parts) pass.old.view pass.new.view node number }
+    requires { MayRefresh (face A.parts B.parts) pass.old.view node leaves number }
+    ensures { StaysAt pass.old pass.new (IsCovered (face A.parts B.parts) pass.old.view pass.new.view node number) }
 {
     if refresh(pass, leaves, node, number) {
         return;

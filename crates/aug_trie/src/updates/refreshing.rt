@@ -4,8 +4,9 @@ ghost use Rattle.aug_core.specs.Faces.{face};
 ghost use Rattle.aug_core.specs.Addresses.{place_count, IsInner};
 ghost use Rattle.aug_core.specs.Effects.{KnowsTable};
 ghost use Rattle.aug_core.specs.inside.Refreshes.{HasNewest, SaysLoaded, Published};
-ghost use Rattle.aug_trie.specs.inside.Goes.{Goes, Took, HasLeaves, HasRoom, IsFree, publish_steps};
-ghost use Rattle.aug_trie.specs.inside.Points.{QuietStep, TryOver};
+ghost use Rattle.aug_words.specs.Seats.{StaysAt};
+ghost use Rattle.aug_trie.specs.inside.Goes.{Goes, Took, HasRoom, IsFree, KnowsLeaves, publish_steps};
+ghost use Rattle.aug_trie.specs.inside.Points.{QuietStep, MayRefresh, TryOver};
 
 use crate::updates::parts::{Part, any_part};
 use aug_core::{RECORD_WORDS, RecordField};
@@ -19,13 +20,11 @@ pub(crate) fn look<A: Monoid, B: Monoid>(
     leaves: usize,
     place: usize,
 ) -> u64
-    requires leaves { HasLeaves pass.old.view.shape leaves }
-    requires knows { KnowsTable (face A.parts B.parts) pass.old.view }
+    requires over { KnowsLeaves (face A.parts B.parts) pass.old.view leaves }
     requires place { place < place_count pass.old.view.shape }
-    ensures table { pass.new.table ≡ pass.old.table }
+    ensures step { StaysAt pass.old pass.new (QuietStep pass.old.view pass.new.view) }
     ensures goes { Goes (face A.parts B.parts) 0 [] pass.old.view pass.new.view }
     ensures took { Took pass.old.view pass.new.view 1 }
-    ensures step { QuietStep pass.old.view pass.new.view }
     ensures newest { HasNewest pass.new.view.seen place result }
 {
     if place < leaves {
@@ -90,12 +89,8 @@ pub(crate) fn refresh<A: Monoid, B: Monoid>(
     node: usize,
     number: u64,
 ) -> bool
-    requires leaves { HasLeaves pass.old.view.shape leaves }
-    requires inner { IsInner pass.old.view.shape node }
-    requires knows { KnowsTable (face A.parts B.parts) pass.old.view }
-    requires room { HasRoom pass.old.view number 1 }
-    ensures table { pass.new.table ≡ pass.old.table }
-    ensures over { TryOver (face A.parts B.parts) pass.old.view node number result pass.new.view }
+    requires { MayRefresh (face A.parts B.parts) pass.old.view node leaves number }
+    ensures { StaysAt pass.old pass.new (TryOver (face A.parts B.parts) pass.old.view node number result pass.new.view) }
 {
     let from = look(pass, leaves, node);
     let child = 2 * (node - leaves);

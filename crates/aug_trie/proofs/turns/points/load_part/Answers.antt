@@ -34,7 +34,7 @@ returns-else-reading-lt-READING_WORDS-clause-on g c = λ v q number t. let m = g
     number (Part r) c.args.pass.now.view c.load_record_word.new.self.view c.over_nodes.result c.over_nodes.ensures.from c.over_nodes.ensures.five c.over_nodes.ensures.count t (goes_all f t is.field is.record l) (took_all f t is.field is.record l six)
 
 pub returns-then-reading-lt-READING_WORDS-clause-step : goal.returns-then-reading-lt-READING_WORDS-clause-step
-returns-then-reading-lt-READING_WORDS-clause-step g c = quiet_stepping _ _ _ c.load_record_word.ensures.view.stepped
+returns-then-reading-lt-READING_WORDS-clause-step g c = record { table = c.load_record_word.ensures.table; view = quiet_stepping _ _ _ c.load_record_word.ensures.view.stepped }
 
 pub returns-else-reading-lt-READING_WORDS-clause-step : goal.returns-else-reading-lt-READING_WORDS-clause-step
-returns-else-reading-lt-READING_WORDS-clause-step g c = quiet_stepping _ _ _ c.load_record_word.ensures.view.stepped
+returns-else-reading-lt-READING_WORDS-clause-step g c = record { table = c.load_record_word.ensures.table; view = quiet_stepping _ _ _ c.load_record_word.ensures.view.stepped }

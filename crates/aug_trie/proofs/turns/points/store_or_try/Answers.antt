@@ -21,4 +21,4 @@ returns-clause-on g c = λ v t. let few = t.is_at.few in let not = c.if-count-eq
     record_on g.A.Monoid.parts g.B.Monoid.parts v c.args.node c.args.number c.args.filling c.args.pass.now.view t c.store_record_word.new.self.view _ _ refl c.field_at.ensures (omega arith) c.store_record_word.ensures.view
 
 pub returns-clause-step : goal.returns-clause-step
-returns-clause-step g c = quiet_storing _ _ _ _ c.store_record_word.ensures.view
+returns-clause-step g c = record { table = c.store_record_word.ensures.table; view = quiet_storing _ _ _ _ c.store_record_word.ensures.view }

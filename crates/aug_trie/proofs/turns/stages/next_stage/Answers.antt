@@ -27,7 +27,7 @@ returns-in-Change-clause-on g c = λ left u t. let f = face g.A.Monoid.parts g.B
 pub returns-in-Change-clause-step : goal.returns-in-Change-clause-step
 returns-in-Change-clause-step g c = let f = face g.A.Monoid.parts g.B.Monoid.parts in
     let tried = subst (λ (z : ℕ). TriedLeaf f c.args.pass.now.view c.args.key c.in-Change.word z c.try_leaf-done.result c.try_leaf-done.new.self.view) c.word_after.ensures c.try_leaf-done.ensures.view in
-    try_step f (stage_is f c.in-Change.is c.requires.at.2) tried
+    record { table = c.try_leaf-done.ensures.table; view = try_step f (stage_is f c.in-Change.is c.requires.at.2) tried }
 
 pub returns-in-Change-clause-second : goal.returns-in-Change-clause-second
 returns-in-Change-clause-second g c = λ word is. let f = face g.A.Monoid.parts g.B.Monoid.parts in let old : SeatView = c.args.pass.now.view in let w : SeatView = c.try_leaf-done.new.self.view in
@@ -43,7 +43,7 @@ try_leaf-done-requires-clause-advance g c = let f = face g.A.Monoid.parts g.B.Mo
 
 pub returns-in-Some-clause-on : goal.returns-in-Some-clause-on
 returns-in-Some-clause-on g c = λ left u t. let f = face g.A.Monoid.parts g.B.Monoid.parts in let up = stage_is f c.in-Up.is t in let leaf : SeatView = up.is_stage.leaf in
-    rising_on f up c.in-Some.ascent c.ascend.ensures.step
+    rising_on f up c.in-Some.ascent c.ascend.ensures.step.view
     (subst (λ (z : Option Ascent). Ascends f c.args.bits c.args.number c.args.key leaf z c.ascend.new.pass.view) c.in-Some.is (c.ascend.ensures.on c.args.key leaf up.is_stage.on_way))
 
 pub returns-in-None-clause-on : goal.returns-in-None-clause-on

@@ -6,8 +6,8 @@ use Rattle.aug_trie.proofs.Leaving.{left_at_once, left_tried}
 use Rattle.aug_trie.proofs.Updating.{advances, serial_few}
 use Rattle.aug_trie.proofs.updates.batch.at_leaf.Goals as goal
 
-pub returns-then-not-goes_on-clause-left : goal.returns-then-not-goes_on-clause-left
-returns-then-not-goes_on-clause-left g c = left_at_once c.args.request c.requires.key c.requires.knows c.begin_at_leaf-word.ensures.view (sym c.goes_on.ensures ∙ c.if-not-goes_on.true) c.at_once.ensures
+pub returns-then-not-goes_on : goal.returns-then-not-goes_on
+returns-then-not-goes_on g c = record { table = c.begin_at_leaf-word.ensures.table; view = left_at_once c.args.request c.requires.key c.requires.knows c.begin_at_leaf-word.ensures.view (sym c.goes_on.ensures ∙ c.if-not-goes_on.true) c.at_once.ensures }
 
 pub word_after-requires-clause-few : goal.word_after-requires-clause-few
 word_after-requires-clause-few g c = serial_few (face g.A.Monoid.parts g.B.Monoid.parts) c.args.pass.now.view c.begin_at_leaf-word.new.self.view c.args.key c.begin_at_leaf-word.result c.requires.key c.requires.knows c.begin_at_leaf-word.ensures.view
@@ -19,7 +19,10 @@ pub try_leaf-done-requires-clause-advance : goal.try_leaf-done-requires-clause-a
 try_leaf-done-requires-clause-advance g c = let w0 : SeatView = c.begin_at_leaf-word.new.self.view in let word = c.begin_at_leaf-word.result in subst (MayAdvance w0 c.args.key word) (sym c.word_after.ensures)
     (advances (face g.A.Monoid.parts g.B.Monoid.parts) c.args.pass.now.view w0 c.args.key word c.args.request c.requires.key c.requires.knows c.begin_at_leaf-word.ensures.view c.amount_in-amount.ensures (sym c.goes_on.ensures ∙ c.if-not-goes_on.false))
 
-pub returns-clause-left : goal.returns-clause-left
-returns-clause-left g c = let lane = c.requires.may.lane in
-    left_tried c.args.request c.requires.key c.requires.knows c.begin_at_leaf-word.ensures.view c.amount_in-amount.ensures (sym c.goes_on.ensures ∙ c.if-not-goes_on.false) c.word_after.ensures lane
-    (ap (λ (z : SeatView). z.held) c.begin_at_leaf-word.ensures.view.stepped ∙ c.requires.may.only) c.try_leaf-done.ensures.view c.outcome_of.ensures
+pub returns : goal.returns
+returns g c = let lane = c.requires.may.lane in
+    record {
+      table = c.try_leaf-done.ensures.table ∙ c.begin_at_leaf-word.ensures.table;
+      view = left_tried c.args.request c.requires.key c.requires.knows c.begin_at_leaf-word.ensures.view c.amount_in-amount.ensures (sym c.goes_on.ensures ∙ c.if-not-goes_on.false) c.word_after.ensures lane
+          (ap (λ (z : SeatView). z.held) c.begin_at_leaf-word.ensures.view.stepped ∙ c.requires.may.only) c.try_leaf-done.ensures.view c.outcome_of.ensures;
+    }

@@ -31,7 +31,7 @@ after-account-requires-clause-removals g c = (may_leave (face g.A.Monoid.parts g
 pub loop-place-preserved : goal.loop-place-preserved
 loop-place-preserved g c = record {
   table = c.at_leaf-done.ensures.table ∙ c.loop-place.invariant.table;
-  left = left_more (face g.A.Monoid.parts g.B.Monoid.parts) c.requires.keys c.requires.pass c.requires.budget c.loop-place-test.true c.loop-place.invariant.left refl c.at_leaf-done.ensures.left c.after-account.ensures;
+  left = left_more (face g.A.Monoid.parts g.B.Monoid.parts) c.requires.keys c.requires.pass c.requires.budget c.loop-place-test.true c.loop-place.invariant.left refl c.at_leaf-done.ensures.view c.after-account.ensures;
 }
 
 pub returns-clause-table : goal.returns-clause-table

@@ -14,27 +14,20 @@ use Rattle.aug_trie.proofs.updates.propagate.propagate.Goals as goal
 pub loop-level-init : goal.loop-level-init
 loop-level-init g c = record { table = refl; node = refl; risen = risen_none (face g.A.Monoid.parts g.B.Monoid.parts) c.args.pass.view.shape.bits c.args.number c.args.leaf c.args.pass.view c.requires.rises; raises = raises_none (face g.A.Monoid.parts g.B.Monoid.parts) c.args.pass.view c.args.leaf }
 
-pub refresh_twice-requires-clause-leaves : goal.refresh_twice-requires-clause-leaves
-refresh_twice-requires-clause-leaves g c = subst (λ (z : Shape). HasLeaves z c.args.leaves) (sym c.loop-level.invariant.risen.goes.shaped) c.requires.leaves
-
-pub refresh_twice-requires-clause-inner : goal.refresh_twice-requires-clause-inner
-refresh_twice-requires-clause-inner g c = let f = face g.A.Monoid.parts g.B.Monoid.parts in let v : SeatView = c.args.pass.view in let u : SeatView = c.loop-level.pass.view in let inv = c.loop-level.invariant in let level : ℕ = c.loop-level.level in let low : level < v.shape.bits = (let test = c.loop-level-test.true in let few = c.requires.levels in omega arith) in let m = c.requires.rises in
-    let is : c.args.leaves + c.loop-level.node / 2 ≡ above v.shape c.args.leaf (suc level) = place_is v.shape c.args.leaf level c.args.leaves c.loop-level.node c.requires.leaves.are inv.node in
-    inner_above f c.args.pass.view.shape.bits c.args.number c.args.leaf v m level u low inv.risen (c.args.leaves + c.loop-level.node / 2) is
-
-pub refresh_twice-requires-clause-knows : goal.refresh_twice-requires-clause-knows
-refresh_twice-requires-clause-knows g c = c.loop-level.invariant.risen.goes.knows_table
-
-pub refresh_twice-requires-clause-room : goal.refresh_twice-requires-clause-room
-refresh_twice-requires-clause-room g c = let f = face g.A.Monoid.parts g.B.Monoid.parts in let v : SeatView = c.args.pass.view in let u : SeatView = c.loop-level.pass.view in let inv = c.loop-level.invariant in let level : ℕ = c.loop-level.level in let low : level < v.shape.bits = (let test = c.loop-level-test.true in let few = c.requires.levels in omega arith) in let m = c.requires.rises in
-    let is : c.args.leaves + c.loop-level.node / 2 ≡ above v.shape c.args.leaf (suc level) = place_is v.shape c.args.leaf level c.args.leaves c.loop-level.node c.requires.leaves.are inv.node in
-    subst (λ (z : ℕ). HasRoom u (c.args.number + z) 1) (sym c.from.ensures) (room_above f c.args.pass.view.shape.bits c.args.number c.args.leaf v m level u low inv.risen)
+pub refresh_twice-requires : goal.refresh_twice-requires
+refresh_twice-requires g c = let f = face g.A.Monoid.parts g.B.Monoid.parts in let v : SeatView = c.args.pass.view in let u : SeatView = c.loop-level.pass.view in let inv = c.loop-level.invariant in let level : ℕ = c.loop-level.level in let low : level < v.shape.bits = (let test = c.loop-level-test.true in let few = c.requires.levels in omega arith) in let m = c.requires.rises in
+    let is : c.args.leaves + c.loop-level.node / 2 ≡ above v.shape c.args.leaf (suc level) = place_is v.shape c.args.leaf level c.args.leaves c.loop-level.node c.requires.leaves.are inv.node in record {
+      leaves = subst (λ (z : Shape). HasLeaves z c.args.leaves) (sym c.loop-level.invariant.risen.goes.shaped) c.requires.leaves;
+      inner = inner_above f c.args.pass.view.shape.bits c.args.number c.args.leaf v m level u low inv.risen (c.args.leaves + c.loop-level.node / 2) is;
+      knows = c.loop-level.invariant.risen.goes.knows_table;
+      room = subst (λ (z : ℕ). HasRoom u (c.args.number + z) 1) (sym c.from.ensures) (room_above f c.args.pass.view.shape.bits c.args.number c.args.leaf v m level u low inv.risen);
+    }
 
 pub loop-level-preserved : goal.loop-level-preserved
 loop-level-preserved g c = let f = face g.A.Monoid.parts g.B.Monoid.parts in let v : SeatView = c.args.pass.view in let u : SeatView = c.loop-level.pass.view in let inv = c.loop-level.invariant in let level : ℕ = c.loop-level.level in let low : level < v.shape.bits = (let test = c.loop-level-test.true in let few = c.requires.levels in omega arith) in let m = c.requires.rises in
     let is : c.args.leaves + c.loop-level.node / 2 ≡ above v.shape c.args.leaf (suc level) = place_is v.shape c.args.leaf level c.args.leaves c.loop-level.node c.requires.leaves.are inv.node in
     let w : SeatView = c.refresh_twice.new.pass.view in let node = c.args.leaves + c.loop-level.node / 2 in
-    let covered : IsCovered f u w node (c.args.number + level) = subst (λ (z : ℕ). IsCovered f u w node (c.args.number + z)) c.from.ensures c.refresh_twice.ensures.covered in record {
+    let covered : IsCovered f u w node (c.args.number + level) = subst (λ (z : ℕ). IsCovered f u w node (c.args.number + z)) c.from.ensures c.refresh_twice.ensures.view in record {
       table = c.refresh_twice.ensures.table ∙ inv.table;
       node = is ∙ ap (above v.shape c.args.leaf) (sym (add-one level));
       risen = risen_on f c.args.pass.view.shape.bits c.args.number c.args.leaf v m level u low inv.risen node w is covered;

@@ -27,10 +27,12 @@ publish-requires-clause-loaded g c = let n = c.look-from.ensures in let l = c.lo
     (try_loaded g.A.Monoid.parts g.B.Monoid.parts (laws_of g.met.A.Monoid) (laws_of g.met.B.Monoid) c.requires.leaves c.requires.inner c.requires.room
     n.goes n.took n.newest l.goes l.took l.newest r.goes r.took r.newest pl.goes pl.took pl.part pr.goes pr.took pr.part).loaded c.five_words.result c.five_words.ensures
 
-pub returns-clause-over : goal.returns-clause-over
-returns-clause-over g c = let p = c.publish.ensures in let n = c.look-from.ensures in let l = c.look-left.ensures in let r = c.look-right.ensures in let pl = c.any_part-l.ensures in let pr = c.any_part-r.ensures in
-    (try_loaded g.A.Monoid.parts g.B.Monoid.parts (laws_of g.met.A.Monoid) (laws_of g.met.B.Monoid) c.requires.leaves c.requires.inner c.requires.room
-    n.goes n.took n.newest l.goes l.took l.newest r.goes r.took r.newest pl.goes pl.took pl.part pr.goes pr.took pr.part).over c.publish.new.pass.view c.publish.result c.five_words.result c.five_words.ensures p.goes p.took p.published p.again
+pub returns : goal.returns
+returns g c = let p = c.publish.ensures in let n = c.look-from.ensures in let l = c.look-left.ensures in let r = c.look-right.ensures in let pl = c.any_part-l.ensures in let pr = c.any_part-r.ensures in record {
+  table = c.publish.ensures.table ∙ pr.table ∙ pl.table ∙ r.step.table ∙ l.step.table ∙ n.step.table;
+  view = (try_loaded g.A.Monoid.parts g.B.Monoid.parts (laws_of g.met.A.Monoid) (laws_of g.met.B.Monoid) c.requires.leaves c.requires.inner c.requires.room
+      n.goes n.took n.newest l.goes l.took l.newest r.goes r.took r.newest pl.goes pl.took pl.part pr.goes pr.took pr.part).over c.publish.new.pass.view c.publish.result c.five_words.result c.five_words.ensures p.goes p.took p.published p.again;
+}
 
 pub look-left-requires-clause-place : goal.look-left-requires-clause-place
 look-left-requires-clause-place g c = (child_places c.requires.leaves c.requires.inner refl c.look-from.ensures.goes.shaped).0

@@ -14,9 +14,9 @@ survey-requires g c = record { together = of_round c.round.inside.words c.in-Som
 
 pub invariant_of-self : goal.invariant_of-self
 invariant_of-self g c = let i = c.self.inside in let told = crew_told c.self.invariant c.in-Some.is c.self.view_is in
-    record { known = c.survey.new.self; there = refl; holds = last_crew (face g.A.Monoid.parts g.B.Monoid.parts) c.in-Some.lead c.args.self.now i.back i.inserts i.removals c.survey.result c.survey.new.self.view told.1 told.0 c.survey.ensures.surveys.loaded; opens = λ is. same_opens c.in-Some.lead c.survey.new.self c.survey.ensures.table (ap places_of c.survey.ensures.surveys.loaded.stepped) (told.2 is) }
+    record { known = c.survey.new.self; there = refl; holds = last_crew (face g.A.Monoid.parts g.B.Monoid.parts) c.in-Some.lead c.args.self.now i.back i.inserts i.removals c.survey.result c.survey.new.self.view told.1 told.0 c.survey.ensures.view.loaded; opens = λ is. same_opens c.in-Some.lead c.survey.new.self c.survey.ensures.table (ap places_of c.survey.ensures.view.loaded.stepped) (told.2 is) }
 
 pub returns : goal.returns
 returns g c = let i = c.self.inside in let told = crew_told c.self.invariant c.in-Some.is c.self.view_is in let last : SeatView = c.survey.new.self.view in
     subst (λ (z : TableId). CrewLooks c.args.self.now (crew_facts (record { table = z; view = last }) i.free)) (sym c.survey.ensures.table)
-    (last_looks (face g.A.Monoid.parts g.B.Monoid.parts) c.in-Some.lead c.args.self.now i.back i.inserts i.removals c.survey.result last told.1 told.0 c.survey.ensures.surveys.loaded)
+    (last_looks (face g.A.Monoid.parts g.B.Monoid.parts) c.in-Some.lead c.args.self.now i.back i.inserts i.removals c.survey.result last told.1 told.0 c.survey.ensures.view.loaded)

@@ -9,7 +9,7 @@ pub invariant_of-result : goal.invariant_of-result
 invariant_of-result g c = let lead = c.in-Some.lead in let told = crew_told c.self.invariant c.in-Some.is c.self.view_is in let s = c.split-words.ensures in let first = c.first_record.ensures in
     let out = pass_out (face g.A.Monoid.parts g.B.Monoid.parts) c.round.inside.words lead c.split-words.new.self c.split-words.result c.round.inside.layout c.args.self.now c.args.round.now c.handed-lane.result c.workers.result c.bits.result told.1 c.requires.together c.round.view_is c.round.invariant
     told.0 c.handed-lane.ensures.value c.workers.ensures c.if-lane-workers.false s.hands_out s.table s.pass_table c.bits.ensures c.bits-2.ensures first.value first.within c.updates.ensures in
-    (record { known = c.split-words.result; there = refl; is_pass = out.is_pass }, out.counts)
+    record { pass = record { known = c.split-words.result; there = refl; is_pass = out.is_pass }; counts = out.counts }
 
 pub invariant_of-self : goal.invariant_of-self
 invariant_of-self g c = let told = crew_told c.self.invariant c.in-Some.is c.self.view_is in record { known = c.in-Some.lead; there = refl; holds = told.0; opens = told.2 }

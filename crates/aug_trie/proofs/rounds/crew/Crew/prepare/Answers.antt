@@ -15,7 +15,7 @@ prepare-requires g c = let told = crew_told c.self.invariant c.in-Some.is c.self
     record { together = of_round c.round.inside.words c.in-Some.lead c.args.self.now c.args.round.now told.1 c.requires.together c.round.view_is; room = subst (λ (z : CrewFacts). 2 ^ z.round.bits ≤ z.round.room) (sym told.1) c.requires.room }
 
 pub invariant_of-self : goal.invariant_of-self
-invariant_of-self g c = let f = face g.A.Monoid.parts g.B.Monoid.parts in let i = c.self.inside in let told = crew_told c.self.invariant c.in-Some.is c.self.view_is in let p = c.prepare.ensures.prepares in
+invariant_of-self g c = let f = face g.A.Monoid.parts g.B.Monoid.parts in let i = c.self.inside in let told = crew_told c.self.invariant c.in-Some.is c.self.view_is in let p = c.prepare.ensures.view in
     record {
       known = c.prepare.new.self;
       there = refl;
@@ -25,7 +25,7 @@ invariant_of-self g c = let f = face g.A.Monoid.parts g.B.Monoid.parts in let i 
     }
 
 pub returns : goal.returns
-returns g c = let f = face g.A.Monoid.parts g.B.Monoid.parts in let i = c.self.inside in let told = crew_told c.self.invariant c.in-Some.is c.self.view_is in let p = c.prepare.ensures.prepares in let last : SeatView = c.prepare.new.self.view in
+returns g c = let f = face g.A.Monoid.parts g.B.Monoid.parts in let i = c.self.inside in let told = crew_told c.self.invariant c.in-Some.is c.self.view_is in let p = c.prepare.ensures.view in let last : SeatView = c.prepare.new.self.view in
     let between : Known = record { table = c.in-Some.lead.table; view = p.between } in
     subst (λ (z : TableId). CrewPrepares c.args.self.now (crew_facts (record { table = z; view = last }) i.free)) (sym c.prepare.ensures.table)
     (prepares c.args.self.now (crew_facts between i.free) (crew_facts (record { table = c.in-Some.lead.table; view = last }) i.free) (last_looks f c.in-Some.lead c.args.self.now i.back i.inserts i.removals p.found p.between told.1 told.0 p.loaded)

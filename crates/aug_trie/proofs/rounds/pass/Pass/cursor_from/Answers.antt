@@ -1,13 +1,11 @@
 use Rattle.std.proofs.Common.{ℕ, ◌+◌, ◌^◌, min, Option, sym, ap, ◌∙◌, subst, arith, Some}
 use Rattle.aug_model.specs.Folds.{summary_of}
 use Rattle.aug_model.specs.Keys.{SetFacts}
-use Rattle.aug_core.specs.Counts.{changes_of}
 use Rattle.aug_core.specs.Faces.{face}
 use Rattle.aug_words.specs.Seats.{Known}
 use Rattle.aug_trie.specs.Node.{Reads}
-use Rattle.aug_trie.specs.inside.Counted.{HasCounts}
 use Rattle.aug_trie.specs.inside.Cursors.{IsCursorOf}
-use Rattle.aug_trie.specs.inside.PassState.{pass_facts, HoldsPass}
+use Rattle.aug_trie.specs.inside.PassState.{pass_facts, KeepsPass}
 use Rattle.aug_trie.specs.inside.SnapshotWalk.{HasWalk}
 use Rattle.aug_trie.proofs.Asking.{may_walk, same_set, still_pass, reads_of}
 use Rattle.aug_trie.proofs.Cursors.{walked_out}
@@ -16,13 +14,13 @@ use Rattle.aug_trie.proofs.rounds.pass.Pass.cursor_from.Goals as goal
 pub of_pass-walk-requires : goal.of_pass-walk-requires
 of_pass-walk-requires g c = let i = c.self.inside in
     subst (λ (z : Option Known). HasWalk (face g.A.Monoid.parts g.B.Monoid.parts) z c.args.s i.account.bits) (sym c.take.ensures.value)
-    (may_walk g.A.Monoid.parts g.B.Monoid.parts i.words i.account.leaves i.account.bits i.account.next i.account.left c.args.self.now c.args.s c.self.invariant.0 c.self.view_is c.requires)
+    (may_walk g.A.Monoid.parts g.B.Monoid.parts i.words i.account.leaves i.account.bits i.account.next i.account.left c.args.self.now c.args.s c.self.invariant.pass c.self.view_is c.requires)
 
 pub invariant_of-self : goal.invariant_of-self
 invariant_of-self g c = let i = c.self.inside in let w = c.of_pass-walk.result in let bits : ℕ = w.words.view.shape.bits in
-    subst (λ (z : Known). HoldsPass (face g.A.Monoid.parts g.B.Monoid.parts) (Some z) i.account.leaves i.account.bits i.account.next i.account.left × HasCounts (changes_of z.view.held) i.account.inserts i.account.removals) (sym c.into_words.ensures)
-    (still_pass g.A.Monoid.parts g.B.Monoid.parts i.words w c.from-cursor.new.tree i.account.leaves i.account.bits i.account.next i.account.left i.account.inserts i.account.removals (bits + 1) 1 0 0 c.self.invariant.0 c.self.invariant.1
-    (sym c.take.ensures.value ∙ c.of_pass-walk.ensures.words) c.from-cursor.ensures.descends)
+    let still = still_pass g.A.Monoid.parts g.B.Monoid.parts i.words w c.from-cursor.new.tree i.account.leaves i.account.bits i.account.next i.account.left i.account.inserts i.account.removals (bits + 1) 1 0 0 c.self.invariant.pass c.self.invariant.counts
+    (sym c.take.ensures.value ∙ c.of_pass-walk.ensures.words) c.from-cursor.ensures.descends in
+    subst (λ (z : Known). KeepsPass (face g.A.Monoid.parts g.B.Monoid.parts) (Some z) i.account) (sym c.into_words.ensures) record { pass = still.0; counts = still.1 }
 
 pub returns-clause-of_pass : goal.returns-clause-of_pass
 returns-clause-of_pass g c = let i = c.self.inside in let w = c.of_pass-walk.result in let bits : ℕ = w.words.view.shape.bits in

@@ -4,7 +4,6 @@ use Rattle.std.proofs.Common.{◌∷◌}
 use Rattle.aug_trie.proofs.rounds.pass.Pass.lend.Goals as goal
 
 pub invariant_of-self : goal.invariant_of-self
-invariant_of-self g c = let i = c.self.inside in let a = i.account in let k = c.in-Some.words in let w = c.lend.new.self in
-    lent_holds (face g.A.Monoid.parts g.B.Monoid.parts) i.words k w a.leaves a.bits a.next a.left a.inserts a.removals c.args.self.now c.self.invariant.0
-    c.self.invariant.1 c.in-Some.is c.self.view_is
+invariant_of-self g c = let i = c.self.inside in let k = c.in-Some.words in let w = c.lend.new.self in
+    lent_holds (face g.A.Monoid.parts g.B.Monoid.parts) i.words k w i.account c.args.self.now c.self.invariant c.in-Some.is c.self.view_is
     (lent_alone k.view w.view (k.view.base ∷ k.view.lent) c.lend.ensures.lends)

@@ -7,9 +7,9 @@ use Rattle.aug_trie.proofs.rounds.pass.Pass.take_reader.Goals.{in-Ok, in-Err}
 use Rattle.aug_trie.proofs.rounds.pass.Pass.take_reader.Goals as goal
 
 pub invariant_of-self : goal.invariant_of-self
-invariant_of-self g c = let i = c.self.inside in let a = i.account in let k : Known = c.in-Some-words.words in let w : Known = c.take.new.self in
+invariant_of-self g c = let i = c.self.inside in let k : Known = c.in-Some-words.words in let w : Known = c.take.new.self in
     let lent : w.view ≡ record k.view { lent = w.view.lent } = elim c.match-take.branch [
       | in-Ok t ↦ lent_alone k.view w.view _ (IfOk-at_ok _ t.in-Ok.is c.take.ensures.taken)
       | in-Err t ↦ lent_alone k.view w.view k.view.lent (ap (λ (z : Known). z.view) (IfErr-at_err _ t.in-Err.is c.take.ensures.same).1)
     ] in
-    lent_holds (face g.A.Monoid.parts g.B.Monoid.parts) i.words k w a.leaves a.bits a.next a.left a.inserts a.removals c.args.self.now c.self.invariant.0 c.self.invariant.1 c.in-Some-words.is c.self.view_is lent
+    lent_holds (face g.A.Monoid.parts g.B.Monoid.parts) i.words k w i.account c.args.self.now c.self.invariant c.in-Some-words.is c.self.view_is lent

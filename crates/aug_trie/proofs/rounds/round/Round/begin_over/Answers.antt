@@ -11,13 +11,13 @@ pub over-requires-clause-keys : goal.over-requires-clause-keys
 over-requires-clause-keys g c = let list : List (ℕ × ℕ) = c.args.members.pairs in
     let laid : IsLayout (shape_of c.args.bits c.args.workers c.args.updates c.size.result) = search rules in
     let wide : c.args.members.bits ≤ c.args.bits = not_fewer c.bits.ensures c.if-contains.ensures.cases laid.bits.0 in
-    let set : IsKeySet c.args.members.bits (keys_of list) = subst (λ (z : SetFacts). IsKeySet z.bits (keys_of z.pairs)) c.members.view_is c.members.invariant.1 in
+    let set : IsKeySet c.args.members.bits (keys_of list) = subst (λ (z : SetFacts). IsKeySet z.bits (keys_of z.pairs)) c.members.view_is c.members.invariant.is_key_set in
     let wider : IsKeySet c.args.bits (keys_of list) = is_wider c.args.members.bits c.args.bits (keys_of list) wide set in
     subst (λ (z : Shape × List (ℕ × ℕ)). IsKeySet z.0.bits (keys_of z.1)) (λ j. (sym c.in-Ok.ensures.layout j, sym c.as_slice.ensures j)) wider
 
 pub returns-then-contains : goal.returns-then-contains
 returns-then-contains g c = let m = c.args.members in
-    let says = says_narrower m m.bits c.args.bits c.args.workers c.args.updates (length m.pairs) (subst (λ (z : SetFacts). z.bits ≤ 16) c.members.view_is c.members.invariant.0.1) (are_fewer c.bits.ensures c.if-contains.ensures.cases) in
+    let says = says_narrower m m.bits c.args.bits c.args.workers c.args.updates (length m.pairs) (subst (λ (z : SetFacts). z.bits ≤ 16) c.members.view_is c.members.invariant.few_bits) (are_fewer c.bits.ensures c.if-contains.ensures.cases) in
     record { begun = tt; same = refl; bad_bits = says.bad_bits; narrower = says.narrower; bad_workers = says.bad_workers; bad_updates = says.bad_updates; too_large = says.too_large }
 
 pub returns-in-Err : goal.returns-in-Err

@@ -1,9 +1,7 @@
-use Rattle.std.proofs.Common.{false, ◌≡◌, ℕ, ◌+◌, ◌∙◌, List, ◌∷◌, [], All, refl, sym, ap, subst}
-use Rattle.aug_monoid.specs.Weighted.{FitsPair}
-use Rattle.aug_model.specs.Keys.{IsKeySet, keys_of}
+use Rattle.std.proofs.Common.{false, ◌≡◌, ℕ, ◌+◌, ◌∙◌, List, ◌∷◌, [], refl, sym, ap, subst}
 use Rattle.aug_core.specs.Cuts.{opening_cut}
-use Rattle.aug_core.specs.Layout.{IsWithin}
 use Rattle.aug_core.specs.Places.{Shape}
+use Rattle.aug_query.specs.Tree.{IsTreeSet}
 use Rattle.aug_trie.specs.Chains.{chapters}
 use Rattle.aug_trie.specs.Crew.{CrewFacts, crew_chain}
 use Rattle.aug_trie.specs.Round.{TableFacts, RoundFacts}
@@ -37,4 +35,4 @@ pub invariant_of-result : goal.invariant_of-result
 invariant_of-result g c =
     let tree = c.list.ensures.is_set in
     let bits : c.over-inserts.new.self.round.bits ≡ c.bits-bits.result = ap (λ (z : CrewFacts). z.round.bits) c.over-inserts.ensures.last_is ∙ ap (λ (z : TableFacts). z.bits) (c.requires.together ∙ sym c.self.view_is) ∙ ap (λ (z : Shape). z.bits) (sym c.self.invariant) ∙ sym c.bits-bits.ensures in
-    subst (λ (z : ℕ × List (ℕ × ℕ)). IsWithin 1 16 z.0 × IsKeySet z.0 (keys_of z.1) × All FitsPair z.1) (λ j. (bits j, sym c.list.ensures.set j)) ((tree.some_bits, tree.few_bits), tree.is_key_set, tree.fit)
+    subst (λ (z : ℕ × List (ℕ × ℕ)). IsTreeSet (record { bits = z.0; pairs = z.1 })) (λ j. (bits j, sym c.list.ensures.set j)) tree

@@ -94,7 +94,7 @@ below_behind set at k n up within is =
 
 -- the members of a look's snapshot rise
 pub rises_in : (look : LookFacts) → IsStrictlyIncreasing (list_of (set_of_look look))
-rises_in look = members_rise (snapshot_cut look.reader look.snapshot.number)
+rises_in look = members_rise (snapshot_cut look.reader look.snapshot)
 
 -- what was written of some values, after so many of them were listed: no more than there is room for
 pub record Wrote {X : Type 0} (xs before now : List X) (listed : ℕ) : Type 0 where

@@ -52,14 +52,14 @@ shown_in table old new era held a b s together = let i = s.shown in record {
 }
 
 -- what a pass did for it: a snapshot with a reader, or none
-module _ (old left : Option PassFacts) (era : ℕ) (held : Snapshot) (a b : PassFacts) (takes : TakesSnapshot a.knows b.knows (snapshot_cut b held.number)) (goes : GoesOn 0 1 a b) (of : IsReaderOf a.round.table left) where
+module _ (old left : Option PassFacts) (era : ℕ) (held : Snapshot) (a b : PassFacts) (takes : TakesSnapshot a.knows b.knows (snapshot_cut b held)) (goes : GoesOn 0 1 a b) (of : IsReaderOf a.round.table left) where
   same_round : b.round ≡ a.round
   same_round = ap (λ (z : PassFacts). z.round) goes.same
 
   left_still : IsReaderOf b.round.table left
   left_still = subst (λ (z : RoundFacts). IsReaderOf z.table left) (sym same_round) of
 
-  pub shows_some : (c mine : PassFacts) → c ≡ b → HasSnapshot b held.number → Lends b mine → era ≡ a.round.era + 1 → IfSome old (λ r. TakesUp r b) → ShowsOrNot old (Some mine) left era (Some held) a c
+  pub shows_some : (c mine : PassFacts) → c ≡ b → HasSnapshot b held → Lends b mine → era ≡ a.round.era + 1 → IfSome old (λ r. TakesUp r b) → ShowsOrNot old (Some mine) left era (Some held) a c
   shows_some c mine same known lends dated up = subst (ShowsOrNot old (Some mine) left era (Some held) a) (sym same) (
     (takes, 1, goes),
     record { mine = mine; there = refl; lends = lends; known = known; dated = dated ∙ ap (λ (z : RoundFacts). z.era + 1) (sym same_round); takes_up = up },
@@ -143,7 +143,7 @@ pub shows_lane : (old new : Option PassFacts) (era : ℕ) (held : Snapshot) (a b
 shows_lane old new era held a b s = ap (λ (z : WhoFacts). z.lane) s.makes.who ∙ s.makes.follows.same_handle.lane
 
 -- a look whose reader was asked
-pub look_on : (slot : Option TableFacts) (table : TableFacts) (reader : Option PassFacts) (held before : Snapshot) (era : ℕ) (mine next : PassFacts) → HoldsLook slot table reader held before era → reader ≡ Some mine → next.round ≡ mine.round → ((s : Snapshot) → HasSnapshot mine s.number → HasSnapshot next s.number)
+pub look_on : (slot : Option TableFacts) (table : TableFacts) (reader : Option PassFacts) (held before : Snapshot) (era : ℕ) (mine next : PassFacts) → HoldsLook slot table reader held before era → reader ≡ Some mine → next.round ≡ mine.round → ((s : Snapshot) → HasSnapshot mine s → HasSnapshot next s)
     → HoldsLook slot table (Some next) held before era
 look_on slot table reader held before era mine next h there round keeps = let is : h.shown.mine ≡ mine = ap half_in (sym h.shown.there ∙ there) in record {
   slot_is = h.slot_is;
@@ -151,10 +151,10 @@ look_on slot table reader held before era mine next h there round keeps = let is
     mine = next;
     there = refl;
     together = ap table_of round ∙ ap (λ (z : PassFacts). table_of z.round) (sym is) ∙ h.shown.together;
-    shows = keeps held (subst (λ (z : PassFacts). HasSnapshot z held.number) is h.shown.shows);
+    shows = keeps held (subst (λ (z : PassFacts). HasSnapshot z held) is h.shown.shows);
     dated = h.shown.dated ∙ ap (λ (z : PassFacts). z.round.era + 1) is ∙ ap (λ (z : RoundFacts). z.era + 1) (sym round);
   };
-  showed = keeps before (subst (λ (z : PassFacts). HasSnapshot z before.number) is h.showed);
+  showed = keeps before (subst (λ (z : PassFacts). HasSnapshot z before) is h.showed);
 }
 
 -- a look that took a newer snapshot with its handle, of its round or of another one
@@ -190,7 +190,7 @@ module _ (slot : Option TableFacts) (table : TableFacts) (reader new : Option Pa
     of_round : mine.round.era ≡ b.half.round.era
     of_round = let dated = s.shown.dated in let was_dated = h.shown.dated in omega (arith, dated, was_dated, same)
 
-    kept : HasSnapshot b.half held.number × (set_at b.half held ≡ set_at mine held)
+    kept : HasSnapshot b.half held × (set_at b.half held ≡ set_at mine held)
     kept = up of_round held h.shown.shows
 
     pub holds_same_round : HoldsLook slot table new held' held era

@@ -143,8 +143,8 @@ set_before look = set_at look.reader look.before
 
 -- a handle takes a snapshot for a look: it is one of its pass's, which lends the reader
 pub record ShowsTo (old new : HandleFacts) (look : LookFacts) : Type 0 where
-  pub makes : Makes 0 (λ a b. TakesSnapshot a.knows b.knows (snapshot_cut b look.snapshot.number)) old new
-  pub known : HasSnapshot new.half look.snapshot.number
+  pub makes : Makes 0 (λ a b. TakesSnapshot a.knows b.knows (snapshot_cut b look.snapshot)) old new
+  pub known : HasSnapshot new.half look.snapshot
   pub lends : Lends new.half look.reader
   pub of_lane : look.lane ≡ new.who.lane
 

@@ -297,8 +297,8 @@ fn snapshot_behind<A: Monoid, B: Monoid>(
     reader: Option<Reader<A, B>>,
 ) -> (Snapshot, Option<Reader<A, B>>)
     requires table { IfSome reader (λ r. r.round.table ≡ pass.old.round.table) }
-    ensures takes { TakesSnapshot pass.old.knows pass.new.knows (snapshot_cut pass.new result.0.number) }
-    ensures known { HasSnapshot pass.new result.0.number }
+    ensures takes { TakesSnapshot pass.old.knows pass.new.knows (snapshot_cut pass.new result.0) }
+    ensures known { HasSnapshot pass.new result.0 }
     ensures goes_on { GoesOn 0 1 pass.old pass.new }
     ensures takes_up { IfSome reader (λ r. TakesUp r pass.new) }
     ensures same { IfSome result.1 (λ r. reader ≡ Some r) }

@@ -13,7 +13,7 @@ use Rattle.aug_report.specs.AllowedReport.{AnswersUpdate, AnswersPut, reply_to_p
 use Rattle.aug_run.specs.inside.Workers.{lane_at}
 use Rattle.aug_script.specs.declared.reply.Reply.{Reply}
 
-module _ {A B : Type 0} (summary_of : List (ℕ × ℕ) → Summary A B) (old new : PassFacts) (s : Snapshot) (has : HasSnapshot old s.number) where
+module _ {A B : Type 0} (summary_of : List (ℕ × ℕ) → Summary A B) (old new : PassFacts) (s : Snapshot) (has : HasSnapshot old s) where
   pub accepted : (parity key weight : ℕ) (good bad : Reply) → Keeps summary_of old new → AcceptedUpdate parity key weight old.knows new.knows → AnswersUpdate parity key weight good bad good (lane_at old s) (lane_at new s)
   accepted parity key weight good bad keeps update = record { outcome = inl (refl, update); holds_still = keeps.same_cuts s has }
 

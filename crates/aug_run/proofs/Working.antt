@@ -22,7 +22,7 @@ no_row = record { row = 0; lane = 0; verb = verb.Insert 0 }
 -- a worker ran its lane's rows among the first i, and there is room for the replies to all
 pub record Worked (round : RoundFacts) (lane : ℕ) (rows : List Row) (start : Lane) (i : ℕ) (pass : PassFacts) (held : Snapshot) (replies : List Reply) (len capacity : ℕ) : Type 0 where
   pub here : pass.round ≡ round
-  pub has : HasSnapshot pass held.number
+  pub has : HasSnapshot pass held
   pub answered : AnswersRows (rows_of lane (take i rows)) replies start (lane_at pass held)
   pub spent : pass.spent ≡ updates_of lane (take i rows)
   pub long : len ≡ length (rows_of lane (take i rows))
@@ -38,7 +38,7 @@ abbrev one_if : Bool → ℕ
 one_if b = cond b 1 0
 
 module _ (round : RoundFacts) (lane : ℕ) (rows : List Row) where
-  pub worked_none : (pass : PassFacts) (held : Snapshot) (replies : List Reply) (len capacity : ℕ) → pass.round ≡ round → HasSnapshot pass held.number → replies ≡ [] → pass.spent ≡ 0 → len ≡ 0
+  pub worked_none : (pass : PassFacts) (held : Snapshot) (replies : List Reply) (len capacity : ℕ) → pass.round ≡ round → HasSnapshot pass held → replies ≡ [] → pass.spent ≡ 0 → len ≡ 0
       → length (rows_of lane rows) ≤ capacity → Worked round lane rows (lane_at pass held) 0 pass held replies len capacity
   worked_none pass held replies len capacity here has empty unspent none room =
       record { here = here; has = has; answered = rw empty (answers_none (lane_at pass held)); spent = unspent; long = none; room = room }
@@ -60,7 +60,7 @@ module _ (round : RoundFacts) (lane : ℕ) (rows : List Row) where
 
       -- and then it ran one row more
       pub worked_more : (pass' : PassFacts) (held' : Snapshot) (reply : Reply) (replies' : List Reply) (len' capacity' : ℕ)
-          → Answers (get_or rows i no_row).verb reply (lane_at pass held) (lane_at pass' held') → HasSnapshot pass' held'.number → pass'.round ≡ pass.round
+          → Answers (get_or rows i no_row).verb reply (lane_at pass held) (lane_at pass' held') → HasSnapshot pass' held' → pass'.round ≡ pass.round
           → pass'.spent ≡ pass.spent + (if is_update (get_or rows i no_row).verb then 1 else 0)
           → replies' ≡ replies ++ reply ∷ [] → len' ≡ len + 1 → capacity ≤ capacity' → Worked round lane rows start (i + 1) pass' held' replies' len' capacity'
       worked_more pass' held' reply replies' len' capacity' answers has same more is one wide =

@@ -37,7 +37,7 @@ use Rattle.aug_trie.specs.inside.PassState.{pass_facts, known_in, HoldsPass}
 use Rattle.aug_trie.specs.declared.queries.snapshot.Snapshot.{Snapshot}
 use Rattle.aug_trie.proofs.LeafWords.{pairs_of_serial}
 use Rattle.aug_trie.proofs.Passing.{pass_told}
-use Rattle.aug_trie.proofs.Snapshots.{named_there, cut_is}
+use Rattle.aug_trie.proofs.Snapshots.{entry_shown, cut_is}
 use Rattle.aug_trie.proofs.Trees.{inner_root, named_set, reads_by, still_by}
 use Rattle.aug_trie.proofs.Walking.{node_seen, left_node, right_node, top_node}
 
@@ -159,27 +159,27 @@ same_both words walk earlier later left now there one other facts =
 
 module _ {A B : Type 0} (parts_a : Parts A) (parts_b : Parts B) where
   -- the top of a snapshot's tree
-  top_under : (k : Known) (left : ℕ) (s : Snapshot) → KnowsTable (face parts_a parts_b) k.view → HasSnapshot (pass_facts k left) s.number → IsNamedUnder (face parts_a parts_b) k.view s k.view.shape.bits 0 s.number
+  top_under : (k : Known) (left : ℕ) (s : Snapshot) → KnowsTable (face parts_a parts_b) k.view → HasSnapshot (pass_facts k left) s → IsNamedUnder (face parts_a parts_b) k.view s k.view.shape.bits 0 s.number
   unfolding index_under
   top_under k left s kn has =
-      let f = face parts_a parts_b in let v : SeatView = k.view in let top = top_of v s in let t = named_there v.shape v.seen s.number has in
+      let f = face parts_a parts_b in let v : SeatView = k.view in let top = top_of v s in
       let none : 0 ≡ v.shape.bits - v.shape.bits = omega arith in record {
         knows_table = kn;
-        is_tree_set = named_set f v s.number kn;
-        cut_is = cut_is v.shape v.seen s.number has;
+        is_tree_set = named_set f v s kn;
+        cut_is = cut_is v.shape v.seen s has;
         node = record {
-          node = top_node parts_a parts_b v kn.book (root_cut v.shape v.seen top) s.number (inner_root parts_a parts_b v kn) record { index = top; entry = t.0; at = t.1; numbered = sym t.2; cut_is = refl };
+          node = top_node parts_a parts_b v kn.book (root_cut v.shape v.seen top) s.number (inner_root parts_a parts_b v kn) (entry_shown v.shape v.seen s has) refl;
           under = ap (λ (z : ℕ). index_under v.shape v.seen top z 0) none;
         };
       }
 
   -- who knows a table may compare two of its snapshots
-  pub walks_both : (k : Known) (bits left : ℕ) (now : PassFacts) (earlier later : Snapshot) → KnowsTable (face parts_a parts_b) k.view → bits ≡ k.view.shape.bits → pass_facts k left ≡ now → HasSnapshot now earlier.number → HasSnapshot now later.number
+  pub walks_both : (k : Known) (bits left : ℕ) (now : PassFacts) (earlier later : Snapshot) → KnowsTable (face parts_a parts_b) k.view → bits ≡ k.view.shape.bits → pass_facts k left ≡ now → HasSnapshot now earlier → HasSnapshot now later
       → IsBothWalk (face parts_a parts_b) k.view earlier later bits
   walks_both k bits left now earlier later kn bits_are facts one other =
       let f = face parts_a parts_b in
-      let has : (s : Snapshot) → HasSnapshot now s.number → IsNamedUnder f k.view s bits 0 s.number = λ s has.
-      subst (λ (z : ℕ). IsNamedUnder f k.view s z 0 s.number) (sym bits_are) (top_under k left s kn (subst (λ (z : PassFacts). HasSnapshot z s.number) (sym facts) has)) in
+      let has : (s : Snapshot) → HasSnapshot now s → IsNamedUnder f k.view s bits 0 s.number = λ s has.
+      subst (λ (z : ℕ). IsNamedUnder f k.view s z 0 s.number) (sym bits_are) (top_under k left s kn (subst (λ (z : PassFacts). HasSnapshot z s) (sym facts) has)) in
       record { bits_are = bits_are; tops = record { in_earlier = has earlier one; in_later = has later other } }
 
   -- the pass is one still, with the same counts

@@ -16,60 +16,46 @@ use Rattle.aug_words.specs.Seats.{Known, NamesRoot}
 use Rattle.aug_trie.specs.Crew.{CrewFacts, CrewReads, set_of_crew}
 use Rattle.aug_trie.specs.History.{last_cut}
 use Rattle.aug_trie.specs.inside.CrewState.{crew_facts, HasCrew, HoldsCrew}
-use Rattle.aug_trie.specs.inside.Knows.{knows, root_numbers}
+use Rattle.aug_trie.specs.inside.Knows.{knows}
 use Rattle.aug_trie.specs.inside.NamedCuts.{HasNamed, cut_named, members_of}
 use Rattle.aug_trie.specs.inside.NodeWords.{IsNodeAt}
 use Rattle.aug_trie.specs.inside.PassState.{known_in}
 use Rattle.aug_trie.specs.inside.SnapshotWalk.{set_seen, IsWalk, Walking}
-use Rattle.aug_trie.specs.Snapshot.{first_place}
 use Rattle.aug_trie.specs.declared.queries.snapshot.Snapshot.{Snapshot}
 use Rattle.aug_trie.proofs.Asking.{looks_of}
 use Rattle.aug_trie.proofs.Freeing.{same_opens}
 use Rattle.aug_trie.proofs.Histories.{last_is}
 use Rattle.aug_trie.proofs.RoundLemmas.{crew_told}
-use Rattle.aug_trie.proofs.Snapshots.{number_at, index_is, cut_is}
+use Rattle.aug_trie.proofs.Snapshots.{shows_entry}
 use Rattle.aug_trie.proofs.SnapshotWalks.{WalkDescends}
-use Rattle.aug_trie.proofs.Trees.{inner_root, named_set}
-use Rattle.aug_trie.proofs.Walking.{top_node}
+use Rattle.aug_trie.proofs.Trees.{inner_root, named_set, top_is}
 
 module _ {A B : Type 0} (parts_a : Parts A) (parts_b : Parts B) where
   abbrev f : ℕ → ℕ → List (ℕ × ℕ) → List ℕ
   f = face parts_a parts_b
 
   -- the number of the root's newest record is that of the last cut
-  module _ (v : SeatView) (number : ℕ) (kn : KnowsTable f v) (named : NamesRoot v number) where
-    newest_at : first_place (root_numbers v.shape v.seen) number ≡ named.index
-    newest_at = ap (first_place (root_numbers v.shape v.seen)) named.named ∙ index_is f v.shape v.seen kn.book named.index named.entry (inner_root parts_a parts_b v kn) named.newest.at
+  module _ (v : SeatView) (held : Snapshot) (kn : KnowsTable f v) (named : NamesRoot v held.number) where
+    shows : HasNamed v.shape v.seen held × (cut_named v.shape v.seen held ≡ root_cut v.shape v.seen named.index)
+    shows = shows_entry f v.shape v.seen held named.index named.entry kn.book (inner_root parts_a parts_b v kn) named.newest.at named.named
 
-    is_named : HasNamed v.shape v.seen number
-    is_named = let at = newest_at in let n = number_at v.shape v.seen named.index named.entry named.newest.at in omega (arith, n.0)
-
-    cut_of_newest : cut_named v.shape v.seen number ≡ root_cut v.shape v.seen named.index
-    cut_of_newest = cut_is v.shape v.seen number is_named ∙ ap (root_cut v.shape v.seen) newest_at
-
-    pub last_named : cut_named v.shape v.seen number ≡ last_cut (knows v).history
-    last_named = cut_of_newest ∙ sym (last_is v.shape v.seen named.index named.newest.last)
+    pub last_named : cut_named v.shape v.seen held ≡ last_cut (knows v).history
+    last_named = shows.1 ∙ sym (last_is v.shape v.seen named.index named.newest.last)
 
     -- so a walk goes by it
-    pub walk_of_last : (bits : ℕ) → bits ≡ v.shape.bits → IsWalk f v record { number = number } bits
+    pub walk_of_last : (bits : ℕ) → bits ≡ v.shape.bits → IsWalk f v held bits
     walk_of_last bits same = record {
       bits_are = same;
       top = record {
         knows_table = kn;
-        is_tree_set = named_set f v number kn;
-        node = subst (λ (z : ℕ). IsNodeAt v.shape v.seen (cut_named v.shape v.seen number) z 0 number) (sym same) (top_node parts_a parts_b v kn.book (cut_named v.shape v.seen number) number (inner_root parts_a parts_b v kn) record {
-          index = named.index;
-          entry = named.entry;
-          at = named.newest.at;
-          numbered = named.named;
-          cut_is = cut_of_newest;
-        });
+        is_tree_set = named_set f v held kn;
+        node = subst (λ (z : ℕ). IsNodeAt v.shape v.seen (cut_named v.shape v.seen held) z 0 held.number) (sym same) (top_is parts_a parts_b v held kn shows.0);
       };
     }
 
   -- over the crew's set
   pub set_of_last : (lead : Known) (free : Bool) (s : Snapshot) → KnowsTable f lead.view → NamesRoot lead.view s.number → set_seen lead.view s ≡ set_of_crew (crew_facts lead free)
-  set_of_last lead free s kn named = ap (members_of lead.view.shape.bits) (last_named lead.view s.number kn named)
+  set_of_last lead free s kn named = ap (members_of lead.view.shape.bits) (last_named lead.view s kn named)
 
   -- the crew is one still, and has only read
   pub crew_read : (walk new : Walking) (free : Bool) (n c s p back inserts removals : ℕ) → HoldsCrew f walk.words.view back inserts removals → (free ≡ true → MayOpen walk.words) → WalkDescends f n c s p walk new
@@ -105,7 +91,7 @@ module _ {A B : Type 0} (parts_a : Parts A) (parts_b : Parts B) where
     walked_set = ap (λ (z : Known). set_seen z.view walk.snapshot) same ∙ set_of_last k free walk.snapshot kn newest ∙ ap set_of_crew (crew_told h there facts).1
 
     pub walked_tree_set : IsTreeSet (set_of_crew now)
-    walked_tree_set = subst IsTreeSet walked_set (subst (λ (z : Known). IsTreeSet (set_seen z.view walk.snapshot)) (sym same) (named_set f k.view walk.snapshot.number kn))
+    walked_tree_set = subst IsTreeSet walked_set (subst (λ (z : Known). IsTreeSet (set_seen z.view walk.snapshot)) (sym same) (named_set f k.view walk.snapshot kn))
 
     pub walked_few : length (set_seen walk.words.view walk.snapshot).pairs ≤ 2 ^ now.round.bits
     walked_few = let set : SetFacts = set_of_crew now in let tree = walked_tree_set in let few = IsKeySet-few set.bits (keys_of set.pairs) tree.is_key_set in let long = length-keys_of set.pairs in

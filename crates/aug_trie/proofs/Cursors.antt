@@ -39,7 +39,7 @@ module _ (f : ℕ → ℕ → List (ℕ × ℕ) → List ℕ) where
 
 module _ {A B : Type 0} (parts_a : Parts A) (parts_b : Parts B) where
   -- and as it ends
-  pub walked_out : (words : Option Known) (walk new : Walking) (left n c s p : ℕ) (now : PassFacts) (at : SnapshotCursor) → words ≡ Some walk.words → walk.snapshot ≡ at.snapshot → pass_facts (known_in words) left ≡ now → HasSnapshot now at.snapshot.number
+  pub walked_out : (words : Option Known) (walk new : Walking) (left n c s p : ℕ) (now : PassFacts) (at : SnapshotCursor) → words ≡ Some walk.words → walk.snapshot ≡ at.snapshot → pass_facts (known_in words) left ≡ now → HasSnapshot now at.snapshot
       → WalkDescends (face parts_a parts_b) n c s p walk new → WalksCursor (face parts_a parts_b) new at.cursor → IsCursorOf (pass_facts new.words left) at
   walked_out words walk new left n c s p now at there same facts has d is =
       let reads = reads_of parts_a parts_b words walk new left n c s p (n + c + 3 * s + 2 * p) now there facts d (omega arith) in
@@ -52,7 +52,7 @@ pub cursor_stays : {A B : Type 0} (sum : List (ℕ × ℕ) → Summary A B) (old
 cursor_stays {A} {B} sum old new at keeps of =
     let s = at.snapshot in
     let is = of.is_cursor in
-    let cut = snapshot_cut old s.number in
+    let cut = snapshot_cut old s in
     record {
       of_pass = keeps.snapshots s of.of_pass;
       is_cursor = cursor_kept (λ level place word low fits named.

@@ -169,7 +169,7 @@ module _ {A B : Type 0} (parts_a : Parts A) (parts_b : Parts B) (words : Option 
   -- a note was learnt, and a snapshot was taken
   pub record NoteLearnt (note : NoteFacts) (number : ℕ) (w : Known) : Type 0 where
     pub learns : HasLearnt now.round.era (chain_of now) now.knows note (view_chain w.view) (knows w.view)
-    pub taken : SnapshotTaken parts_a parts_b now a number w
+    pub taken : SnapshotTaken parts_a parts_b now a (record { number = number }) w
 
   pub note_learnt : (n w : Known) (note : NoteFacts) (number : ℕ) → note_facts n ≡ note → KnowsTable f n.view → LearnsNote f k.view n.view number w.view → w.table ≡ k.table → NoteLearnt note number w
   note_learnt n w note number note_is kn l table =
@@ -189,7 +189,7 @@ module _ {A B : Type 0} (parts_a : Parts A) (parts_b : Parts B) (words : Option 
   pub record Followed (reader : PassFacts) (number : ℕ) (w : Known) : Type 0 where
     pub takes_up : TakesUp reader (pass_facts w a.left)
     pub learns : IsPart (chain_of reader) (view_chain w.view)
-    pub taken : SnapshotTaken parts_a parts_b now a number w
+    pub taken : SnapshotTaken parts_a parts_b now a (record { number = number }) w
 
   pub followed : (words' : Option Known) (bits : ℕ) (reader : PassFacts) (r w : Known) (number : ℕ) → HoldsReader f words' bits → words' ≡ Some r → pass_facts (known_in words') 0 ≡ reader → LearnsNote f k.view (noted r.view) number w.view → w.table ≡ k.table → Followed reader number w
   followed words' bits reader r w number holds' there' facts' l table =

@@ -63,12 +63,12 @@ module _ {A B : Type 0} (parts_a : Parts A) (parts_b : Parts B) where
     pub steps : StepsOf request key made.outcome now (pass_facts w after.left)
 
   -- a snapshot was taken
-  pub record SnapshotTaken (now : PassFacts) (a : Account) (number : ℕ) (w : Known) : Type 0 where
+  pub record SnapshotTaken (now : PassFacts) (a : Account) (held : Snapshot) (w : Known) : Type 0 where
     pub holds : KeepsPass f (Some w) a
-    pub takes : TakesSnapshot now.knows (knows w.view) (snapshot_cut (pass_facts w a.left) number)
-    pub known : HasSnapshot (pass_facts w a.left) number
+    pub takes : TakesSnapshot now.knows (knows w.view) (snapshot_cut (pass_facts w a.left) held)
+    pub known : HasSnapshot (pass_facts w a.left) held
     pub goes_on : GoesOn 0 1 now (pass_facts w a.left)
-    pub step : w.view.steps ≡ now.steps ++ load_node (root_of now.round) number ∷ []
+    pub step : w.view.steps ≡ now.steps ++ load_node (root_of now.round) held.number ∷ []
     pub keeps : Keeps (summary_of parts_a parts_b) now (pass_facts w a.left)
 
   module _ (words : Option Known) (a : Account) (now : PassFacts) (k : Known) (holds : KeepsPass f words a) (facts : pass_facts (known_in words) a.left ≡ now) (there : words ≡ Some k) where
@@ -110,12 +110,12 @@ module _ {A B : Type 0} (parts_a : Parts A) (parts_b : Parts B) where
     pub root_inside : IsInner k.view.shape (2 * a.leaves - 2)
     root_inside = (root_node f k.view a.leaves a.bits a.next a.left told.0).0
 
-    pub snapshot_taken : (number : ℕ) (w : Known) → LoadsNode f k.view (2 * a.leaves - 2) number w.view → w.table ≡ k.table → SnapshotTaken now a number w
+    pub snapshot_taken : (number : ℕ) (w : Known) → LoadsNode f k.view (2 * a.leaves - 2) number w.view → w.table ≡ k.table → SnapshotTaken now a (record { number = number }) w
     snapshot_taken number w loads table =
         let p = told.0 in let now_is = told.1 in let root = root_node f k.view a.leaves a.bits a.next a.left p in
         let l = subst (λ (z : ℕ). LoadsNode f k.view z number w.view) (sym root.1) loads in
         let goes = goes_seeing f k.view w.view _ l.stepped p.knows_table l.sees in
-        subst (λ (z : PassFacts × TableId). SnapshotTaken z.0 a number (record { table = z.1; view = w.view })) (λ j. (now_is j, sym table j)) record {
+        subst (λ (z : PassFacts × TableId). SnapshotTaken z.0 a (record { number = number }) (record { table = z.1; view = w.view })) (λ j. (now_is j, sym table j)) record {
           holds = record {
             pass = record { known = record { table = k.table; view = w.view }; there = refl; is_pass = pass_still f k.view w.view a.leaves a.bits a.next a.left p goes };
             counts = counted_still f 0 k.view w.view a.inserts a.removals goes counts;
@@ -129,12 +129,12 @@ module _ {A B : Type 0} (parts_a : Parts A) (parts_b : Parts B) where
 
     -- ---- a pass that looked
 
-    abbrev cut : ℕ → Cut
-    cut number = cut_named k.view.shape k.view.seen number
+    abbrev cut : Snapshot → Cut
+    cut held = cut_named k.view.shape k.view.seen held
 
     -- the top of a snapshot's tree is where its number says
-    pub top_at : (number : ℕ) → HasSnapshot now number → IsNodeAt k.view.shape k.view.seen (cut number) a.bits 0 number
-    top_at number has = subst (λ (z : ℕ). IsNodeAt k.view.shape k.view.seen (cut number) z 0 number) (sym told.0.bits_are) (top_is parts_a parts_b k a.left number told.0.knows_table (subst (λ (z : PassFacts). HasSnapshot z number) (sym told.1) has))
+    pub top_at : (held : Snapshot) → HasSnapshot now held → IsNodeAt k.view.shape k.view.seen (cut held) a.bits 0 held.number
+    top_at held has = subst (λ (z : ℕ). IsNodeAt k.view.shape k.view.seen (cut held) z 0 held.number) (sym told.0.bits_are) (top_is parts_a parts_b k.view held told.0.knows_table (subst (λ (z : PassFacts). HasSnapshot z held) (sym told.1) has))
 
     module _ (most : ℕ) (w : Known) (looks : Looks most k.view w.view) where
       pub looked : KeepsPass f (Some w) a
@@ -144,9 +144,9 @@ module _ {A B : Type 0} (parts_a : Parts A) (parts_b : Parts B) where
       reads table = subst (λ (z : PassFacts × TableId). Reads (summary_of parts_a parts_b) most z.0 (pass_facts (record { table = z.1; view = w.view }) a.left)) (λ j. (told.1 j, sym table j)) (reads_by parts_a parts_b k w.view a.left most looks)
 
       -- what it loaded of a node is one of a snapshot of its own
-      pub node_read : (s : Snapshot) (n : Node A B) → w.table ≡ k.table → n.snapshot ≡ s → HasSnapshot now s.number → IsNodeAt k.view.shape k.view.seen (cut s.number) n.level n.place n.word
-          → IsTreeOf (summary_of parts_a parts_b) k.view.shape.bits (cut s.number) n.level n.place n.summary → HasNode (summary_of parts_a parts_b) (pass_facts w a.left) n
+      pub node_read : (s : Snapshot) (n : Node A B) → w.table ≡ k.table → n.snapshot ≡ s → HasSnapshot now s → IsNodeAt k.view.shape k.view.seen (cut s) n.level n.place n.word
+          → IsTreeOf (summary_of parts_a parts_b) k.view.shape.bits (cut s) n.level n.place n.summary → HasNode (summary_of parts_a parts_b) (pass_facts w a.left) n
       node_read s n table same has named tells = (reads table).stays.keeps.nodes n (subst (λ (z : PassFacts). HasNode (summary_of parts_a parts_b) z n) told.1
-          (has_node parts_a parts_b k a.left n told.0.knows_table (subst (λ (z : PassFacts × Snapshot). HasSnapshot z.0 z.1.number) (λ j. (sym told.1 j, sym same j)) has)
-          (subst (λ (z : Snapshot). IsNodeAt k.view.shape k.view.seen (cut z.number) n.level n.place n.word) (sym same) named)
-          (subst (λ (z : Snapshot). IsTreeOf (summary_of parts_a parts_b) k.view.shape.bits (cut z.number) n.level n.place n.summary) (sym same) tells)))
+          (has_node parts_a parts_b k a.left n told.0.knows_table (subst (λ (z : PassFacts × Snapshot). HasSnapshot z.0 z.1) (λ j. (sym told.1 j, sym same j)) has)
+          (subst (λ (z : Snapshot). IsNodeAt k.view.shape k.view.seen (cut z) n.level n.place n.word) (sym same) named)
+          (subst (λ (z : Snapshot). IsTreeOf (summary_of parts_a parts_b) k.view.shape.bits (cut z) n.level n.place n.summary) (sym same) tells)))

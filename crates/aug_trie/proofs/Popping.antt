@@ -90,7 +90,7 @@ module _ {A B : Type 0} (summary_of : List (ℕ × ℕ) → Summary A B) where
   }
 
   -- a pop, from what its parts come to
-  pub pops_made : (side : Side) (done : Pop) (s : Snapshot) (found : Option ℕ) (old looked mid new : PassFacts) → TakesSnapshot old.knows looked.knows (snapshot_cut looked s.number) → HasSnapshot looked s.number → GoesOn 0 1 old looked
+  pub pops_made : (side : Side) (done : Pop) (s : Snapshot) (found : Option ℕ) (old looked mid new : PassFacts) → TakesSnapshot old.knows looked.knows (snapshot_cut looked s) → HasSnapshot looked s → GoesOn 0 1 old looked
       → looked.steps ≡ old.steps ++ load_node (root_of old.round) s.number ∷ [] → Keeps summary_of old looked → found ≡ member_at side (list_of (set_at looked s)) → Reads summary_of 4 looked mid → TakesShown summary_of (set_at mid s) found done mid new
       → Pops summary_of side done old new
   pops_made side done s found old looked mid new takes known goes step keeps is reads t = record {

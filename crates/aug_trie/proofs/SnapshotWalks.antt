@@ -77,24 +77,24 @@ module _ (f : ℕ → ℕ → List (ℕ × ℕ) → List ℕ) where
   descends_summary i old words loaded same table l is = descends_by 3 0 0 1 0 i old words loaded same table l (omega arith) (ap (λ (z : Loaded). z.nodes.made) is ∙ none _, ap (λ (z : Loaded). z.counts.made) is ∙ none _, ap (λ (z : Loaded). z.summaries.made) is, ap (λ (z : Loaded). z.passed.made) is ∙ none _)
 
   -- the count of what a name stands for, by the keys of the set and by those of the cut
-  pub counted : (v : SeatView) (s : Snapshot) (level place n : ℕ) → n ≡ length (keys_below (set_of_cut (cut_named v.shape v.seen s.number)) level place) → n ≡ length (keys_below (list_of (set_seen v s)) level place)
-  counted v s level place n is = is ∙ ap (λ (z : List ℕ). length (keys_below z level place)) (sym (keys_of_cut v.shape.bits (cut_named v.shape v.seen s.number)))
+  pub counted : (v : SeatView) (s : Snapshot) (level place n : ℕ) → n ≡ length (keys_below (set_of_cut (cut_named v.shape v.seen s)) level place) → n ≡ length (keys_below (list_of (set_seen v s)) level place)
+  counted v s level place n is = is ∙ ap (λ (z : List ℕ). length (keys_below z level place)) (sym (keys_of_cut v.shape.bits (cut_named v.shape v.seen s)))
 
   -- a name, as it is after some looks
-  pub named_then : (n level place word : ℕ) (v w : SeatView) (s : Snapshot) (bits : ℕ) → Looks n v w → IsWalk f v s bits → IsNodeAt v.shape v.seen (cut_named v.shape v.seen s.number) level place word → IsNamed f w s level place word
+  pub named_then : (n level place word : ℕ) (v w : SeatView) (s : Snapshot) (bits : ℕ) → Looks n v w → IsWalk f v s bits → IsNodeAt v.shape v.seen (cut_named v.shape v.seen s) level place word → IsNamed f w s level place word
   named_then n level place word v w s bits l walk node = named_on n v w s level place word l record { knows_table = walk.top.knows_table; is_tree_set = walk.top.is_tree_set; node = node }
 
   -- what was named before some looks is so still
-  pub node_on : (n level place word : ℕ) (v w : SeatView) (s : Snapshot) → Looks n v w → IsNodeAt v.shape v.seen (cut_named v.shape v.seen s.number) level place word → IsNodeAt w.shape w.seen (cut_named w.shape w.seen s.number) level place word
-  node_on n level place word v w s l node = subst (λ (z : SeatView). IsNodeAt z.shape z.seen (cut_named z.shape z.seen s.number) level place word) (sym l.is) node
+  pub node_on : (n level place word : ℕ) (v w : SeatView) (s : Snapshot) → Looks n v w → IsNodeAt v.shape v.seen (cut_named v.shape v.seen s) level place word → IsNodeAt w.shape w.seen (cut_named w.shape w.seen s) level place word
+  node_on n level place word v w s l node = subst (λ (z : SeatView). IsNodeAt z.shape z.seen (cut_named z.shape z.seen s) level place word) (sym l.is) node
 
   -- and the other way round
-  pub node_back : (n level place word : ℕ) (v w : SeatView) (s : Snapshot) → Looks n v w → IsNodeAt w.shape w.seen (cut_named w.shape w.seen s.number) level place word → IsNodeAt v.shape v.seen (cut_named v.shape v.seen s.number) level place word
-  node_back n level place word v w s l node = subst (λ (z : SeatView). IsNodeAt z.shape z.seen (cut_named z.shape z.seen s.number) level place word) l.is node
+  pub node_back : (n level place word : ℕ) (v w : SeatView) (s : Snapshot) → Looks n v w → IsNodeAt w.shape w.seen (cut_named w.shape w.seen s) level place word → IsNodeAt v.shape v.seen (cut_named v.shape v.seen s) level place word
+  node_back n level place word v w s l node = subst (λ (z : SeatView). IsNodeAt z.shape z.seen (cut_named z.shape z.seen s) level place word) l.is node
 
   -- a count that was loaded after some looks, by the set of the beginning
-  pub counted_before : (n : ℕ) (i old : Walking) (w : SeatView) (level place m : ℕ) → i ≡ old → Looks n i.words.view w → m ≡ length (keys_below (set_of_cut (cut_named w.shape w.seen i.snapshot.number)) level place)
+  pub counted_before : (n : ℕ) (i old : Walking) (w : SeatView) (level place m : ℕ) → i ≡ old → Looks n i.words.view w → m ≡ length (keys_below (set_of_cut (cut_named w.shape w.seen i.snapshot)) level place)
       → m ≡ length (keys_below (list_of (set_seen old.words.view old.snapshot)) level place)
   counted_before n i old w level place m same l is =
       subst (λ (z : Walking). m ≡ length (keys_below (list_of (set_seen z.words.view z.snapshot)) level place)) same
-      (counted i.words.view i.snapshot level place m (subst (λ (z : SeatView). m ≡ length (keys_below (set_of_cut (cut_named z.shape z.seen i.snapshot.number)) level place)) l.is is))
+      (counted i.words.view i.snapshot level place m (subst (λ (z : SeatView). m ≡ length (keys_below (set_of_cut (cut_named z.shape z.seen i.snapshot)) level place)) l.is is))

@@ -22,7 +22,8 @@ use Rattle.aug_trie.specs.History.{last_cut}
 use Rattle.aug_trie.specs.Knowledge.{StandsIn}
 use Rattle.aug_trie.specs.Updates.{TakesSnapshot}
 use Rattle.aug_trie.specs.inside.Knows.{knows, root_numbers}
-use Rattle.aug_trie.specs.Snapshot.{first_place}
+use Rattle.aug_trie.specs.Snapshot.{index_in}
+use Rattle.aug_trie.specs.declared.queries.snapshot.Snapshot.{Snapshot}
 use Rattle.aug_trie.specs.inside.PassState.{pass_facts, IsPass}
 use Rattle.aug_trie.specs.inside.RoundState.{round_of, past_rounds}
 use Rattle.aug_trie.specs.Pass.{PassFacts, GoesOn}
@@ -34,27 +35,27 @@ use Rattle.aug_trie.proofs.Going.{goes_more}
 use Rattle.aug_trie.proofs.Histories.{some_bits, history_long, numbers_long, cut_at}
 use Rattle.std.proofs.lemmas.List.Sums.{prefix_len_stops, prefix_len_passes}
 use Rattle.std.specs.Prelude.{not}
-use Rattle.aug_trie.specs.inside.NamedCuts.{HasNamed, cut_named}
+use Rattle.aug_trie.specs.inside.NamedCuts.{HasNamed, cut_named, IsSnapshotOf}
 use Rattle.aug_core.proofs.EntryCuts.{entry_at, entry_is}
 use Rattle.aug_core.specs.Opening.{serial_entry}
 
--- ---- where a number first stands in a list
+-- ---- where a snapshot's number stands in a list
 
--- a number that stands in a list stands at its first place
-pub at_first_place : (numbers : List ℕ) (number : ℕ) → first_place numbers number < length numbers → get_or numbers (first_place numbers number) 0 ≡ number
-at_first_place numbers number low = let stops = prefix_len_stops (λ n. not (n == number)) numbers 0 low in
-    eqb-true (get_or numbers (first_place numbers number) 0) number (not-false (get_or numbers (first_place numbers number) 0 == number) stops)
+-- if it stands there, it does at the snapshot's index
+pub at_index : (numbers : List ℕ) (held : Snapshot) → index_in numbers held < length numbers → get_or numbers (index_in numbers held) 0 ≡ held.number
+at_index numbers held low = let stops = prefix_len_stops (λ n. not (n == held.number)) numbers 0 low in
+    eqb-true (get_or numbers (index_in numbers held) 0) held.number (not-false (get_or numbers (index_in numbers held) 0 == held.number) stops)
   where
     not-false : (b : Bool) → not b ≡ false → b ≡ true
     not-false true e = refl
     not-false false e = absurd (false≢true (sym e))
 
--- and that is no later than where it stands
-first_low : (numbers : List ℕ) (i number : ℕ) → i < length numbers → get_or numbers i 0 ≡ number → first_place numbers number < length numbers
-first_low numbers i number low is = ⊎_elim (λ inside. inside)
-    (λ (past : length numbers ≤ first_place numbers number). absurd (let passes = prefix_len_passes (λ n. not (n == number)) numbers i 0 (omega arith) in
-    false≢true (sym (ap not (eq-eqb (get_or numbers i 0) number is)) ∙ passes)))
-    (cases_lt (first_place numbers number) (length numbers))
+-- which is no later than where it stands
+index_low : (numbers : List ℕ) (i : ℕ) (held : Snapshot) → i < length numbers → get_or numbers i 0 ≡ held.number → index_in numbers held < length numbers
+index_low numbers i held low is = ⊎_elim (λ inside. inside)
+    (λ (past : length numbers ≤ index_in numbers held). absurd (let passes = prefix_len_passes (λ n. not (n == held.number)) numbers i 0 (omega arith) in
+    false≢true (sym (ap not (eq-eqb (get_or numbers i 0) held.number is)) ∙ passes)))
+    (cases_lt (index_in numbers held) (length numbers))
 
 -- ---- the records of the root
 
@@ -63,20 +64,23 @@ pub number_at : (s : Shape) (book : Book) (i : ℕ) (e : Entry) → At book (roo
 number_at s book i e at = let low = at_below (history_of book (root_place s)) i e at in let long = length-map (history_of book (root_place s)) (λ (z : Entry). z.number) in
     (omega arith, get_or-map (λ (z : Entry). z.number) (history_of book (root_place s)) i (serial_entry 0 0 0) 0 low ∙ ap (λ (z : Entry). z.number) (entry_is book (root_place s) i e at))
 
--- where a number of the root's stands, there is an entry with it
-pub named_there : (s : Shape) (book : Book) (number : ℕ) → HasNamed s book number → (e : Entry) × At book (root_place s) (first_place (root_numbers s book) number) e × (e.number ≡ number)
-named_there s book number has = let i = first_place (root_numbers s book) number in let low : i < length (history_of book (root_place s)) = (let long = length-map (history_of book (root_place s)) (λ (z : Entry). z.number) in omega arith) in
-    let at = entry_at book (root_place s) i low in let e = entry_of book (root_place s) i in
-    (e, at, sym (number_at s book i e at).1 ∙ at_first_place (root_numbers s book) number has)
+-- a snapshot of the root's has the number of the entry at its index
+abbrev pub entry_shown : (s : Shape) (book : Book) (held : Snapshot) → HasNamed s book held → IsSnapshotOf s book held.number
+entry_shown s book held has = let i = index_in (root_numbers s book) held in let low : i < length (history_of book (root_place s)) = (let long = length-map (history_of book (root_place s)) (λ (z : Entry). z.number) in omega arith) in
+    let at = entry_at book (root_place s) i low in
+    record { index = i; entry = entry_of book (root_place s) i; at = at; numbered = sym (at_index (root_numbers s book) held has) ∙ (number_at s book i (entry_of book (root_place s) i) at).1 }
 
--- a record stands once in the root's history
-pub index_is : (face : ℕ → ℕ → List (ℕ × ℕ) → List ℕ) (s : Shape) (book : Book) → IsBook face s book → (i : ℕ) (e : Entry) → IsInner s (root_place s) → At book (root_place s) i e → first_place (root_numbers s book) e.number ≡ i
-index_is face s book b i e inner at = let n = number_at s book i e at in let has : HasNamed s book e.number = first_low (root_numbers s book) i e.number n.0 n.1 in
-    let t = named_there s book e.number has in one_index face s book b (root_place s) (first_place (root_numbers s book) e.number) i t.0 e inner t.1 at t.2
+-- and its cut is that entry's
+pub cut_is : (s : Shape) (book : Book) (held : Snapshot) → HasNamed s book held → cut_named s book held ≡ root_cut s book (index_in (root_numbers s book) held)
+cut_is s book held has = let long = numbers_long s book in let same = history_long s book in cut_at s book (index_in (root_numbers s book) held) (omega arith)
 
--- and the cut that its number names is its own
-pub cut_is : (s : Shape) (book : Book) (number : ℕ) → HasNamed s book number → cut_named s book number ≡ root_cut s book (first_place (root_numbers s book) number)
-cut_is s book number has = let long = numbers_long s book in let same = history_long s book in cut_at s book (first_place (root_numbers s book) number) (omega arith)
+-- one with the number of an entry of the root shows that entry, for a record stands once in the root's history
+pub shows_entry : (face : ℕ → ℕ → List (ℕ × ℕ) → List ℕ) (s : Shape) (book : Book) (held : Snapshot) (i : ℕ) (e : Entry) → IsBook face s book → IsInner s (root_place s) → At book (root_place s) i e → held.number ≡ e.number
+    → HasNamed s book held × (cut_named s book held ≡ root_cut s book i)
+shows_entry face s book held i e b inner at numbered =
+    let n = number_at s book i e at in let has : HasNamed s book held = index_low (root_numbers s book) i held n.0 (n.1 ∙ sym numbered) in
+    let t = entry_shown s book held has in
+    (has, cut_is s book held has ∙ ap (root_cut s book) (one_index face s book b (root_place s) t.index i t.entry e inner t.at at (sym t.numbered ∙ numbered)))
 
 module _ (face : ℕ → ℕ → List (ℕ × ℕ) → List ℕ) where
   -- a pass that only looked is one still
@@ -102,21 +106,21 @@ module _ (face : ℕ → ℕ → List (ℕ × ℕ) → List ℕ) where
 
   -- a load of the root
   module _ (v w : SeatView) (r leaves bits next left : ℕ) (p : IsPass face v leaves bits next left) (t : LoadsNode face v (root_place v.shape) r w) where
-    at_number : first_place (root_numbers v.shape w.seen) r ≡ t.index
-    at_number = ap (first_place (root_numbers v.shape w.seen)) t.found ∙ index_is face v.shape w.seen t.sees.book t.index t.entry (root_inner face (opening_of v) (some_bits face v p.knows_table)) t.newest.at
+    abbrev held : Snapshot
+    held = record { number = r }
+
+    shows : HasNamed v.shape w.seen held × (cut_named v.shape w.seen held ≡ root_cut v.shape w.seen t.index)
+    shows = shows_entry face v.shape w.seen held t.index t.entry t.sees.book (root_inner face (opening_of v) (some_bits face v p.knows_table)) t.newest.at t.found
 
     shaped : w.shape ≡ v.shape
     shaped = ap (λ (z : SeatView). z.shape) t.stepped
 
-    has_loaded : HasNamed v.shape w.seen r
-    has_loaded = let at = at_number in let n = number_at v.shape w.seen t.index t.entry t.newest.at in omega (arith, n.0)
+    pub takes_snapshot : TakesSnapshot (knows v) (knows w) (cut_named w.shape w.seen held)
+    takes_snapshot = subst (λ (z : Shape). TakesSnapshot (knows v) (knows w) (cut_named z w.seen held)) (sym shaped)
+        (subst (TakesSnapshot (knows v) (knows w)) (sym shows.1) (snapshot_is face v r w p.knows_table t))
 
-    pub takes_snapshot : TakesSnapshot (knows v) (knows w) (cut_named w.shape w.seen r)
-    takes_snapshot = subst (λ (z : Shape). TakesSnapshot (knows v) (knows w) (cut_named z w.seen r)) (sym shaped)
-        (subst (TakesSnapshot (knows v) (knows w)) (sym (cut_is v.shape w.seen r has_loaded ∙ ap (root_cut v.shape w.seen) at_number)) (snapshot_is face v r w p.knows_table t))
-
-    pub has_snapshot : HasNamed w.shape w.seen r
-    has_snapshot = subst (λ (z : Shape). HasNamed z w.seen r) (sym shaped) has_loaded
+    pub has_snapshot : HasNamed w.shape w.seen held
+    has_snapshot = subst (λ (z : Shape). HasNamed z w.seen held) (sym shaped) shows.0
 
     -- the one step is that load
     pub loads_root : w.steps ≡ v.steps ++ load_node (root_place v.shape) r ∷ []

@@ -13,6 +13,7 @@ use Rattle.aug_core.specs.Faces.{face}
 use Rattle.aug_core.specs.Book.{At, IsSerial, IsBook}
 use Rattle.aug_core.specs.Cuts.{Cut, weight_at, set_of_cut, pairs_of_cut}
 use Rattle.aug_core.specs.inside.EntryCuts.{entry_of, IsPartOfCut}
+use Rattle.aug_core.specs.inside.RootCuts.{root_cut}
 use Rattle.aug_core.specs.Effects.{HasSeen, Says}
 use Rattle.aug_core.specs.declared.view.Entry.{Entry}
 use Rattle.aug_core.specs.declared.view.SeatView.{SeatView}
@@ -56,11 +57,11 @@ module _ {A B : Type 0} (parts_a : Parts A) (parts_b : Parts B) where
 
   module _ (v : SeatView) (b : IsBook both v.shape v.seen) (cut : Cut) where
     -- the top of a snapshot's tree
-    abbrev pub top_node : (number : ℕ) → IsInner v.shape (root_place v.shape) → IsSnapshotOf v.shape v.seen number cut → IsNodeAt v.shape v.seen cut v.shape.bits 0 number
-    top_node number inner t = record {
+    abbrev pub top_node : (number : ℕ) → IsInner v.shape (root_place v.shape) → (t : IsSnapshotOf v.shape v.seen number) → cut ≡ root_cut v.shape v.seen t.index → IsNodeAt v.shape v.seen cut v.shape.bits 0 number
+    top_node number inner t cut_is = record {
       q = root_place v.shape;
       index = t.index;
-      part = subst (λ (z : Cut). IsPartOfCut v.shape v.seen z v.shape.bits 0 (root_place v.shape) t.index) (sym t.cut_is) (root_part both v.shape v.seen b t.index (at_below _ t.index t.entry t.at));
+      part = subst (λ (z : Cut). IsPartOfCut v.shape v.seen z v.shape.bits 0 (root_place v.shape) t.index) (sym cut_is) (root_part both v.shape v.seen b t.index (at_below _ t.index t.entry t.at));
       named = ap (λ (z : Entry). z.word) (entry_is v.seen (root_place v.shape) t.index t.entry t.at) ∙ b.named (root_place v.shape) t.index t.entry inner t.at ∙ sym t.numbered;
     }
 

@@ -3,13 +3,13 @@
 use Rattle.std.specs.Prelude.{ℕ, ◌*◌, Bool}
 use Rattle.aug_query.specs.DescendBoth.{BothSets, differing_nodes}
 use Rattle.aug_trie.specs.Pass.{PassFacts}
-use Rattle.aug_trie.specs.Snapshot.{first_place, set_at}
+use Rattle.aug_trie.specs.Snapshot.{index_in, set_at}
 use Rattle.aug_trie.specs.inside.NodesUnder.{same_under}
 use Rattle.aug_trie.specs.declared.queries.snapshot.Snapshot.{Snapshot}
 
 -- whether the trees of two snapshots have the same node at a level and a place: one record, which was there before either snapshot
 abbrev pub same_node : PassFacts → Snapshot → Snapshot → ℕ → ℕ → Bool
-same_node pass earlier later level place = same_under pass.words.shape pass.words.book (first_place pass.numbers earlier.number) (first_place pass.numbers later.number) level place
+same_node pass earlier later level place = same_under pass.words.shape pass.words.book (index_in pass.numbers earlier) (index_in pass.numbers later) level place
 
 -- both sets, and where their trees have the same node
 abbrev pub both_at : PassFacts → Snapshot → Snapshot → BothSets

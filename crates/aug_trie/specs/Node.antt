@@ -20,18 +20,18 @@ steps_for most = most.nodes + most.counts + 3 * most.summaries + 2 * most.passed
 module _ {A B : Type 0} (summary_of : List (ℕ × ℕ) → Summary A B) where
   -- the node belongs to the tree of a snapshot of the pass and has the summary of the members that it covers, and a leaf has the weight of its key
   pub record HasNode (pass : PassFacts) (node : Node A B) : Type 0 where
-    pub of_pass : HasSnapshot pass node.snapshot.number
+    pub of_pass : HasSnapshot pass node.snapshot
     pub is_tree_set : IsTreeSet (set_at pass node.snapshot)
-    pub named : IsNodeAt pass.words.shape pass.words.book (snapshot_cut pass node.snapshot.number) node.level node.place node.word
-    pub tells : IsTreeOf summary_of pass.round.bits (snapshot_cut pass node.snapshot.number) node.level node.place node.summary
+    pub named : IsNodeAt pass.words.shape pass.words.book (snapshot_cut pass node.snapshot) node.level node.place node.word
+    pub tells : IsTreeOf summary_of pass.round.bits (snapshot_cut pass node.snapshot) node.level node.place node.summary
     pub weighs : node.level ≡ 0 → weight_in_word node.word ≡ weight_in (set_at pass node.snapshot).pairs node.place
 
   -- each snapshot of the pass is still one of it, with the same cut and set, each node of a snapshot is still one of that snapshot, and what was known of
   -- weights is known
   pub record Keeps (old new : PassFacts) : Type 0 where
-    pub snapshots : (s : Snapshot) → HasSnapshot old s.number → HasSnapshot new s.number
-    pub same_cuts : (s : Snapshot) → HasSnapshot old s.number → snapshot_cut new s.number ≡ snapshot_cut old s.number
-    pub same_sets : (s : Snapshot) → HasSnapshot old s.number → set_at new s ≡ set_at old s
+    pub snapshots : (s : Snapshot) → HasSnapshot old s → HasSnapshot new s
+    pub same_cuts : (s : Snapshot) → HasSnapshot old s → snapshot_cut new s ≡ snapshot_cut old s
+    pub same_sets : (s : Snapshot) → HasSnapshot old s → set_at new s ≡ set_at old s
     pub nodes : (node : Node A B) → HasNode old node → HasNode new node
     pub weights : KeepWeights old.words new.words
 

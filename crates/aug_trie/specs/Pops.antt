@@ -55,8 +55,8 @@ module _ {A B : Type 0} (summary_of : List (ℕ × ℕ) → Summary A B) where
   pub record Pops (side : Side) (done : Pop) (old new : PassFacts) : Type 0 where
     pub snapshot : Snapshot
     pub looked : PassFacts
-    pub takes : TakesSnapshot old.knows looked.knows (snapshot_cut looked snapshot.number)
-    pub known : HasSnapshot looked snapshot.number
+    pub takes : TakesSnapshot old.knows looked.knows (snapshot_cut looked snapshot)
+    pub known : HasSnapshot looked snapshot
     pub goes_on : GoesOn 0 1 old looked
     pub step : looked.steps ≡ old.steps ++ load_node (root_of old.round) snapshot.number ∷ []
     pub keeps : Keeps summary_of old looked

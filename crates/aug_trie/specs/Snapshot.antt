@@ -7,18 +7,18 @@ use Rattle.aug_model.specs.Keys.{SetFacts}
 use Rattle.aug_trie.specs.Pass.{PassFacts}
 use Rattle.aug_trie.specs.declared.queries.snapshot.Snapshot.{Snapshot}
 
--- the first place of a number in a list, or the place past its end if the number is not in it
-abbrev pub first_place : List ℕ → ℕ → ℕ
-first_place numbers number = position_or_len (λ n. n == number) numbers
+-- the index of the root's entry that a snapshot shows, by the numbers of the root's records: the first that is the snapshot's, or past the end if none is
+abbrev pub index_in : List ℕ → Snapshot → ℕ
+index_in numbers s = position_or_len (λ n. n == s.number) numbers
 
 -- the snapshot is the pass's: its number is that of one of the pass's cuts
-abbrev pub HasSnapshot : PassFacts → ℕ → Type 0
-HasSnapshot pass number = first_place pass.numbers number < length pass.numbers
+abbrev pub HasSnapshot : PassFacts → Snapshot → Type 0
+HasSnapshot pass s = index_in pass.numbers s < length pass.numbers
 
 -- the cut that a snapshot shows: the one of the pass's history that has its number
-abbrev pub snapshot_cut : PassFacts → ℕ → Cut
-snapshot_cut pass number = slice_index_or pass.knows.history (first_place pass.numbers number) []
+abbrev pub snapshot_cut : PassFacts → Snapshot → Cut
+snapshot_cut pass s = slice_index_or pass.knows.history (index_in pass.numbers s) []
 
 -- the set that a snapshot of the pass shows, with its bits
 abbrev pub set_at : PassFacts → Snapshot → SetFacts
-set_at pass s = record { bits = pass.round.bits; pairs = pairs_of_cut (snapshot_cut pass s.number) }
+set_at pass s = record { bits = pass.round.bits; pairs = pairs_of_cut (snapshot_cut pass s) }

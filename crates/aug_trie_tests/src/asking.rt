@@ -48,9 +48,9 @@ pub(super) fn look_closer(
 // Each of some updates, as long as one is left. A snapshot is one still.
 fn set_all(pass: &mut Pass<Sum, Extent>, s: Snapshot, universe: u32, changes: &[Change])
     requires universe { universe ≡ 2 ^ pass.old.round.bits }
-    requires snapshot { HasSnapshot pass.old s.number }
+    requires snapshot { HasSnapshot pass.old s }
     ensures round { pass.new.round ≡ pass.old.round }
-    ensures snapshot { HasSnapshot pass.new s.number }
+    ensures snapshot { HasSnapshot pass.new s }
 {
     let _ = s;
     for change in changes {

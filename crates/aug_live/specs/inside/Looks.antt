@@ -25,23 +25,23 @@ pub record IsShown (old new : Option PassFacts) (era : ℕ) (held : Snapshot) (p
   pub mine : PassFacts
   pub there : new ≡ Some mine
   pub lends : Lends pass mine
-  pub known : HasSnapshot pass held.number
+  pub known : HasSnapshot pass held
   pub dated : era ≡ pass.round.era + 1
   pub takes_up : IfSome old (λ r. TakesUp r pass)
 
 -- the pass took a snapshot for a look; or it made nothing, as it did not lend the reader of the look before
 abbrev pub ShowsOrNot : Option PassFacts → Option PassFacts → Option PassFacts → ℕ → Option Snapshot → PassFacts → PassFacts → Type 0
 ShowsOrNot old new left era None a b = MakesNothing a b × (new ≡ old) × IsReaderOf b.round.table left
-ShowsOrNot old new left era (Some held) a b = Spends 0 (λ x y. TakesSnapshot x.knows y.knows (snapshot_cut y held.number)) a b × IsShown old new era held b × IsReaderOf b.round.table left
+ShowsOrNot old new left era (Some held) a b = Spends 0 (λ x y. TakesSnapshot x.knows y.knows (snapshot_cut y held)) a b × IsShown old new era held b × IsReaderOf b.round.table left
 
 -- the same by the end of a lane
 abbrev pub EndShows : Option PassFacts → Option PassFacts → Option PassFacts → ℕ → Option Snapshot → EndFacts → EndFacts → Type 0
 EndShows old new left era None e f = EndFollows e f × (new ≡ old) × IsReaderOf f.known.at.half.round.table left
-EndShows old new left era (Some held) e f = EndRuns (Spends 0 (λ x y. TakesSnapshot x.knows y.knows (snapshot_cut y held.number))) e f × IsShown old new era held f.known.at.half
+EndShows old new left era (Some held) e f = EndRuns (Spends 0 (λ x y. TakesSnapshot x.knows y.knows (snapshot_cut y held))) e f × IsShown old new era held f.known.at.half
 
 -- and by a handle
 pub record HandleShows (old new : Option PassFacts) (era : ℕ) (held : Snapshot) (a b : HandleFacts) : Type 0 where
-  pub makes : Makes 0 (λ x y. TakesSnapshot x.knows y.knows (snapshot_cut y held.number)) a b
+  pub makes : Makes 0 (λ x y. TakesSnapshot x.knows y.knows (snapshot_cut y held)) a b
   pub shown : IsShown old new era held b.half
 
 -- a reader of this table shows the snapshot, and is of the round of this number
@@ -49,14 +49,14 @@ pub record IsShownIn (table : TableFacts) (reader : Option PassFacts) (era : ℕ
   pub mine : PassFacts
   pub there : reader ≡ Some mine
   pub together : table_of mine.round ≡ table
-  pub shows : HasSnapshot mine held.number
+  pub shows : HasSnapshot mine held
   pub dated : era ≡ mine.round.era + 1
 
 -- a look has its reader, which knows both snapshots, and what it puts into the slot in the end
 pub record HoldsLook (slot : Option TableFacts) (table : TableFacts) (reader : Option PassFacts) (held before : Snapshot) (era : ℕ) : Type 0 where
   pub slot_is : slot ≡ Some table
   pub shown : IsShownIn table reader era held
-  pub showed : HasSnapshot shown.mine before.number
+  pub showed : HasSnapshot shown.mine before
 
 -- the handle has its end of this lane and the round with this table, and knows its number and the bits of its keys
 pub record HoldsHandle (end : Option EndFacts) (table : TableFacts) (bits lane number : ℕ) (lanes : List TableId) : Type 0 where

@@ -23,7 +23,7 @@ opening_cut_of round = opening_cut round.bits round.members
 
 -- a lane whose pass knows this much, and that holds this snapshot
 abbrev pub lane_at : PassFacts → Snapshot → Lane
-lane_at pass held = record { knows = pass.knows; held = snapshot_cut pass held.number }
+lane_at pass held = record { knows = pass.knows; held = snapshot_cut pass held }
 
 -- the rows of a lane, in order
 abbrev pub rows_of : ℕ → List Row → List Row

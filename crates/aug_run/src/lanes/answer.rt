@@ -12,11 +12,11 @@ use aug_trie::{Outcome, Snapshot};
 
 /// Runs a verb and answers it: updates on the pass, `look` by a new snapshot, and queries from the snapshot that is held.
 pub(crate) fn answer(pass: &mut PassOf, held: &mut Snapshot, verb: Verb) -> Reply
-    requires held { HasSnapshot pass.old held.old.number }
+    requires held { HasSnapshot pass.old held.old }
     requires in_bounds { IsTrue (is_in_bounds pass.old.round.bits verb) }
     requires budget { IsTrue (is_update verb) → pass.old.spent < pass.old.round.updates }
     ensures answers { Answers verb result (lane_at pass.old held.old) (lane_at pass.new held.new) }
-    ensures held { HasSnapshot pass.new held.new.number }
+    ensures held { HasSnapshot pass.new held.new }
     ensures round { pass.new.round ≡ pass.old.round }
     ensures spent { pass.new.spent ≡ pass.old.spent + (if is_update verb then 1 else 0) }
 {

@@ -8,7 +8,7 @@ use Rattle.aug_model.specs.declared.calls.Calls.{Calls}
 use Rattle.aug_query.specs.DescendBoth.{BothSets}
 use Rattle.aug_query.specs.Tree.{IsTreeSet}
 use Rattle.aug_words.specs.Seats.{Known}
-use Rattle.aug_trie.specs.Snapshot.{first_place}
+use Rattle.aug_trie.specs.Snapshot.{index_in}
 use Rattle.aug_trie.specs.inside.Knows.{root_numbers}
 use Rattle.aug_trie.specs.inside.NamedCuts.{cut_named}
 use Rattle.aug_trie.specs.inside.NodesUnder.{same_under, IsNodeUnder}
@@ -17,7 +17,7 @@ use Rattle.aug_trie.specs.declared.queries.snapshot.Snapshot.{Snapshot}
 
 -- the index of the root's entry that a snapshot saw
 abbrev pub top_of : SeatView → Snapshot → ℕ
-top_of v s = first_place (root_numbers v.shape v.seen) s.number
+top_of v s = index_in (root_numbers v.shape v.seen) s
 
 -- the sets that two snapshots show, and where their trees have the same node
 abbrev pub both_seen : SeatView → Snapshot → Snapshot → BothSets
@@ -28,7 +28,7 @@ module _ (face : ℕ → ℕ → List (ℕ × ℕ) → List ℕ) where
   pub record IsNamedUnder (v : SeatView) (s : Snapshot) (level place word : ℕ) : Type 0 where
     pub knows_table : KnowsTable face v
     pub is_tree_set : IsTreeSet (set_seen v s)
-    pub cut_is : cut_named v.shape v.seen s.number ≡ root_cut v.shape v.seen (top_of v s)
+    pub cut_is : cut_named v.shape v.seen s ≡ root_cut v.shape v.seen (top_of v s)
     pub node : IsNodeUnder v.shape v.seen (top_of v s) level place word
 
   -- two words name those of both trees

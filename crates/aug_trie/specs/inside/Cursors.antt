@@ -7,5 +7,5 @@ use Rattle.aug_trie.specs.declared.queries.cursor.SnapshotCursor.{SnapshotCursor
 
 -- opaque: the cursor is over one of the pass's snapshots: it keeps words of nodes of that snapshot's tree
 pub record IsCursorOf (pass : PassFacts) (at : SnapshotCursor) : Type 0 where
-  pub of_pass : HasSnapshot pass at.snapshot.number
-  pub is_cursor : IsCursor (IsNodeAt pass.words.shape pass.words.book (snapshot_cut pass at.snapshot.number)) (set_at pass at.snapshot) at.cursor
+  pub of_pass : HasSnapshot pass at.snapshot
+  pub is_cursor : IsCursor (IsNodeAt pass.words.shape pass.words.book (snapshot_cut pass at.snapshot)) (set_at pass at.snapshot) at.cursor

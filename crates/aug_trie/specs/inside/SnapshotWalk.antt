@@ -13,14 +13,14 @@ use Rattle.aug_trie.specs.declared.queries.snapshot.Snapshot.{Snapshot}
 
 -- the set that a snapshot shows in what a pass has seen
 abbrev pub set_seen : SeatView → Snapshot → SetFacts
-set_seen v s = members_of v.shape.bits (cut_named v.shape v.seen s.number)
+set_seen v s = members_of v.shape.bits (cut_named v.shape v.seen s)
 
 module _ (face : ℕ → ℕ → List (ℕ × ℕ) → List ℕ) where
   -- the word names the node at a level and a place of the snapshot's tree
   pub record IsNamed (v : SeatView) (s : Snapshot) (level place word : ℕ) : Type 0 where
     pub knows_table : KnowsTable face v
     pub is_tree_set : IsTreeSet (set_seen v s)
-    pub node : IsNodeAt v.shape v.seen (cut_named v.shape v.seen s.number) level place word
+    pub node : IsNodeAt v.shape v.seen (cut_named v.shape v.seen s) level place word
 
   -- what a walk goes by: the bits of its keys, and the root
   pub record IsWalk (v : SeatView) (s : Snapshot) (bits : ℕ) : Type 0 where

@@ -18,7 +18,7 @@ impl<'r, A: Monoid, B: Monoid> Pass<'r, A, B> {
     /// `3 * bits * n + 2` for `n` members. Only these two take memory.
     #[inline(always)]
     pub fn ask<Q: Query<A, B>>(&mut self, s: Snapshot, query: Q) -> Q::Answer
-        requires { HasSnapshot self.old s.number }
+        requires { HasSnapshot self.old s }
         ensures answer { Q.Answers query (set_at self.old s) result }
         ensures reads { Reads (summary_of A.parts B.parts) (steps_for (Q.most query (set_at self.old s))) self.old self.new }
     {
@@ -31,7 +31,7 @@ impl<'r, A: Monoid, B: Monoid> Pass<'r, A, B> {
     /// The tree of a snapshot, for a query that goes over any [`Tree`](aug_query::Tree). Once the view that this call gives is gone, contracts know
     /// nothing about the pass. To use the pass again, write the [`View`] out.
     pub fn view<'p>(&'p mut self, s: Snapshot) -> View<'p, 'r, A, B>
-        requires { HasSnapshot self.old s.number }
+        requires { HasSnapshot self.old s }
         ensures same_reference { result.pass.ghost_name ≡ self.entry.ghost_name }
         ensures pass { result.pass.now ≡ self.old }
         ensures snapshot { result.snapshot ≡ s }

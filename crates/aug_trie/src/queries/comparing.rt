@@ -19,8 +19,8 @@ impl<'r, A: Monoid, B: Monoid> Pass<'r, A, B> {
     /// differ, however many members there are, and none if both snapshots are the same. A key that was removed and put in again with its old
     /// weight has not changed.
     pub fn changes(&mut self, earlier: Snapshot, later: Snapshot, from: u32) -> Changes
-        requires earlier { HasSnapshot self.old earlier.number }
-        requires later { HasSnapshot self.old later.number }
+        requires earlier { HasSnapshot self.old earlier }
+        requires later { HasSnapshot self.old later }
         ensures answer { result.items ≡ take 32 (changes_from (set_at self.old earlier) (set_at self.old later) from) }
         ensures reads { Reads (summary_of A.parts B.parts) (compare_steps self.old earlier later from) self.old self.new }
         ensures none { earlier ≡ later → self.new.steps ≡ self.old.steps }

@@ -23,7 +23,7 @@ pub struct SnapshotCursor {
 impl<'r, A: Monoid, B: Monoid> Pass<'r, A, B> {
     /// The gap before the first member of a snapshot from `k` on, or behind all members if there is none. It takes at most `bits + 2` steps.
     pub fn cursor_from(&mut self, s: Snapshot, k: u32) -> SnapshotCursor
-        requires { HasSnapshot self.old s.number }
+        requires { HasSnapshot self.old s }
         ensures of_pass { IsCursorOf self.new result }
         ensures snapshot { result.snapshot ≡ s }
         ensures gap { result.cursor.gap ≡ min k (2 ^ self.old.round.bits) }

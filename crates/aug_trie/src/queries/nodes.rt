@@ -41,10 +41,10 @@ pub(crate) fn summary_at<A: Monoid, B: Monoid, W: RecordWords>(
     word: u64,
 ) -> Summary<A, B>
     requires knows { KnowsTable (face A.parts B.parts) (W.known words.old).view }
-    requires node { IsNodeAt (W.known words.old).view.shape (W.known words.old).view.seen (cut_named (W.known words.old).view.shape (W.known words.old).view.seen snapshot.number) level place word }
+    requires node { IsNodeAt (W.known words.old).view.shape (W.known words.old).view.seen (cut_named (W.known words.old).view.shape (W.known words.old).view.seen snapshot) level place word }
     ensures table { (W.known words.new).table ≡ (W.known words.old).table }
     ensures looks { Looks 3 (W.known words.old).view (W.known words.new).view }
-    ensures tells { IsTreeOf (summary_of A.parts B.parts) (W.known words.old).view.shape.bits (cut_named (W.known words.old).view.shape (W.known words.old).view.seen snapshot.number) level place result }
+    ensures tells { IsTreeOf (summary_of A.parts B.parts) (W.known words.old).view.shape.bits (cut_named (W.known words.old).view.shape (W.known words.old).view.seen snapshot) level place result }
 {
     if level == 0 {
         return leaf_summary(place, word);
@@ -69,10 +69,10 @@ pub(crate) fn node_at<A: Monoid, B: Monoid>(
     word: u64,
 ) -> Node<A, B>
     requires knows { KnowsTable (face A.parts B.parts) pass.old.view }
-    requires node { IsNodeAt pass.old.view.shape pass.old.view.seen (cut_named pass.old.view.shape pass.old.view.seen snapshot.number) level place word }
+    requires node { IsNodeAt pass.old.view.shape pass.old.view.seen (cut_named pass.old.view.shape pass.old.view.seen snapshot) level place word }
     ensures table { pass.new.table ≡ pass.old.table }
     ensures looks { Looks 3 pass.old.view pass.new.view }
-    ensures tells { IsTreeOf (summary_of A.parts B.parts) pass.old.view.shape.bits (cut_named pass.old.view.shape pass.old.view.seen snapshot.number) level place result.summary }
+    ensures tells { IsTreeOf (summary_of A.parts B.parts) pass.old.view.shape.bits (cut_named pass.old.view.shape pass.old.view.seen snapshot) level place result.summary }
     ensures snapshot { result.snapshot ≡ snapshot }
     ensures level { result.level ≡ level }
     ensures place { result.place ≡ place }
@@ -95,12 +95,12 @@ pub(crate) fn left_of<A: Monoid, B: Monoid>(
     node: &Node<A, B>,
 ) -> Node<A, B>
     requires knows { KnowsTable (face A.parts B.parts) pass.old.view }
-    requires node { IsNodeAt pass.old.view.shape pass.old.view.seen (cut_named pass.old.view.shape pass.old.view.seen node.now.snapshot.number) node.now.level node.now.place node.now.word }
+    requires node { IsNodeAt pass.old.view.shape pass.old.view.seen (cut_named pass.old.view.shape pass.old.view.seen node.now.snapshot) node.now.level node.now.place node.now.word }
     requires inner { 1 ≤ node.now.level }
     ensures table { pass.new.table ≡ pass.old.table }
     ensures looks { Looks 4 pass.old.view pass.new.view }
-    ensures named { IsNodeAt pass.old.view.shape pass.old.view.seen (cut_named pass.old.view.shape pass.old.view.seen node.now.snapshot.number) result.level result.place result.word }
-    ensures tells { IsTreeOf (summary_of A.parts B.parts) pass.old.view.shape.bits (cut_named pass.old.view.shape pass.old.view.seen node.now.snapshot.number) result.level result.place result.summary }
+    ensures named { IsNodeAt pass.old.view.shape pass.old.view.seen (cut_named pass.old.view.shape pass.old.view.seen node.now.snapshot) result.level result.place result.word }
+    ensures tells { IsTreeOf (summary_of A.parts B.parts) pass.old.view.shape.bits (cut_named pass.old.view.shape pass.old.view.seen node.now.snapshot) result.level result.place result.summary }
     ensures snapshot { result.snapshot ≡ node.now.snapshot }
     ensures level { result.level + 1 ≡ node.now.level }
     ensures place { result.place ≡ 2 * node.now.place }
@@ -116,12 +116,12 @@ pub(crate) fn right_of<A: Monoid, B: Monoid>(
     node: &Node<A, B>,
 ) -> Node<A, B>
     requires knows { KnowsTable (face A.parts B.parts) pass.old.view }
-    requires node { IsNodeAt pass.old.view.shape pass.old.view.seen (cut_named pass.old.view.shape pass.old.view.seen node.now.snapshot.number) node.now.level node.now.place node.now.word }
+    requires node { IsNodeAt pass.old.view.shape pass.old.view.seen (cut_named pass.old.view.shape pass.old.view.seen node.now.snapshot) node.now.level node.now.place node.now.word }
     requires inner { 1 ≤ node.now.level }
     ensures table { pass.new.table ≡ pass.old.table }
     ensures looks { Looks 4 pass.old.view pass.new.view }
-    ensures named { IsNodeAt pass.old.view.shape pass.old.view.seen (cut_named pass.old.view.shape pass.old.view.seen node.now.snapshot.number) result.level result.place result.word }
-    ensures tells { IsTreeOf (summary_of A.parts B.parts) pass.old.view.shape.bits (cut_named pass.old.view.shape pass.old.view.seen node.now.snapshot.number) result.level result.place result.summary }
+    ensures named { IsNodeAt pass.old.view.shape pass.old.view.seen (cut_named pass.old.view.shape pass.old.view.seen node.now.snapshot) result.level result.place result.word }
+    ensures tells { IsTreeOf (summary_of A.parts B.parts) pass.old.view.shape.bits (cut_named pass.old.view.shape pass.old.view.seen node.now.snapshot) result.level result.place result.summary }
     ensures snapshot { result.snapshot ≡ node.now.snapshot }
     ensures level { result.level + 1 ≡ node.now.level }
     ensures place { result.place ≡ 2 * node.now.place + 1 }

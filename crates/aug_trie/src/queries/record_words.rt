@@ -101,10 +101,10 @@ pub(crate) fn left_word<A: Monoid, B: Monoid, W: RecordWords>(
     word: u64,
 ) -> u64
     requires knows { KnowsTable (face A.parts B.parts) (W.known words.old).view }
-    requires node { IsNodeAt (W.known words.old).view.shape (W.known words.old).view.seen (cut_named (W.known words.old).view.shape (W.known words.old).view.seen snapshot.number) (level + 1) place word }
+    requires node { IsNodeAt (W.known words.old).view.shape (W.known words.old).view.seen (cut_named (W.known words.old).view.shape (W.known words.old).view.seen snapshot) (level + 1) place word }
     ensures table { (W.known words.new).table ≡ (W.known words.old).table }
     ensures looks { Looks 1 (W.known words.old).view (W.known words.new).view }
-    ensures node { IsNodeAt (W.known words.old).view.shape (W.known words.old).view.seen (cut_named (W.known words.old).view.shape (W.known words.old).view.seen snapshot.number) level (2 * place) result }
+    ensures node { IsNodeAt (W.known words.old).view.shape (W.known words.old).view.seen (cut_named (W.known words.old).view.shape (W.known words.old).view.seen snapshot) level (2 * place) result }
 {
     let _ = (snapshot, level, place);
     words.load_word(word, RecordField::Left)
@@ -120,10 +120,10 @@ pub(crate) fn right_word<A: Monoid, B: Monoid, W: RecordWords>(
     word: u64,
 ) -> u64
     requires knows { KnowsTable (face A.parts B.parts) (W.known words.old).view }
-    requires node { IsNodeAt (W.known words.old).view.shape (W.known words.old).view.seen (cut_named (W.known words.old).view.shape (W.known words.old).view.seen snapshot.number) (level + 1) place word }
+    requires node { IsNodeAt (W.known words.old).view.shape (W.known words.old).view.seen (cut_named (W.known words.old).view.shape (W.known words.old).view.seen snapshot) (level + 1) place word }
     ensures table { (W.known words.new).table ≡ (W.known words.old).table }
     ensures looks { Looks 1 (W.known words.old).view (W.known words.new).view }
-    ensures node { IsNodeAt (W.known words.old).view.shape (W.known words.old).view.seen (cut_named (W.known words.old).view.shape (W.known words.old).view.seen snapshot.number) level (2 * place + 1) result }
+    ensures node { IsNodeAt (W.known words.old).view.shape (W.known words.old).view.seen (cut_named (W.known words.old).view.shape (W.known words.old).view.seen snapshot) level (2 * place + 1) result }
 {
     let _ = (snapshot, level, place);
     words.load_word(word, RecordField::Right)
@@ -139,10 +139,10 @@ pub(crate) fn count_at<A: Monoid, B: Monoid, W: RecordWords>(
     word: u64,
 ) -> u32
     requires knows { KnowsTable (face A.parts B.parts) (W.known words.old).view }
-    requires node { IsNodeAt (W.known words.old).view.shape (W.known words.old).view.seen (cut_named (W.known words.old).view.shape (W.known words.old).view.seen snapshot.number) level place word }
+    requires node { IsNodeAt (W.known words.old).view.shape (W.known words.old).view.seen (cut_named (W.known words.old).view.shape (W.known words.old).view.seen snapshot) level place word }
     ensures table { (W.known words.new).table ≡ (W.known words.old).table }
     ensures looks { Looks 1 (W.known words.old).view (W.known words.new).view }
-    ensures value { result ≡ length (keys_below (set_of_cut (cut_named (W.known words.old).view.shape (W.known words.old).view.seen snapshot.number)) level place) }
+    ensures value { result ≡ length (keys_below (set_of_cut (cut_named (W.known words.old).view.shape (W.known words.old).view.seen snapshot)) level place) }
 {
     let _ = (snapshot, place);
     if level == 0 {

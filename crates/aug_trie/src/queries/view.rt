@@ -21,7 +21,7 @@ pub struct View<'p, 'r, A: Monoid, B: Monoid> {
     pub snapshot: Snapshot,
     /// How often the tree was called. Only contracts read it.
     pub calls: Calls,
-    pub ghost of_pass: { HasSnapshot pass.now snapshot.number },
+    pub ghost of_pass: { HasSnapshot pass.now snapshot },
 }
 
 impl<A: Monoid, B: Monoid> Drop for View<'_, '_, A, B> {

@@ -15,14 +15,14 @@ impl<'r, A: Monoid, B: Monoid> Pass<'r, A, B> {
     /// How many bits the keys of its round have.
     pub(crate) fn bits(&self) -> u32
         ensures value { result ≡ self.now.round.bits }
-        ensures sets { (s : Snapshot) → HasSnapshot self.now s.number → IsTreeSet (set_at self.now s) }
+        ensures sets { (s : Snapshot) → HasSnapshot self.now s → IsTreeSet (set_at self.now s) }
     {
         self.account.bits
     }
 
     /// The top of the tree of a snapshot of this pass. It makes at most four steps, and so do `left` and `right`.
     pub fn top(&mut self, s: &Snapshot) -> Node<A, B>
-        requires { HasSnapshot self.old s.now.number }
+        requires { HasSnapshot self.old s.now }
         ensures node { HasNode (summary_of A.parts B.parts) self.new result }
         ensures snapshot { result.snapshot ≡ s.now }
         ensures level { result.level ≡ self.old.round.bits }

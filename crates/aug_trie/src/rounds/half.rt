@@ -42,8 +42,8 @@ impl<A: Monoid, B: Monoid> PassHalf<A, B> {
     #[inline(always)]
     pub fn snapshot(&mut self, round: &Round<A, B>) -> Snapshot
         requires { table_of self.old.round ≡ round.now }
-        ensures takes { TakesSnapshot self.old.knows self.new.knows (snapshot_cut self.new result.number) }
-        ensures known { HasSnapshot self.new result.number }
+        ensures takes { TakesSnapshot self.old.knows self.new.knows (snapshot_cut self.new result) }
+        ensures known { HasSnapshot self.new result }
         ensures goes_on { GoesOn 0 1 self.old self.new }
         ensures step { self.new.steps ≡ self.old.steps ++ load_node (root_of self.old.round) result.number ∷ [] }
         ensures keeps { Keeps (summary_of A.parts B.parts) self.old self.new }

@@ -78,8 +78,8 @@ impl<'r, A: Monoid, B: Monoid> Pass<'r, A, B> {
     pub fn learn(&mut self, note: Note<A, B>) -> Snapshot
         requires table { note.round.table ≡ self.old.round.table }
         ensures learns { HasLearnt self.old.round.era (chain_of self.old) self.old.knows note (chain_of self.new) self.new.knows }
-        ensures takes { TakesSnapshot self.old.knows self.new.knows (snapshot_cut self.new result.number) }
-        ensures known { HasSnapshot self.new result.number }
+        ensures takes { TakesSnapshot self.old.knows self.new.knows (snapshot_cut self.new result) }
+        ensures known { HasSnapshot self.new result }
         ensures goes_on { GoesOn 0 1 self.old self.new }
         ensures step { self.new.steps ≡ self.old.steps ++ load_node (root_of self.old.round) result.number ∷ [] }
         ensures keeps { Keeps (summary_of A.parts B.parts) self.old self.new }

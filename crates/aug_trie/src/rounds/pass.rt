@@ -180,8 +180,8 @@ impl<'r, A: Monoid, B: Monoid> Pass<'r, A, B> {
     /// Takes a snapshot, by one load of the root's word. It shows every change that the pass knows.
     #[inline(always)]
     pub fn snapshot(&mut self) -> Snapshot
-        ensures takes { TakesSnapshot self.old.knows self.new.knows (snapshot_cut self.new result.number) }
-        ensures known { HasSnapshot self.new result.number }
+        ensures takes { TakesSnapshot self.old.knows self.new.knows (snapshot_cut self.new result) }
+        ensures known { HasSnapshot self.new result }
         ensures goes_on { GoesOn 0 1 self.old self.new }
         ensures step { self.new.steps ≡ self.old.steps ++ load_node (root_of self.old.round) result.number ∷ [] }
         ensures keeps { Keeps (summary_of A.parts B.parts) self.old self.new }

@@ -71,7 +71,7 @@ impl<'r, A: Monoid> Pass<'r, A, Extent> {
 
     // The key at one end of a snapshot.
     fn member_at(&mut self, s: Snapshot, side: Side) -> Option<u32>
-        requires { HasSnapshot self.old s.number }
+        requires { HasSnapshot self.old s }
         ensures answer { result ≡ member_at side (list_of (set_at self.old s)) }
         ensures reads { Reads (summary_of A.parts extent_parts) 4 self.old self.new }
     {
@@ -85,7 +85,7 @@ impl<'r, A: Monoid> Pass<'r, A, Extent> {
 impl<'r, A: Monoid, B: Monoid> Pass<'r, A, B> {
     // Takes out a member of a snapshot, if it still weighs what it weighs there.
     fn take_shown(&mut self, s: Snapshot, found: Option<u32>) -> Pop
-        requires snapshot { HasSnapshot self.old s.number }
+        requires snapshot { HasSnapshot self.old s }
         requires member { IfSome found (λ k. (i : ℕ) × (slice_get (list_of (set_at self.old s)) i ≡ Some k)) }
         requires budget { self.old.spent < self.old.round.updates }
         ensures { TakesShown (summary_of A.parts B.parts) (set_at self.old s) found result self.old self.new }

@@ -52,7 +52,7 @@ impl<A: Monoid, B: Monoid> Reader<A, B> {
     #[inline(always)]
     pub fn ask<Q: Query<A, B>>(&mut self, round: &Round<A, B>, s: Snapshot, query: Q) -> Q::Answer
         requires together { table_of self.old.round ≡ round.now }
-        requires snapshot { HasSnapshot self.old s.number }
+        requires snapshot { HasSnapshot self.old s }
         ensures answer { Q.Answers query (set_at self.old s) result }
         ensures reads { Reads (summary_of A.parts B.parts) (steps_for (Q.most query (set_at self.old s))) self.old self.new }
     {
@@ -74,8 +74,8 @@ impl<A: Monoid, B: Monoid> Reader<A, B> {
         from: u32,
     ) -> Changes
         requires together { table_of self.old.round ≡ round.now }
-        requires earlier { HasSnapshot self.old earlier.number }
-        requires later { HasSnapshot self.old later.number }
+        requires earlier { HasSnapshot self.old earlier }
+        requires later { HasSnapshot self.old later }
         ensures answer { result.items ≡ take 32 (changes_from (set_at self.old earlier) (set_at self.old later) from) }
         ensures reads { Reads (summary_of A.parts B.parts) (compare_steps self.old earlier later from) self.old self.new }
         ensures none { earlier ≡ later → self.new.steps ≡ self.old.steps }
@@ -137,8 +137,8 @@ impl<'r, A: Monoid, B: Monoid> Pass<'r, A, B> {
         ensures reader { reader.new ≡ reader.old }
         ensures takes_up { TakesUp reader.old self.new }
         ensures learns { IsPart (chain_of reader.old) (chain_of self.new) }
-        ensures takes { TakesSnapshot self.old.knows self.new.knows (snapshot_cut self.new result.number) }
-        ensures known { HasSnapshot self.new result.number }
+        ensures takes { TakesSnapshot self.old.knows self.new.knows (snapshot_cut self.new result) }
+        ensures known { HasSnapshot self.new result }
         ensures goes_on { GoesOn 0 1 self.old self.new }
         ensures step { self.new.steps ≡ self.old.steps ++ load_node (root_of self.old.round) result.number ∷ [] }
         ensures keeps { Keeps (summary_of A.parts B.parts) self.old self.new }

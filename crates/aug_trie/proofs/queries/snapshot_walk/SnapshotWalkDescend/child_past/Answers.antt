@@ -26,7 +26,7 @@ right_word-high-requires-clause-knows g c = knows_on (face g.A.Monoid.parts g.B.
 
 pub right_word-high-requires-clause-node : goal.right_word-high-requires-clause-node
 right_word-high-requires-clause-node g c = node_on (face g.A.Monoid.parts g.B.Monoid.parts) 2 (c.args.level + 1) c.args.place c.args.node.now _ _ c.self.inside.snapshot (looks_on 1 1 2 _ _ _ (omega arith) c.left_word-low.ensures.looks c.count_at-passed.ensures.looks)
-    (subst (λ (z : Walking). IsNodeAt z.words.view.shape z.words.view.seen (cut_named z.words.view.shape z.words.view.seen z.snapshot.number) (c.args.level + 1) c.args.place c.args.node.now) (sym c.self.view_is) c.requires.node)
+    (subst (λ (z : Walking). IsNodeAt z.words.view.shape z.words.view.seen (cut_named z.words.view.shape z.words.view.seen z.snapshot) (c.args.level + 1) c.args.place c.args.node.now) (sym c.self.view_is) c.requires.node)
 
 pub invariant_of-self : goal.invariant_of-self
 invariant_of-self g c = walk_on (face g.A.Monoid.parts g.B.Monoid.parts) 3 _ _ c.self.inside.snapshot c.self.inside.bits (three g c) c.self.invariant

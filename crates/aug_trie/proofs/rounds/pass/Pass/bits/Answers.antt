@@ -10,4 +10,4 @@ use Rattle.aug_trie.proofs.rounds.pass.Pass.bits.Goals as goal
 
 pub returns-clause-sets : goal.returns-clause-sets
 returns-clause-sets g c s has = let i = c.self.inside in let h = c.self.invariant.pass in let facts = ap (λ (z : Option Known). pass_facts (known_in z) i.account.left) (sym h.there) ∙ c.self.view_is in
-    subst (λ (z : PassFacts). IsTreeSet (set_at z s)) facts (named_set (face g.A.Monoid.parts g.B.Monoid.parts) h.known.view s.number h.is_pass.knows_table)
+    subst (λ (z : PassFacts). IsTreeSet (set_at z s)) facts (named_set (face g.A.Monoid.parts g.B.Monoid.parts) h.known.view s h.is_pass.knows_table)

@@ -21,7 +21,7 @@ of_reader-walk-requires-clause-together g c = let i = c.self.inside in
 pub of_reader-walk-requires-clause-walk : goal.of_reader-walk-requires-clause-walk
 of_reader-walk-requires-clause-walk g c = let i = c.self.inside in
     let told = reader_told (face g.A.Monoid.parts g.B.Monoid.parts) i.words c.in-Some.words i.bits c.args.self.now c.self.invariant (sym c.take.ensures.value ∙ c.in-Some.is) c.self.view_is in
-    walks_by g.A.Monoid.parts g.B.Monoid.parts c.in-Some.words i.bits 0 c.args.s told.1 told.0 (subst (λ (z : PassFacts). HasSnapshot z c.args.s.number) (sym told.2) c.requires.snapshot)
+    walks_by g.A.Monoid.parts g.B.Monoid.parts c.in-Some.words i.bits 0 c.args.s told.1 told.0 (subst (λ (z : PassFacts). HasSnapshot z c.args.s) (sym told.2) c.requires.snapshot)
 
 pub invariant_of-self : goal.invariant_of-self
 invariant_of-self g c = let i = c.self.inside in let w = c.of_reader-walk.result in let most : Loads = g.Q.Query.most c.args.query (set_seen w.words.view w.snapshot) in

@@ -72,10 +72,6 @@ same_index face s book b named q i j e f inside p p' same = ⊎_elim
     (λ (leaf : q < 2 ^ s.bits). let x = (b.serials q i e leaf p).counted in let y = (b.serials q j f leaf p').counted in omega arith)
     (λ (past : 2 ^ s.bits ≤ q). named.once q i j e f record { past_leaves = past; inside = inside } p p' same) (cases_lt q (2 ^ s.bits))
 
--- what is named once in a later book is named once in an earlier one
-pub named_before : (s : Shape) (seen book : Book) → ArePrefixes seen book → NamesOnce s book → NamesOnce s seen
-named_before s seen book later named = record { once = λ q i j e f inner p p' same. named.once q i j e f inner (entry_stays later q i e p) (entry_stays later q j f p') same }
-
 -- no older than the newest
 pub newest_is_last : (book : Book) (q i j : ℕ) (e f : Entry) → IsNewest book q i e → At book q j f → j ≤ i
 newest_is_last book q i j e f new p = let below = at_below (history_of book q) j f p in let long = new.last in omega arith

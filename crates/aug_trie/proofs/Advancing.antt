@@ -8,7 +8,7 @@ use Rattle.aug_core.specs.Places.{Shape, record_start, record_words}
 use Rattle.aug_core.specs.Faces.{face}
 use Rattle.aug_core.specs.Addresses.{place_count, IsInner, left_of, right_of}
 use Rattle.aug_core.specs.inside.Refreshes.{HasNewest, SaysLoaded}
-use Rattle.aug_core.specs.Effects.{HasSeen, KnowsTable, Says, MayStore, IsFilled, TriesNode, storing}
+use Rattle.aug_core.specs.Effects.{GuardsRecord, KnowsTable, Says, MayStore, IsFilled, TriesNode, storing}
 use Rattle.aug_core.specs.declared.view.SeatView.{SeatView}
 use Rattle.aug_core.proofs.FaceLemmas.{left_in, right_in}
 use Rattle.aug_core.proofs.Refreshing.{has_entry}
@@ -22,9 +22,9 @@ use Rattle.aug_trie.specs.declared.turns.points.Point.{Point}
 use Rattle.aug_trie.specs.declared.turns.points.Point.TheVariants.{Node, Left, Right, Part, Record}
 use Rattle.aug_trie.proofs.Going.{took_none, took_one, took_on, may_store_room, goes_self, goes_on, goes_storing, room_on}
 use Rattle.aug_trie.proofs.Looking.{goes_looking}
-use Rattle.aug_trie.proofs.Looked.{looks_on, looks_one, seen_looking, says_looking}
-use Rattle.aug_trie.proofs.Publishing.{may_publish, published, goes_tried, free_again}
-use Rattle.aug_trie.proofs.Telling.{has_seen, part_of_leaf, part_of_node}
+use Rattle.aug_trie.proofs.Looked.{looks_on, looks_one, guards_looking, says_looking}
+use Rattle.aug_trie.proofs.Publishing.{may_publish, published, goes_tried, own_again}
+use Rattle.aug_trie.proofs.Telling.{guards_named, part_of_leaf, part_of_node}
 use Rattle.aug_trie.proofs.Whole.{says, tries, even, part_few}
 use Rattle.aug_core.proofs.PrefixLemmas.{book_refl, book_trans}
 
@@ -183,18 +183,18 @@ module _ {A B : Type 0} (parts_a : Parts A) (parts_b : Parts B) (laws_a : IsMono
         (says parts_a parts_b laws_a laws_b v l.first a.second third third w q from left right _ _ _ _ _ _ _ _ inner few l.node.goes l.goes a.goes self goes l.node.at_node l.at_left a.at_right left_told right_told refl refl)
 
   -- the record of the child whose word is next was seen
-  pub child_seen : (number : ℕ) (r : Reading) (old : SeatView) → TryAt both v q number (Part r) old → HasSeen old (child_at r.left r.right r.count)
-  child_seen number r old t = let a = t.is_at in let third = a.third in let loaded = a.loaded in
+  pub child_guarded : (number : ℕ) (r : Reading) (old : SeatView) → TryAt both v q number (Part r) old → GuardsRecord old (child_at r.left r.right r.count)
+  child_guarded number r old t = let a = t.is_at in let third = a.third in let loaded = a.loaded in
       let shaped = same_shape r.from r.left r.right third loaded in let kn = (goes_right both v q r.from r.left r.right third loaded).knows_table in
       let inner_l : IsInner third.shape (left_of v.shape q) = subst (λ (z : Shape). IsInner z (left_of v.shape q)) (sym shaped) record { past_leaves = a.nodes; inside = inside_left t.inner } in
       let inner_r : IsInner third.shape (right_of v.shape q) = subst (λ (z : Shape). IsInner z (right_of v.shape q)) (sym shaped)
       record { past_leaves = let n = a.nodes in omega arith; inside = let past = t.inner.past_leaves in let inside = t.inner.inside in let w = twice v.shape.bits in omega arith } in
       let e_l = has_entry both third.shape third.seen loaded.second.seen (left_of v.shape q) r.left loaded.goes.later loaded.lefts.at_left in
       let e_r = has_entry both third.shape third.seen third.seen (right_of v.shape q) r.right (book_refl third.seen) loaded.at_right in
-      seen_looking r.count third old (child_at r.left r.right r.count) a.looks
-      (either (ltb r.count 3) (has_seen both third (left_of v.shape q) r.left kn inner_l e_l) (has_seen both third (right_of v.shape q) r.right kn inner_r e_r))
+      guards_looking r.count third old (child_at r.left r.right r.count) a.looks
+      (either (ltb r.count 3) (guards_named both third (left_of v.shape q) r.left kn inner_l e_l) (guards_named both third (right_of v.shape q) r.right kn inner_r e_r))
     where
-      either : (low : Bool) → HasSeen t.is_at.third r.left → HasSeen t.is_at.third r.right → HasSeen t.is_at.third (if low then r.left else r.right)
+      either : (low : Bool) → GuardsRecord t.is_at.third r.left → GuardsRecord t.is_at.third r.right → GuardsRecord t.is_at.third (if low then r.left else r.right)
       either true x y = x
       either false x y = y
 
@@ -315,5 +315,5 @@ module _ {A B : Type 0} (parts_a : Parts A) (parts_b : Parts B) (v : SeatView) (
           took = took_on v old w (8 + 2 * n) 1 (try_steps n) (omega arith) (took_on v held.told old (3 + 2 * n) record_words (8 + 2 * n) (omega arith) took_told took_old) (took_one old w _ refl tried.stepped);
           tries = tries f v first second held.third held.told w q r.from (get_or r.five 0 0) (get_or r.five 1 0) number done t.inner gw.knows_table (gw.shaped ∙ g_old.shaped) g_told.shaped
               l.node.goes.later l.goes.later held.loaded.goes.later (book_trans held.goes.later to_w.later) l.node.at_node l.at_left held.loaded.at_right p
-              (λ bad. free_again f old w q r.from number found done decided tried knows_old bad room_old.is_free);
+              (λ bad. own_again f old w q r.from number found done decided tried knows_old bad (may_store_room old number room_old));
         }

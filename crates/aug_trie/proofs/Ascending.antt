@@ -15,7 +15,7 @@ use Rattle.aug_trie.specs.inside.Stages.{LostTry, IsTry, IsCovered, HasRisen, Ma
 use Rattle.aug_trie.specs.declared.turns.points.Point.{Point}
 use Rattle.aug_trie.specs.declared.turns.points.Point.TheVariants.{Node, Left, Right, Part, Record}
 use Rattle.aug_trie.specs.declared.turns.ascents.Ascent.{Ascent}
-use Rattle.aug_trie.proofs.Going.{goes_on, goes_more, goes_self, took_none, took_on, room_left, room_again}
+use Rattle.aug_trie.proofs.Going.{goes_on, goes_more, goes_self, took_none, took_on, room_left, room_again, may_store_room}
 use Rattle.aug_trie.proofs.Levels.{lifts_none, place_is, cost_first, cost_later, took_level, lifts_level}
 use Rattle.aug_trie.proofs.Advancing.{goes_at}
 
@@ -117,7 +117,7 @@ module _ (f : ℕ → ℕ → List (ℕ × ℕ) → List ℕ) where
           try_at = record {
             inner = subst (λ (z : Shape). IsInner z a.node) (sym o.goes.shaped) inner_now;
             knows_table = o.goes.knows_table;
-            room = room_again f n.below w (number + a.level) (number + a.level + 1) o.goes (o.tries.again bad room_first.is_free) room_first;
+            room = room_again f n.below w (number + a.level) (number + a.level + 1) o.goes (o.tries.again bad (may_store_room n.below (number + a.level) room_first)) room_first;
             is_at = refl;
           };
         }

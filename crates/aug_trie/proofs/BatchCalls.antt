@@ -35,9 +35,9 @@ use Rattle.aug_trie.specs.inside.Climbing.{CameTo, Settled}
 use Rattle.aug_trie.specs.inside.Counted.{HasCounts}
 use Rattle.aug_trie.specs.inside.Goes.{Goes, HasLeaves, HasRoom}
 use Rattle.aug_trie.specs.inside.Knows.{knows, KnowsRound}
-use Rattle.aug_trie.specs.inside.PassState.{pass_facts, known_in, IsPass, KeepsPass}
+use Rattle.aug_trie.specs.inside.PassState.{pass_facts, known_in, IsPass, KeepsAccount}
 use Rattle.aug_trie.proofs.Accepting.{comes_to, knowledge_on, shown_number, stayed_by, updated_knowledge}
-use Rattle.aug_trie.proofs.Going.{goes_after, room_on}
+use Rattle.aug_trie.proofs.Going.{goes_after, room_on, room_within}
 use Rattle.aug_trie.proofs.LeavingAll.{steps_in, made_in}
 use Rattle.aug_trie.proofs.Passing.{pass_told, pass_on, updates_on, weighed_by, stored_by}
 use Rattle.aug_trie.proofs.Raising.{newest_later}
@@ -48,7 +48,7 @@ abbrev blank : SeatView → SeatView
 blank v = record v { held = [] }
 
 abbrev made_alone : SeatView → List Change → SeatView
-made_alone v made = record v { held = record { lane = 0; state = Free; words = []; published = []; changes = made } ∷ [] }
+made_alone v made = record v { held = record { lane = 0; state = Free; owned = []; changes = made } ∷ [] }
 
 module _ (f : ℕ → ℕ → List (ℕ × ℕ) → List ℕ) where
   -- between two views one update's changes may be seen alone
@@ -62,7 +62,8 @@ module _ (f : ℕ → ℕ → List (ℕ × ℕ) → List ℕ) where
     same_eras = g.same_eras;
     lane = refl;
     changes = append-nil made;
-    still_free = λ n past free. absurd (let none : 0 ≡ 1 = ap (λ (z : List Held). length z) free.only in omega arith);
+    holds = λ one. absurd (let none : 0 ≡ 1 = ap (λ (z : List Held). length z) one.1 in omega arith);
+    still_owned = λ n past may. absurd (let none : 0 ≡ 1 = ap (λ (z : List Held). length z) may.only in omega arith);
   }
 
   -- one update of a batch whose leaf is shown in the end
@@ -117,7 +118,7 @@ module _ {A B : Type 0} (parts_a : Parts A) (parts_b : Parts B) where
 
   -- a batch came to this, from a pass as contracts saw it
   pub record BatchMade (now : PassFacts) (keys : List ℕ) (requests : List Request) (outcomes : List Outcome) (z : Known) (after : Account) : Type 0 where
-    pub holds : KeepsPass f (Some z) after
+    pub holds : KeepsAccount f (Some z) after
     pub does : DoesBatch requests keys outcomes now (pass_facts z after.left)
     pub goes_on : (steps : ℕ) × GoesOn (length keys) steps now (pass_facts z after.left)
     pub keeps : Keeps (summary_of parts_a parts_b) now (pass_facts z after.left)
@@ -138,7 +139,7 @@ module _ {A B : Type 0} (parts_a : Parts A) (parts_b : Parts B) where
     pub room : HasRoom w a.next (length keys * a.bits)
     pub small : a.next + length keys * a.bits < 2 ^ 60
 
-  module _ {words : Option Known} {a : Account} {now : PassFacts} {k : Known} (holds : KeepsPass f words a) (facts : pass_facts (known_in words) a.left ≡ now) (there : words ≡ Some k) where
+  module _ {words : Option Known} {a : Account} {now : PassFacts} {k : Known} (holds : KeepsAccount f words a) (facts : pass_facts (known_in words) a.left ≡ now) (there : words ≡ Some k) where
     told : IsPass f k.view a.leaves a.bits a.next a.left × (pass_facts k a.left ≡ now)
     told = pass_told f words k a.leaves a.bits a.next a.left now holds.pass there facts
 
@@ -165,7 +166,7 @@ module _ {A B : Type 0} (parts_a : Parts A) (parts_b : Parts B) where
           bits = p.bits_are ∙ ap (λ (z : Shape). z.bits) (sym shaped);
           low = subst (λ (z : Shape). All (λ (key : ℕ). key < 2 ^ z.bits) keys) (sym shaped) may_batch.low;
           knows_table = left.goes.knows_table;
-          room = record { is_free = room.is_free; room = (let all = room.room in omega (arith, all, le)) };
+          room = room_within w.view a.next (a.left * a.bits) (length keys * a.bits) le room;
           small = omega (arith, small, le);
         }
 

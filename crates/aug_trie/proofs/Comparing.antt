@@ -11,7 +11,7 @@ use Rattle.aug_core.specs.Places.{Shape, node_place}
 use Rattle.aug_core.specs.Book.{Book}
 use Rattle.aug_core.specs.Counts.{changes_of}
 use Rattle.aug_core.specs.Cuts.{pairs_of_cut}
-use Rattle.aug_core.specs.Effects.{HasSeen, KnowsTable, Says}
+use Rattle.aug_core.specs.Effects.{GuardsRecord, KnowsTable, Says}
 use Rattle.aug_core.specs.Faces.{face}
 use Rattle.aug_core.specs.inside.EntryCuts.{entry_of}
 use Rattle.aug_core.specs.inside.RootCuts.{root_cut}
@@ -39,7 +39,7 @@ use Rattle.aug_trie.proofs.LeafWords.{pairs_of_serial}
 use Rattle.aug_trie.proofs.Passing.{pass_told}
 use Rattle.aug_trie.proofs.Snapshots.{entry_shown, cut_is}
 use Rattle.aug_trie.proofs.Trees.{inner_root, named_set, reads_by, still_by}
-use Rattle.aug_trie.proofs.Walking.{node_seen, left_node, right_node, top_node}
+use Rattle.aug_trie.proofs.Walking.{node_guarded, left_node, right_node, top_node}
 
 -- ---- down one tree
 
@@ -70,8 +70,8 @@ module _ {A B : Type 0} (parts_a : Parts A) (parts_b : Parts B) (v : SeatView) (
   below t = subst (λ (z : ℕ). IsNodeUnder v.shape v.seen top z place word) (add-one level) t
 
   -- the record of a node above the leaves may be read
-  pub under_seen : IsNodeUnder v.shape v.seen top (level + 1) place word → HasSeen v word
-  under_seen t = node_seen parts_a parts_b v kn.book (root_cut v.shape v.seen top) level place word (below t).node
+  pub under_guarded : IsNodeUnder v.shape v.seen top (level + 1) place word → GuardsRecord v word
+  under_guarded t = node_guarded parts_a parts_b v kn.book (root_cut v.shape v.seen top) level place word (below t).node
 
   -- and its first two words name its children
   pub left_is_under : IsNodeUnder v.shape v.seen top (level + 1) place word → (r : ℕ) → Says v word 0 r → IsNodeUnder v.shape v.seen top level (2 * place) r

@@ -97,12 +97,12 @@ module _ (face : ℕ → ℕ → List (ℕ × ℕ) → List ℕ) where
     }
 
     -- the pass has its lane's records, and no change
-    pub hands_pass : (s : Shape) (lane leaves next : ℕ) → old.shape ≡ s → old.spare ≡ Some lane → leaves ≡ 2 ^ s.bits → next ≡ first_record s lane → next + lane_records s ≤ record_count s → IsPass face pass leaves s.bits next s.updates
-    hands_pass s lane leaves next shaped spare full first within = let kn = c.is_crew.knows_table.laid_out in let to_s : b.shape ≡ s = same_shape ∙ shaped in
+    pub hands_pass : (s : Shape) (lane leaves next : ℕ) → lane < s.workers → old.shape ≡ s → old.spare ≡ Some lane → leaves ≡ 2 ^ s.bits → next ≡ first_record s lane → next + lane_records s ≤ record_count s → IsPass face pass leaves s.bits next s.updates
+    hands_pass s lane leaves next inside shaped spare full first within = let kn = c.is_crew.knows_table.laid_out in let to_s : b.shape ≡ s = same_shape ∙ shaped in
         let laid : IsLayout s = subst IsLayout shaped kn in let words = laid.words in let few = keys-within s.bits laid.bits.0 laid.bits.1 in
         let small : first_record s lane + s.updates * s.bits < 2 ^ 60 = omega arith in
         subst (λ (z : ℕ). IsPass face pass leaves s.bits z s.updates) (sym first) (subst (λ (z : Shape × Option ℕ). IsPass face pass leaves z.0.bits (first_record z.0 (unwrap_or z.1 0)) z.0.updates) (λ i. (to_s i, (same_spare ∙ spare) i))
-        (pass_begins face b place leaves (pass_table face old b r c.is_crew.knows_table l place) (subst (λ (z : Shape). HasLeaves z leaves) (sym to_s) (record { are = full; few = omega arith }))
+        (pass_begins face b place leaves (subst (λ (z : Shape × Option ℕ). unwrap_or z.1 0 < z.0.workers) (λ i. (sym to_s i, sym (same_spare ∙ spare) i)) inside) (pass_table face old b r c.is_crew.knows_table l place) (subst (λ (z : Shape). HasLeaves z leaves) (sym to_s) (record { are = full; few = omega arith }))
         (subst (λ (z : Shape × Option ℕ). first_record z.0 (unwrap_or z.1 0) + z.0.updates * z.0.bits < 2 ^ 60) (λ i. (sym to_s i, sym (same_spare ∙ spare) i)) small)))
 
     pub hands_counts : HasCounts (changes_of pass.held) 0 0
@@ -141,7 +141,7 @@ module _ (face : ℕ → ℕ → List (ℕ × ℕ) → List ℕ) where
       let at : holds.handed ≡ lane = ap (λ (z : Option ℕ). unwrap_or z 0) (sym holds.is_crew.hands_out ∙ spare) in
       let low : holds.handed < v.shape.workers = let all : v.shape.workers ≡ s.workers = ap (λ (z : Shape). z.workers) shaped in let few = holds.few in omega arith in
       let most = (subst IsLayout shaped holds.is_crew.knows_table.laid_out).bits.1 in let full : leaves ≡ 2 ^ s.bits = one_shl shift 64 (omega arith) ∙ ap (λ (z : ℕ). 2 ^ z) shift_is in
-      let p = hands_pass v h.between h.found back inserts removals place holds h.loaded s lane leaves next shaped spare full first within in
+      let p = hands_pass v h.between h.found back inserts removals place holds h.loaded s lane leaves next (let all : v.shape.workers ≡ s.workers = ap (λ (z : Shape). z.workers) shaped in omega arith) shaped spare full first within in
       let out = hands_out_is v h.between h.found back inserts removals place holds h.loaded old.table free updates low (updates_are ∙ sym (ap (λ (z : Shape). z.updates) shaped)) p.knowledge in record {
         crew = subst (λ (z : SeatView). HoldsCrew face z back inserts removals) (sym h.lead_is) (hands_crew v h.between h.found back inserts removals place holds h.loaded low);
         is_pass = subst (λ (z : SeatView × ℕ × ℕ). IsPass face z.0 leaves z.1 next z.2) (λ j. (sym h.pass_is j, sym bits_are j, sym updates_are j)) p;

@@ -6,12 +6,10 @@ use mathlib.Core.Bool.{false≢true}
 use mathlib.Core.Option.{some, some-injective}
 use lib.ListN.{get_elem?}
 use Rattle.aug_core.specs.Places.{Shape}
-use Rattle.aug_core.specs.Lanes.{first_record, lane_records, block_start, block_size}
 use Rattle.aug_core.specs.Book.{ArePrefixes, IsFresh}
-use Rattle.aug_core.specs.Rule.{Lists}
 use Rattle.aug_core.specs.Counts.{changes_of}
 use Rattle.aug_core.specs.Kinds.{store_record_word}
-use Rattle.aug_core.specs.Effects.{HoldsOnly, own_lane, on_first, with_word, with_published, with_changes, stepping, storing, seeing, beginning, publishing, changing, KnowsTable, MayStore, MayChange, Sees}
+use Rattle.aug_core.specs.Effects.{HoldsOnly, own_lane, on_first, storing_in, publishing_from, with_changes, stepping, storing, seeing, beginning, publishing, changing, KnowsTable, MayStore, MayChange, Sees}
 use Rattle.aug_core.specs.declared.step.StepTaken.{StepTaken}
 use Rattle.aug_core.specs.declared.view.Change.{Change}
 use Rattle.aug_core.specs.declared.step.StepKind.{StepKind}
@@ -19,10 +17,11 @@ use Rattle.aug_core.specs.declared.step.StepKind.TheVariants.{LoadLeaf, TryLeaf,
 use Rattle.aug_core.specs.declared.view.Held.{Held}
 use Rattle.aug_core.specs.declared.view.SeatView.{SeatView}
 use Rattle.aug_core.proofs.Books.{fresh_now, fresh_on}
+use Rattle.aug_core.proofs.Clients.{may_store_same, may_store_on, may_store_changing, may_store_publishing}
 use Rattle.aug_core.proofs.Fits.{knows_shown, knows_same}
 use Rattle.aug_trie.specs.inside.RoundState.{eras_of}
 use Rattle.aug_trie.specs.inside.Points.{QuietStep}
-use Rattle.aug_trie.specs.inside.Goes.{IsFree, HasRoom, Took, TookBetween, Goes}
+use Rattle.aug_trie.specs.inside.Goes.{HasRoom, Took, TookBetween, Goes}
 use Rattle.aug_core.proofs.PrefixLemmas.{book_refl, book_trans}
 
 -- ---- steps, one after another
@@ -72,21 +71,13 @@ changes_on f (h ∷ hs) keeps = ap (λ (z : List Change). z ++ changes_of hs) (k
 pub only_changes : (v : SeatView) (h : Held) → HoldsOnly v h → changes_of v.held ≡ h.changes
 only_changes v h only = ap changes_of only ∙ append-nil h.changes
 
--- a free record may be stored
-pub may_store : (v : SeatView) (next n : ℕ) → IsFree v next → next ≤ n → n < first_record v.shape (own_lane v.held) + lane_records v.shape → MayStore v n
-may_store v next n is_free past below = let lane : own_lane v.held ≡ is_free.lane.lane = ap own_lane is_free.only in record {
-  lane = is_free.lane;
-  only = is_free.only;
-  of_lane = let first = is_free.from_first in let b = subst (λ (z : ℕ). n < first_record v.shape z + lane_records v.shape) lane below in record { from_first = omega arith; below_next = b };
-  unpublished = is_free.unpublished n past;
-}
-
+-- what there is room for may be stored
 pub may_store_room : (v : SeatView) (number : ℕ) → HasRoom v number 1 → MayStore v number
-may_store_room v number r = let room = r.room in may_store v number number r.is_free (omega arith) (omega arith)
+may_store_room v number room = room.owns number (omega arith) (omega arith)
 
 -- the pass may try a leaf, while it has updates left
 pub may_change : (v : SeatView) (next records : ℕ) → HasRoom v next records → length (changes_of v.held) + 2 ≤ 2 * v.shape.updates → MayChange v
-may_change v next records r few = let f = r.is_free in record { lane = f.lane; only = f.only; room = subst (λ (z : List Change). length z + 2 ≤ 2 * v.shape.updates) (only_changes v f.lane f.only) few }
+may_change v next records room few = let h = room.holds in record { lane = h.0; only = h.1; room = subst (λ (z : List Change). length z + 2 ≤ 2 * v.shape.updates) (only_changes v h.0 h.1) few }
 
 -- a load that showed the book is one step, in which no update began
 pub quiet_seeing : (v w : SeatView) (taken : StepTaken) → w ≡ seeing v w.seen taken → ArePrefixes v.seen w.seen → QuietStep v w
@@ -109,7 +100,7 @@ quiet_stepping v w taken is = subst (QuietStep v) (sym is) (record { taken = tak
 
 pub quiet_storing : (v w : SeatView) (place value : ℕ) → w ≡ storing v place value → QuietStep v w
 quiet_storing v w place value is = subst (QuietStep v) (sym is) (
-  record { taken = store_record_word place value; steps = refl; later = book_refl v.seen; shaped = refl; same_members = refl; same_eras = refl; lane = own_lane_on (with_word v.shape place value) v.held (λ h. refl) },
+  record { taken = store_record_word place value; steps = refl; later = book_refl v.seen; shaped = refl; same_members = refl; same_eras = refl; lane = own_lane_on (storing_in v.shape place value) v.held (λ h. refl) },
   refl,
 )
 
@@ -124,7 +115,8 @@ module _ (face : ℕ → ℕ → List (ℕ × ℕ) → List ℕ) where
     same_eras = refl;
     lane = refl;
     changes = sym (append-nil (changes_of v.held));
-    still_free = λ n _ is_free. is_free;
+    holds = λ one. one;
+    still_owned = λ n _ may. may;
   }
 
   -- steps after steps
@@ -138,7 +130,8 @@ module _ (face : ℕ → ℕ → List (ℕ × ℕ) → List ℕ) where
     same_eras = y.same_eras ∙ x.same_eras;
     lane = y.lane ∙ x.lane;
     changes = y.changes ∙ ap (λ (z : List Change). z ++ more) x.changes ∙ append_assoc (changes_of u.held) gained more ∙ ap (λ (z : List Change). changes_of u.held ++ z) total;
-    still_free = λ n past is_free. y.still_free n (omega arith) (x.still_free n (omega arith) is_free);
+    holds = λ one. y.holds (x.holds one);
+    still_owned = λ n past may. y.still_owned n (omega arith) (x.still_owned n (omega arith) may);
   }
 
   -- steps that gain no change, after others
@@ -146,7 +139,7 @@ module _ (face : ℕ → ℕ → List (ℕ × ℕ) → List ℕ) where
   goes_on a b c gained u v w ac bc x y = goes_after a b c gained [] gained u v w ac bc (append-nil gained) x y
 
   pub goes_more : (a c : ℕ) (gained : List Change) (v w : SeatView) → a ≤ c → Goes face a gained v w → Goes face c gained v w
-  goes_more a c gained v w le g = record { later = g.later; fresh = g.fresh; knows_table = g.knows_table; shaped = g.shaped; same_members = g.same_members; same_eras = g.same_eras; lane = g.lane; changes = g.changes; still_free = λ n past f. g.still_free n (omega arith) f }
+  goes_more a c gained v w le g = record { later = g.later; fresh = g.fresh; knows_table = g.knows_table; shaped = g.shaped; same_members = g.same_members; same_eras = g.same_eras; lane = g.lane; changes = g.changes; holds = g.holds; still_owned = λ n past may. g.still_owned n (omega arith) may }
 
   -- a view that only made a step
   pub goes_stepping : (v w : SeatView) (taken : StepTaken) → w ≡ stepping v taken → KnowsTable face v → Goes face 0 [] v w
@@ -159,31 +152,23 @@ module _ (face : ℕ → ℕ → List (ℕ × ℕ) → List ℕ) where
     same_eras = refl;
     lane = refl;
     changes = sym (append-nil (changes_of v.held));
-    still_free = λ n _ f. record { lane = f.lane; only = f.only; from_first = f.from_first; unpublished = f.unpublished; long = f.long };
+    holds = λ one. one;
+    still_owned = λ n _ may. may_store_same v (stepping v taken) n refl refl may;
   }
 
   -- one that stored a word of its lane
   pub goes_storing : (v w : SeatView) (place value : ℕ) → w ≡ storing v place value → KnowsTable face v → Goes face 0 [] v w
-  goes_storing v w place value is kn = let f' : Held → Held = with_word v.shape place value in subst (Goes face 0 [] v) (sym is) record {
+  goes_storing v w place value is kn = let f' : Held → Held = storing_in v.shape place value in subst (Goes face 0 [] v) (sym is) record {
     later = book_refl v.seen;
     fresh = fresh_now v.shape v.seen;
     knows_table = knows_same face v v.live v.also (storing v place value).held v.spare v.began (storing v place value).steps kn;
     shaped = refl;
     same_members = refl;
     same_eras = refl;
-    lane = own_lane_on (with_word v.shape place value) v.held (λ h. refl);
-    changes = changes_on (with_word v.shape place value) v.held (λ h. refl) ∙ sym (append-nil (changes_of v.held));
-    still_free = λ n _ f. record { lane = with_word v.shape place value f.lane; only = ap (on_first (with_word v.shape place value)) f.only; from_first = f.from_first; unpublished = f.unpublished; long = length-set f.lane.words (place - block_start v.shape f.lane.lane) value ∙ f.long };
-  }
-
-  -- what is free stays so for another that holds the same lanes
-  free_same : (v w : SeatView) (n : ℕ) → w.shape ≡ v.shape → w.held ≡ v.held → IsFree v n → IsFree w n
-  free_same v w n shaped held f = record {
-    lane = f.lane;
-    only = held ∙ f.only;
-    from_first = subst (λ (z : Shape). first_record z f.lane.lane ≤ n) (sym shaped) f.from_first;
-    unpublished = f.unpublished;
-    long = subst (λ (z : Shape). length f.lane.words ≡ block_size z) (sym shaped) f.long;
+    lane = own_lane_on (storing_in v.shape place value) v.held (λ h. refl);
+    changes = changes_on (storing_in v.shape place value) v.held (λ h. refl) ∙ sym (append-nil (changes_of v.held));
+    holds = λ one. (f' one.0, ap (on_first f') one.1);
+    still_owned = λ n _ may. may_store_on v (storing v place value) place value n may refl;
   }
 
   goes_shown : (v w : SeatView) → w.shape ≡ v.shape → w.members ≡ v.members → eras_of w ≡ eras_of v → w.held ≡ v.held → KnowsTable face v → Sees face v w → Goes face 0 [] v w
@@ -196,7 +181,8 @@ module _ (face : ℕ → ℕ → List (ℕ × ℕ) → List ℕ) where
     same_eras = era;
     lane = ap own_lane held;
     changes = ap changes_of held ∙ sym (append-nil (changes_of v.held));
-    still_free = λ n _ f. free_same v w n shaped held f;
+    holds = λ one. (one.0, held ∙ one.1);
+    still_owned = λ n _ may. may_store_same v w n shaped held may;
   }
 
   -- a view that was shown the whole book
@@ -210,27 +196,18 @@ module _ (face : ℕ → ℕ → List (ℕ × ℕ) → List ℕ) where
   -- a view that published a record
   pub goes_publishing : (v w : SeatView) (number : ℕ) (taken : StepTaken) → w ≡ publishing v w.seen number taken → KnowsTable face v → Sees face v w → Goes face (number + 1) [] v w
   goes_publishing v w number taken is kn sees = let shaped : w.shape ≡ v.shape = ap (λ (z : SeatView). z.shape) is in let same : w.members ≡ v.members = ap (λ (z : SeatView). z.members) is in let era : eras_of w ≡ eras_of v = ap eras_of is in
-      let held : w.held ≡ on_first (with_published number) v.held = ap (λ (z : SeatView). z.held) is in record {
+      let held : w.held ≡ on_first (publishing_from number) v.held = ap (λ (z : SeatView). z.held) is in record {
         later = sees.later;
         fresh = sees.fresh;
         knows_table = knows_shown face v w kn sees shaped same;
         shaped = shaped;
         same_members = same;
         same_eras = era;
-        lane = ap own_lane held ∙ own_lane_on (with_published number) v.held (λ h. refl);
-        changes = ap changes_of held ∙ changes_on (with_published number) v.held (λ h. refl) ∙ sym (append-nil (changes_of v.held));
-        still_free = λ n past f. record {
-          lane = with_published number f.lane;
-          only = held ∙ ap (on_first (with_published number)) f.only;
-          from_first = subst (λ (z : Shape). first_record z f.lane.lane ≤ n) (sym shaped) f.from_first;
-          unpublished = λ m above listed. one_more f.lane.published number n m past above (f.unpublished m above) listed.0 listed.1;
-          long = subst (λ (z : Shape). length f.lane.words ≡ block_size z) (sym shaped) f.long;
-        };
+        lane = ap own_lane held ∙ own_lane_on (publishing_from number) v.held (λ h. refl);
+        changes = ap changes_of held ∙ changes_on (publishing_from number) v.held (λ h. refl) ∙ sym (append-nil (changes_of v.held));
+        holds = λ one. (publishing_from number one.0, held ∙ ap (on_first (publishing_from number)) one.1);
+        still_owned = λ n past may. may_store_publishing v w w.seen number n taken is (λ same. omega arith) may;
       }
-    where
-      one_more : (l : List ℕ) (number n m : ℕ) → number + 1 ≤ n → n ≤ m → (Lists l m → ⊥) → (i : ℕ) → get_elem? (number ∷ l) i ≡ some m → ⊥
-      one_more l number n m past above not zero e = let same : number ≡ m = some-injective number m e in omega arith
-      one_more l number n m past above not (suc i) e = not (i, e)
 
   -- a view whose changes were accepted
   pub goes_changing : (v w : SeatView) (more : List Change) (taken : StepTaken) (h : Held) → HoldsOnly v h → w ≡ changing v w.seen more taken → KnowsTable face v → Sees face v w → Goes face 0 more v w
@@ -245,36 +222,28 @@ module _ (face : ℕ → ℕ → List (ℕ × ℕ) → List ℕ) where
         same_eras = era;
         lane = ap own_lane held ∙ own_lane_on (with_changes more) v.held (λ h. refl);
         changes = only_changes w (with_changes more h) new ∙ ap (λ (z : List Change). z ++ more) (sym (only_changes v h only));
-        still_free = λ n past f. record {
-          lane = with_changes more f.lane;
-          only = held ∙ ap (on_first (with_changes more)) f.only;
-          from_first = subst (λ (z : Shape). first_record z f.lane.lane ≤ n) (sym shaped) f.from_first;
-          unpublished = f.unpublished;
-          long = subst (λ (z : Shape). length f.lane.words ≡ block_size z) (sym shaped) f.long;
-        };
+        holds = λ one. (with_changes more one.0, held ∙ ap (on_first (with_changes more)) one.1);
+        still_owned = λ n past may. may_store_changing v w w.seen more n taken is may;
       }
 
   -- ---- records that are left
 
   -- the room that is left after some records were used
   pub room_left : (v w : SeatView) (number done all more : ℕ) (gained : List Change) → done + more ≤ all → Goes face (number + done) gained v w → HasRoom v number all → HasRoom w (number + done) more
-  room_left v w number done all more gained enough g r = record {
-    is_free = let f = r.is_free in let first = f.from_first in
-        g.still_free (number + done) (omega arith) record { lane = f.lane; only = f.only; from_first = omega arith; unpublished = λ n past. f.unpublished n (omega arith); long = f.long };
-    room = subst (λ (z : Shape × ℕ). number + done + more ≤ first_record z.0 z.1 + lane_records z.0) (λ i. (sym g.shaped i, sym g.lane i)) (let room = r.room in omega arith);
-  }
+  room_left v w number done all more gained enough g r = record { holds = g.holds r.holds; owns = λ n past below. g.still_owned n past (r.owns n (omega arith) (omega arith)) }
 
   -- the room of a record that was not published
-  pub room_again : (v w : SeatView) (number used : ℕ) → Goes face used [] v w → IsFree w number → HasRoom v number 1 → HasRoom w number 1
-  room_again v w number used g is_free r = record { is_free = is_free; room = subst (λ (z : Shape × ℕ). number + 1 ≤ first_record z.0 z.1 + lane_records z.0) (λ i. (sym g.shaped i, sym g.lane i)) r.room }
+  pub room_again : (v w : SeatView) (number used : ℕ) → Goes face used [] v w → MayStore w number → HasRoom v number 1 → HasRoom w number 1
+  room_again v w number used g may r = record { holds = g.holds r.holds; owns = λ n past below. let is : number ≡ n = omega arith in subst (MayStore w) is may }
 
   -- steps that published nothing leave all the room
   pub room_on : (gained : List Change) (v w : SeatView) (next records : ℕ) → Goes face 0 gained v w → HasRoom v next records → HasRoom w next records
-  room_on gained v w next records g r = record {
-    is_free = g.still_free next (omega arith) r.is_free;
-    room = subst (λ (z : Shape × ℕ). next + records ≤ first_record z.0 z.1 + lane_records z.0) (λ i. (sym g.shaped i, sym g.lane i)) r.room;
-  }
+  room_on gained v w next records g r = record { holds = g.holds r.holds; owns = λ n past below. g.still_owned n (omega arith) (r.owns n past below) }
 
--- the records from a later one on are free too
-pub free_from : (v : SeatView) (next later : ℕ) → next ≤ later → IsFree v next → IsFree v later
-free_from v next later le f = let first = f.from_first in record { lane = f.lane; only = f.only; from_first = omega arith; unpublished = λ n up listed. f.unpublished n (omega arith) listed; long = f.long }
+-- some of the room
+pub room_within : (v : SeatView) (next all more : ℕ) → more ≤ all → HasRoom v next all → HasRoom v next more
+room_within v next all more le r = record { holds = r.holds; owns = λ n past below. r.owns n past (omega arith) }
+
+-- a view that holds the same lanes has the same room
+pub room_same : (v w : SeatView) (next records : ℕ) → w.shape ≡ v.shape → w.held ≡ v.held → HasRoom v next records → HasRoom w next records
+room_same v w next records shaped held r = record { holds = (r.holds.0, held ∙ r.holds.1); owns = λ n past below. may_store_same v w n shaped held (r.owns n past below) }

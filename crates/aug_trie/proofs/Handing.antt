@@ -1,18 +1,18 @@
 -- What a lead knows as it hands a lane out and takes a pass back.
-use Rattle.std.proofs.Common.{◌≡◌, ℕ, ◌+◌, ◌*◌, ◌^◌, ◌<◌, List, [], ◌∷◌, ◌++◌, append_assoc, length, length-append, All, sym, refl, ap, ◌∙◌, subst, arith}
+use Rattle.std.proofs.Common.{◌≡◌, ℕ, ◌+◌, ◌-◌, ◌*◌, ◌^◌, ◌<◌, List, [], ◌∷◌, ◌++◌, append_assoc, length, length-append, All, sym, refl, ap, ◌∙◌, subst, arith}
 use Rattle.std.specs.Prelude.{unwrap_or, Some}
 use Rattle.std.proofs.lemmas.List.Elements.{All-nil, All-append}
 use mathlib.Core.Option.{some-ne-none}
 use Rattle.aug_core.specs.Addresses.{root_place}
-use Rattle.aug_core.specs.Lanes.{first_record, lane_records}
+use Rattle.aug_core.specs.Lanes.{first_record, lane_records, new_lane}
 use Rattle.aug_core.specs.Counts.{changes_of}
-use Rattle.aug_core.specs.Effects.{HoldsOnly, KnowsTable, LoadsNode, in_state, on_first, new_lane, handing_out, handed_out, taking, finishing, taking_back}
+use Rattle.aug_core.specs.Effects.{HoldsOnly, KnowsTable, LoadsNode, in_state, on_first, handing_out, handed_out, taking, finishing, taking_back, MayStore}
 use Rattle.aug_core.specs.declared.view.Change.{Change}
 use Rattle.aug_core.specs.declared.view.Held.{Held}
 use Rattle.aug_core.specs.declared.view.LaneState.TheVariants.{Taken, Ended}
 use Rattle.aug_core.specs.declared.view.SeatView.{SeatView}
 use Rattle.aug_core.proofs.Fits.{knows_lent, knows_shown, knows_same, knows_taken}
-use Rattle.aug_core.proofs.Splits.{block_long}
+use Rattle.aug_core.proofs.Clients.{new_lane_owns}
 use Rattle.aug_trie.specs.inside.Goes.{HasRoom, HasLeaves}
 use Rattle.aug_trie.specs.History.{last_cut}
 use Rattle.aug_trie.specs.Knowledge.{StandsIn}
@@ -70,26 +70,20 @@ module _ (face : ℕ → ℕ → List (ℕ × ℕ) → List ℕ) where
       knowledge = let k = loaded_knowledge c.knowledge in record { is_history = k.is_history; stands = k.stands };
     }
 
-  -- all records of the new pass's lane are free
-  pub pass_room : (v : SeatView) (place : ℕ) → HasRoom (taking (handed_out v) place) (first_record v.shape (unwrap_or v.spare 0)) (lane_records v.shape)
-  pass_room v place = record {
-    is_free = record {
-      lane = in_state Taken (new_lane v.shape v.words (unwrap_or v.spare 0));
-      only = refl;
-      from_first = omega arith;
-      unpublished = λ n up listed. some-ne-none n (sym listed.1);
-      long = block_long v.shape v.words (unwrap_or v.spare 0);
-    };
-    room = omega arith;
+  -- the new pass owns all records of its lane
+  pub pass_room : (v : SeatView) (place : ℕ) → unwrap_or v.spare 0 < v.shape.workers → HasRoom (taking (handed_out v) place) (first_record v.shape (unwrap_or v.spare 0)) (lane_records v.shape)
+  pass_room v place inside = let first : ℕ = first_record v.shape (unwrap_or v.spare 0) in record {
+    holds = (in_state Taken (new_lane v.shape v.words (unwrap_or v.spare 0)), refl);
+    owns = λ n past below. let is : first + (n - first) ≡ n = omega arith in subst (MayStore (taking (handed_out v) place)) is (new_lane_owns v place (n - first) inside (omega arith));
   }
 
   -- so it is a pass, with all its updates
-  pub pass_begins : (v : SeatView) (place leaves : ℕ) → KnowsTable face (taking (handed_out v) place) → HasLeaves v.shape leaves → first_record v.shape (unwrap_or v.spare 0) + v.shape.updates * v.shape.bits < 2 ^ 60 → IsPass face (taking (handed_out v) place) leaves v.shape.bits (first_record v.shape (unwrap_or v.spare 0)) v.shape.updates
-  pass_begins v place leaves kn l small = let p : SeatView = taking (handed_out v) place in record {
+  pub pass_begins : (v : SeatView) (place leaves : ℕ) → unwrap_or v.spare 0 < v.shape.workers → KnowsTable face (taking (handed_out v) place) → HasLeaves v.shape leaves → first_record v.shape (unwrap_or v.spare 0) + v.shape.updates * v.shape.bits < 2 ^ 60 → IsPass face (taking (handed_out v) place) leaves v.shape.bits (first_record v.shape (unwrap_or v.spare 0)) v.shape.updates
+  pass_begins v place leaves inside kn l small = let p : SeatView = taking (handed_out v) place in record {
     leaves_are = record { are = l.are; few = l.few };
     bits_are = refl;
     knows_table = kn;
-    room = pass_room v place;
+    room = pass_room v place inside;
     budget = omega arith;
     small = small;
     knowledge = record { is_history = is_history face p kn; stands = All-nil (StandsIn (last_cut (knows p).history)) };

@@ -1,5 +1,5 @@
 -- A pass that lends a reader or takes one back is one still, and what a reader's queries come to.
-use Rattle.std.proofs.Common.{◌≡◌, ℕ, Option, Some, List, refl, sym, ap, ◌∙◌, subst}
+use Rattle.std.proofs.Common.{◌*◌, ◌≡◌, ℕ, Option, Some, List, refl, sym, ap, ◌∙◌, subst}
 use Rattle.aug_core.specs.Counts.{changes_of}
 use Rattle.aug_core.specs.Effects.{KnowsTable}
 use Rattle.aug_core.specs.declared.view.SeatView.{SeatView}
@@ -11,12 +11,13 @@ use Rattle.aug_trie.specs.declared.rounds.account.Account.{Account}
 use Rattle.aug_trie.specs.inside.Counted.{HasCounts}
 use Rattle.aug_trie.specs.inside.CrewState.{HoldsCrew}
 use Rattle.aug_trie.specs.inside.Goes.{Looks}
-use Rattle.aug_trie.specs.inside.PassState.{pass_facts, known_in, IsPass, KeepsPass}
+use Rattle.aug_trie.specs.inside.PassState.{pass_facts, known_in, IsPass, KeepsAccount}
 use Rattle.aug_trie.specs.inside.ReaderState.{HoldsReader}
 use Rattle.aug_trie.specs.inside.RoundState.{facts_of}
 use Rattle.aug_trie.proofs.Passing.{pass_told}
 use Rattle.aug_trie.proofs.RoundLemmas.{at_table}
 use Rattle.aug_trie.proofs.SnapshotWalks.{knows_on}
+use Rattle.aug_trie.proofs.Going.{room_same}
 
 -- a view after which only those are others for whom it answers
 pub lent_alone : (old new : SeatView) (lent : List ℕ) → new ≡ record old { lent = lent } → new ≡ record old { lent = new.lent }
@@ -29,18 +30,15 @@ module _ (f : ℕ → ℕ → List (ℕ × ℕ) → List ℕ) where
     leaves_are = record { are = p.leaves_are.are; few = p.leaves_are.few };
     bits_are = p.bits_are;
     knows_table = knows_lent f v lent p.knows_table;
-    room = record {
-      is_free = let i = p.room.is_free in record { lane = i.lane; only = i.only; from_first = i.from_first; unpublished = i.unpublished; long = i.long };
-      room = p.room.room;
-    };
+    room = room_same v (record v { lent = lent }) next (left * bits) refl refl p.room;
     budget = p.budget;
     small = p.small;
     knowledge = record { is_history = p.knowledge.is_history; stands = p.knowledge.stands };
   }
 
   -- a pass that lent a reader, or took one back
-  module _ (words : Option Known) (k w : Known) (a : Account) (now : PassFacts) (holds : KeepsPass f words a) (there : words ≡ Some k) (facts : pass_facts (known_in words) a.left ≡ now) (lent : w.view ≡ record k.view { lent = w.view.lent }) where
-    pub lent_holds : KeepsPass f (Some w) a
+  module _ (words : Option Known) (k w : Known) (a : Account) (now : PassFacts) (holds : KeepsAccount f words a) (there : words ≡ Some k) (facts : pass_facts (known_in words) a.left ≡ now) (lent : w.view ≡ record k.view { lent = w.view.lent }) where
+    pub lent_holds : KeepsAccount f (Some w) a
     lent_holds = let told = pass_told f words k a.leaves a.bits a.next a.left now holds.pass there facts in record {
       pass = record { known = w; there = refl; is_pass = subst (λ (z : SeatView). IsPass f z a.leaves a.bits a.next a.left) (sym lent) (lent_pass k.view w.view.lent a.leaves a.bits a.next a.left told.0) };
       counts = subst (λ (z : SeatView). HasCounts (changes_of z.held) a.inserts a.removals) (sym lent) (subst (λ (z : Option Known). HasCounts (changes_of (known_in z).view.held) a.inserts a.removals) there holds.counts);

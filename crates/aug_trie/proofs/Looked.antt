@@ -2,7 +2,8 @@
 use Rattle.std.proofs.Common.{◌≡◌, ℕ, ◌+◌, ◌≤◌, List, [], ◌∷◌, ◌++◌, length-append, append_assoc, sym, ap, ◌∙◌, subst, arith}
 use Rattle.std.proofs.lemmas.List.{append-nil}
 use Rattle.aug_core.specs.Book.{At}
-use Rattle.aug_core.specs.Effects.{HasSeen, Says, stepping}
+use Rattle.aug_core.proofs.Clients.{guards_same, says_same}
+use Rattle.aug_core.specs.Effects.{GuardsRecord, Says, stepping}
 use Rattle.aug_core.specs.Addresses.{IsInner}
 use Rattle.aug_core.specs.declared.step.StepTaken.{StepTaken}
 use Rattle.aug_core.specs.declared.view.SeatView.{SeatView}
@@ -22,9 +23,9 @@ pub looks_one : (v w : SeatView) (taken : StepTaken) → w ≡ stepping v taken 
 looks_one v w taken is = record { more = taken ∷ []; is = is; few = omega arith }
 
 -- what was seen of a record is so still
-pub seen_looking : (most : ℕ) (v w : SeatView) (number : ℕ) → Looks most v w → HasSeen v number → HasSeen w number
-seen_looking most v w number l h = subst (λ (z : SeatView). HasSeen z number) (sym l.is) record { place = h.place; index = h.index; entry = h.entry; inner = h.inner; at = h.at; numbered = h.numbered }
+pub guards_looking : (most : ℕ) (v w : SeatView) (number : ℕ) → Looks most v w → GuardsRecord v number → GuardsRecord w number
+guards_looking most v w number l h = guards_same v w number (ap (λ (z : SeatView). z.shape) l.is) (ap (λ (z : SeatView). z.seen) l.is) h
 
 -- and what it says
 pub says_looking : (most : ℕ) (v w : SeatView) (number field r : ℕ) → Looks most v w → Says w number field r → Says v number field r
-says_looking most v w number field r l says q i e inner p = says q i e (subst (λ (z : SeatView). IsInner z.shape q) (sym l.is) inner) (subst (λ (z : SeatView). At z.seen q i e) (sym l.is) p)
+says_looking most v w number field r l says = says_same v w number field r (ap (λ (z : SeatView). z.shape) l.is) (ap (λ (z : SeatView). z.seen) l.is) says

@@ -9,7 +9,7 @@ use Rattle.aug_model.specs.declared.summary.Summary.{Summary}
 use Rattle.aug_core.specs.Faces.{face}
 use Rattle.aug_core.specs.Cuts.{Cut, set_of_cut, pairs_of_cut}
 use Rattle.aug_core.specs.Counts.{changes_of}
-use Rattle.aug_core.specs.Effects.{HasSeen, KnowsTable, Says}
+use Rattle.aug_core.specs.Effects.{GuardsRecord, KnowsTable, Says}
 use Rattle.aug_core.specs.declared.view.SeatView.{SeatView}
 use Rattle.aug_core.proofs.Books.{fresh_now}
 use Rattle.aug_core.proofs.Fits.{knows_same}
@@ -19,8 +19,9 @@ use Rattle.aug_trie.specs.inside.LeafPairs.{leaf_pairs}
 use Rattle.aug_trie.specs.inside.NodeWords.{IsNodeAt}
 use Rattle.aug_trie.specs.inside.Goes.{Goes, Looks}
 use Rattle.aug_trie.specs.TreeOf.{IsTreeOf}
-use Rattle.aug_trie.proofs.Walking.{node_seen, left_node, right_node, node_told, count_few, count_told, leaf_told, leaf_weight}
+use Rattle.aug_trie.proofs.Walking.{node_guarded, left_node, right_node, node_told, count_few, count_told, leaf_told, leaf_weight}
 use Rattle.aug_core.proofs.PrefixLemmas.{book_refl}
+use Rattle.aug_core.proofs.Clients.{may_store_same}
 
 -- a view that made steps and learnt nothing
 pub goes_looking : (f : ℕ → ℕ → List (ℕ × ℕ) → List ℕ) (most : ℕ) (v w : SeatView) → Looks most v w → KnowsTable f v → Goes f 0 [] v w
@@ -33,7 +34,8 @@ goes_looking f most v w l kn = subst (Goes f 0 [] v) (sym l.is) record {
   same_eras = refl;
   lane = refl;
   changes = sym (append-nil (changes_of v.held));
-  still_free = λ n _ f. record { lane = f.lane; only = f.only; from_first = f.from_first; unpublished = f.unpublished; long = f.long };
+  holds = λ one. one;
+  still_owned = λ n _ may. may_store_same v (record v { steps = v.steps ++ l.more }) n refl refl may;
 }
 
 module _ {A B : Type 0} (parts_a : Parts A) (parts_b : Parts B) (v : SeatView) (kn : KnowsTable (face parts_a parts_b) v) (cut : Cut) (level place word : ℕ) (t : IsNodeAt v.shape v.seen cut level place word) where
@@ -57,8 +59,8 @@ module _ {A B : Type 0} (parts_a : Parts A) (parts_b : Parts B) (v : SeatView) (
     below = subst (λ (z : ℕ). IsNodeAt v.shape v.seen cut z place word) one_up t
 
     -- the record of an inner node may be read
-    pub record_seen : HasSeen v word
-    record_seen = node_seen parts_a parts_b v kn.book cut (level - 1) place word below
+    pub record_guarded : GuardsRecord v word
+    record_guarded = node_guarded parts_a parts_b v kn.book cut (level - 1) place word below
 
     pub left_is : (r : ℕ) → Says v word 0 r → IsNodeAt v.shape v.seen cut (level - 1) (2 * place) r
     left_is = left_node parts_a parts_b v kn.book cut (level - 1) place word below

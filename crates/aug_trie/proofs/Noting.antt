@@ -29,7 +29,7 @@ use Rattle.aug_trie.specs.inside.Counted.{HasCounts}
 use Rattle.aug_trie.specs.inside.CrewState.{crew_facts, HoldsCrew}
 use Rattle.aug_trie.specs.inside.Knows.{knows, root_history, KnowsRound}
 use Rattle.aug_trie.specs.inside.NoteState.{note_facts}
-use Rattle.aug_trie.specs.inside.PassState.{pass_facts, known_in, IsPass, KeepsPass}
+use Rattle.aug_trie.specs.inside.PassState.{pass_facts, known_in, IsPass, KeepsAccount}
 use Rattle.aug_trie.specs.inside.ReaderState.{HoldsReader}
 use Rattle.aug_trie.specs.inside.RoundState.{round_of, past_rounds}
 use Rattle.aug_trie.specs.declared.rounds.account.Account.{Account}
@@ -42,6 +42,7 @@ use Rattle.aug_trie.proofs.PassCalls.{SnapshotTaken, snapshot_taken}
 use Rattle.aug_trie.proofs.Passing.{pass_told}
 use Rattle.aug_trie.proofs.Snapshots.{root_node}
 use Rattle.aug_trie.proofs.Trees.{keeps_on}
+use Rattle.aug_trie.proofs.Going.{room_same}
 
 -- what a view knows of the rounds of its table
 abbrev view_chain : SeatView → Chain
@@ -50,7 +51,7 @@ view_chain v = chain (past_rounds v.shape v.past) v.members (knows v).history
 module _ (f : ℕ → ℕ → List (ℕ × ℕ) → List ℕ) where
   -- a note knows its table as its maker does
   pub noted_table : (v : SeatView) → KnowsTable f v → KnowsTable f (noted v)
-  noted_table v kn = record { laid_out = kn.laid_out; key_set = kn.key_set; members_fit = kn.members_fit; few_members = kn.few_members; book = kn.book; opened = kn.opened; fits = kn.fits }
+  noted_table v kn = record { laid_out = kn.laid_out; key_set = kn.key_set; members_fit = kn.members_fit; few_members = kn.few_members; book = kn.book; named = kn.named; opened = kn.opened; fits = kn.fits }
 
   -- a view that took a note in, before it loads the root
   learning_table : (v n : SeatView) → KnowsTable f v → KnowsTable f (learning v n)
@@ -62,10 +63,7 @@ module _ (f : ℕ → ℕ → List (ℕ × ℕ) → List ℕ) where
     leaves_are = record { are = p.leaves_are.are; few = p.leaves_are.few };
     bits_are = p.bits_are;
     knows_table = learning_table v n p.knows_table;
-    room = record {
-      is_free = let i = p.room.is_free in record { lane = i.lane; only = i.only; from_first = i.from_first; unpublished = i.unpublished; long = i.long };
-      room = p.room.room;
-    };
+    room = room_same v (learning v n) next (left * bits) refl refl p.room;
     budget = p.budget;
     small = p.small;
     knowledge = record { is_history = p.knowledge.is_history; stands = p.knowledge.stands };
@@ -140,7 +138,7 @@ of_pass p = record { round = p.round; past = p.past; history = p.knows.history }
 
 -- ---- passes
 
-module _ {A B : Type 0} (parts_a : Parts A) (parts_b : Parts B) (words : Option Known) (a : Account) (now : PassFacts) (k : Known) (holds : KeepsPass (face parts_a parts_b) words a) (facts : pass_facts (known_in words) a.left ≡ now) (there : words ≡ Some k) where
+module _ {A B : Type 0} (parts_a : Parts A) (parts_b : Parts B) (words : Option Known) (a : Account) (now : PassFacts) (k : Known) (holds : KeepsAccount (face parts_a parts_b) words a) (facts : pass_facts (known_in words) a.left ≡ now) (there : words ≡ Some k) where
   abbrev f : ℕ → ℕ → List (ℕ × ℕ) → List ℕ
   f = face parts_a parts_b
 
@@ -149,14 +147,14 @@ module _ {A B : Type 0} (parts_a : Parts A) (parts_b : Parts B) (words : Option 
 
   -- a note was made, and the pass is what it was
   pub record NoteMade (note w : Known) : Type 0 where
-    pub still : KeepsPass (face parts_a parts_b) (Some w) a
+    pub still : KeepsAccount (face parts_a parts_b) (Some w) a
     pub same : pass_facts w a.left ≡ now
     pub knows_table : KnowsTable f note.view
     pub note_is : note_facts note ≡ record { round = now.round; past = now.past; history = now.knows.history }
 
   pub note_made : (note w : Known) → w ≡ k → note.table ≡ k.table → note.view ≡ noted k.view → NoteMade note w
   note_made note w same table is = record {
-    still = subst (λ (z : Option Known). KeepsPass (face parts_a parts_b) z a) (there ∙ ap (λ (z : Known). Some z) (sym same)) holds;
+    still = subst (λ (z : Option Known). KeepsAccount (face parts_a parts_b) z a) (there ∙ ap (λ (z : Known). Some z) (sym same)) holds;
     same = ap (λ (z : Known). pass_facts z a.left) same ∙ told.1;
     knows_table = subst (KnowsTable f) (sym is) (noted_table f k.view told.0.knows_table);
     note_is = (λ i. note_facts (record { table = table i; view = is i })) ∙ ap of_pass told.1;
@@ -177,9 +175,9 @@ module _ {A B : Type 0} (parts_a : Parts A) (parts_b : Parts B) (words : Option 
       let mid : Known = record { table = k.table; view = learning v n.view } in
       let root = root_node f v a.leaves a.bits a.next a.left p in
       let loads : LoadsNode f (learning v n.view) (2 * a.leaves - 2) number w.view = subst (λ (z : ℕ). LoadsNode f (learning v n.view) z number w.view) root.1 l.loaded in
-      let held : KeepsPass (face parts_a parts_b) (Some k) a = subst (λ (z : Option Known). KeepsPass (face parts_a parts_b) z a) there holds in
+      let held : KeepsAccount (face parts_a parts_b) (Some k) a = subst (λ (z : Option Known). KeepsAccount (face parts_a parts_b) z a) there holds in
       let counts : HasCounts (changes_of v.held) a.inserts a.removals = held.counts in
-      let still : KeepsPass (face parts_a parts_b) (Some mid) a = record { pass = record { known = mid; there = refl; is_pass = learning_pass f v n.view a.leaves a.bits a.next a.left p }; counts = counts } in
+      let still : KeepsAccount (face parts_a parts_b) (Some mid) a = record { pass = record { known = mid; there = refl; is_pass = learning_pass f v n.view a.leaves a.bits a.next a.left p }; counts = counts } in
       let both : HasLearnt v.era (view_chain v) (knows v) (note_facts n) (view_chain w.view) (knows w.view) = learns_both f v n.view w.view number p.knows_table kn l n.table in record {
         learns = subst (λ (z : PassFacts × NoteFacts). HasLearnt z.0.round.era (chain_of z.0) z.0.knows z.1 (view_chain w.view) (knows w.view)) (λ j. (told.1 j, note_is j)) both;
         taken = snapshot_taken parts_a parts_b (Some mid) a now mid still told.1 refl number w loads table;

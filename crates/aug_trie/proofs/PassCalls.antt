@@ -23,7 +23,7 @@ use Rattle.aug_trie.specs.inside.Goes.{Looks}
 use Rattle.aug_trie.specs.inside.Knows.{knows}
 use Rattle.aug_trie.specs.inside.NamedCuts.{cut_named}
 use Rattle.aug_trie.specs.inside.NodeWords.{IsNodeAt}
-use Rattle.aug_trie.specs.inside.PassState.{pass_facts, known_in, IsPass, KeepsPass}
+use Rattle.aug_trie.specs.inside.PassState.{pass_facts, known_in, IsPass, KeepsAccount}
 use Rattle.aug_trie.specs.declared.queries.node.Node.{Node}
 use Rattle.aug_trie.specs.declared.queries.snapshot.Snapshot.{Snapshot}
 use Rattle.aug_trie.specs.declared.rounds.account.Account.{Account}
@@ -55,7 +55,7 @@ module _ {A B : Type 0} (parts_a : Parts A) (parts_b : Parts B) where
 
   -- an update came to this, from a pass as contracts saw it
   pub record UpdateMade (now : PassFacts) (key : ℕ) (request : Request) (made : LeafUpdate) (w : Known) (after : Account) : Type 0 where
-    pub holds : KeepsPass f (Some w) after
+    pub holds : KeepsAccount f (Some w) after
     pub came_to : ComesTo request key made.outcome now.knows (knows w.view)
     pub tells : Tells request key (told_by made) now.knows (knows w.view)
     pub goes_on : (steps : ℕ) × GoesOn 1 steps now (pass_facts w after.left)
@@ -64,14 +64,14 @@ module _ {A B : Type 0} (parts_a : Parts A) (parts_b : Parts B) where
 
   -- a snapshot was taken
   pub record SnapshotTaken (now : PassFacts) (a : Account) (held : Snapshot) (w : Known) : Type 0 where
-    pub holds : KeepsPass f (Some w) a
+    pub holds : KeepsAccount f (Some w) a
     pub takes : TakesSnapshot now.knows (knows w.view) (snapshot_cut (pass_facts w a.left) held)
     pub known : HasSnapshot (pass_facts w a.left) held
     pub goes_on : GoesOn 0 1 now (pass_facts w a.left)
     pub step : w.view.steps ≡ now.steps ++ load_node (root_of now.round) held.number ∷ []
     pub keeps : Keeps (summary_of parts_a parts_b) now (pass_facts w a.left)
 
-  module _ (words : Option Known) (a : Account) (now : PassFacts) (k : Known) (holds : KeepsPass f words a) (facts : pass_facts (known_in words) a.left ≡ now) (there : words ≡ Some k) where
+  module _ (words : Option Known) (a : Account) (now : PassFacts) (k : Known) (holds : KeepsAccount f words a) (facts : pass_facts (known_in words) a.left ≡ now) (there : words ≡ Some k) where
     told : IsPass f k.view a.leaves a.bits a.next a.left × (pass_facts k a.left ≡ now)
     told = pass_told f words k a.leaves a.bits a.next a.left now holds.pass there facts
 
@@ -137,7 +137,7 @@ module _ {A B : Type 0} (parts_a : Parts A) (parts_b : Parts B) where
     top_at held has = subst (λ (z : ℕ). IsNodeAt k.view.shape k.view.seen (cut held) z 0 held.number) (sym told.0.bits_are) (top_is parts_a parts_b k.view held told.0.knows_table (subst (λ (z : PassFacts). HasSnapshot z held) (sym told.1) has))
 
     module _ (most : ℕ) (w : Known) (looks : Looks most k.view w.view) where
-      pub looked : KeepsPass f (Some w) a
+      pub looked : KeepsAccount f (Some w) a
       looked = let still = still_by f k w a.leaves a.bits a.next a.left a.inserts a.removals most told.0 counts looks in record { pass = still.0; counts = still.1 }
 
       pub reads : w.table ≡ k.table → Reads (summary_of parts_a parts_b) most now (pass_facts w a.left)

@@ -3,7 +3,6 @@ use Rattle.std.proofs.Common.{◌≡◌, ◌⊎◌, Option, Some, ℕ, suc, ◌+
 use Rattle.std.proofs.lemmas.Bool.{cases_Bool}
 use Rattle.std.proofs.Math.Nat.{add-mul}
 use Rattle.aug_core.specs.Places.{Shape}
-use Rattle.aug_core.specs.Lanes.{first_record, lane_records}
 use Rattle.aug_core.specs.Counts.{change, changes_of}
 use Rattle.aug_core.specs.Effects.{KnowsTable, made_by, new_serial}
 use Rattle.aug_core.specs.Kinds.{load_leaf}
@@ -30,7 +29,7 @@ use Rattle.aug_trie.specs.Pass.{PassFacts, GoesOn, StepsOf}
 use Rattle.aug_trie.specs.inside.PassState.{pass_facts, known_in, IsPass, HoldsPass}
 use Rattle.aug_trie.specs.inside.RoundState.{round_of, past_rounds}
 use Rattle.aug_trie.proofs.Accepting.{settled, updated_knowledge, shown_number, stayed_between, stayed_by, stored_fits, weighs_with, went_between}
-use Rattle.aug_trie.proofs.Going.{free_from}
+use Rattle.aug_trie.proofs.Going.{room_left}
 use Rattle.aug_trie.proofs.Requesting.{made_few, made_one, made_two, serial_is, weight_is, to_word, way_next}
 use Rattle.aug_trie.proofs.Histories.{numbers_long}
 
@@ -38,14 +37,11 @@ module _ (face : ℕ → ℕ → List (ℕ × ℕ) → List ℕ) where
   pub pass_on : (v w : SeatView) (leaves bits next left n : ℕ) (gained : List Change) → IsPass face v leaves bits next left → n ≤ left → length gained ≤ 2 * n → Goes face (next + n * bits) gained v w → KnowsRound w → IsPass face w leaves bits (next + n * bits) (left - n)
   pass_on v w leaves bits next left n gained p some few goes known =
       let e : left ≡ n + (left - n) = omega arith in let m : left * bits ≡ n * bits + (left - n) * bits = ap (λ (z : ℕ). z * bits) e ∙ add-mul n (left - n) bits in
-      let free = free_from v next (next + n * bits) (omega arith) p.room.is_free in let shape = goes.shaped in record {
+      let shape = goes.shaped in record {
         leaves_are = subst (λ (z : Shape). HasLeaves z leaves) (sym shape) p.leaves_are;
         bits_are = p.bits_are ∙ ap (λ (z : Shape). z.bits) (sym shape);
         knows_table = goes.knows_table;
-        room = record {
-          is_free = goes.still_free (next + n * bits) (omega arith) free;
-          room = subst (λ (z : Shape × ℕ). next + n * bits + (left - n) * bits ≤ first_record z.0 z.1 + lane_records z.0) (λ i. (sym shape i, sym goes.lane i)) (let r = p.room.room in omega arith);
-        };
+        room = room_left face v w next (n * bits) (left * bits) ((left - n) * bits) gained (omega arith) goes p.room;
         budget = let l : length (changes_of w.held) ≡ length (changes_of v.held) + length gained = ap (λ (z : List Change). length z) goes.changes ∙ length-append (changes_of v.held) gained in
             let u : w.shape.updates ≡ v.shape.updates = ap (λ (z : Shape). z.updates) shape in let b = p.budget in omega arith;
         small = let b = p.small in omega arith;

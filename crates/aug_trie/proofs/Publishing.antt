@@ -4,36 +4,30 @@ use Rattle.std.proofs.lemmas.Bool.{cases_eq, false≢true}
 use Rattle.aug_monoid.specs.Parts.{Parts}
 use Rattle.aug_core.specs.Addresses.{IsInner}
 use Rattle.aug_core.specs.Faces.{face}
-use Rattle.aug_core.specs.Lanes.{first_record, IsOfLane, lane_records}
 use Rattle.aug_core.specs.inside.Refreshes.{SaysLoaded, Published}
-use Rattle.aug_core.specs.Effects.{own_lane, storing, KnowsTable, MayStore, IsFilled, TriesNode}
+use Rattle.aug_core.specs.Effects.{storing, KnowsTable, MayStore, IsFilled, TriesNode}
 use Rattle.aug_core.specs.declared.view.Held.{Held}
 use Rattle.aug_core.specs.declared.view.SeatView.{SeatView}
 use Rattle.aug_core.specs.Places.{record_words}
 use Rattle.aug_core.proofs.FaceLemmas.{left_in, right_in}
-use Rattle.aug_core.proofs.Filling.{put, filled_view, filled_is, holds_filled, filled_lane, five_held, is_filled}
+use Rattle.aug_core.proofs.Clients.{owns_what_it_stores}
+use Rattle.aug_core.proofs.Filling.{put, filled_view, filled_is, filled, says, is_filled}
 use Rattle.aug_words.specs.Seats.{TriedNode}
-use Rattle.aug_trie.specs.inside.Goes.{IsFree, HasRoom, Took, Goes, publish_steps}
+use Rattle.aug_trie.specs.inside.Goes.{HasRoom, Took, Goes, publish_steps}
 use Rattle.aug_trie.proofs.Going.{took_one, took_on, room_on, goes_on, goes_more, goes_storing, goes_seeing, goes_publishing, may_store_room}
-
--- a record that there is room for is the lane's
-pub of_lane : (v : SeatView) (number : ℕ) (room : HasRoom v number 1) → IsOfLane v.shape room.is_free.lane.lane number
-of_lane v number room = let first = room.is_free.from_first in let is : own_lane v.held ≡ room.is_free.lane.lane = ap own_lane room.is_free.only in
-    let b = subst (λ (z : ℕ). number + 1 ≤ first_record v.shape z + lane_records v.shape) is room.room in record { from_first = omega arith; below_next = omega arith }
 
 module _ (face : ℕ → ℕ → List (ℕ × ℕ) → List ℕ) where
   module _ (v : SeatView) (number : ℕ) (five : List ℕ) (room : HasRoom v number 1) where
     -- a record that says what was loaded may be published
     pub may_publish : (q old : ℕ) → SaysLoaded face v.shape v.seen q old five → IsFilled face (filled_view v number five) q old number
-    may_publish q old says = let f = room.is_free in is_filled v number five f.lane f.only (of_lane v number room) f.long face q old says
+    may_publish q old says = is_filled v number five (may_store_room v number room) face q old says
 
     -- what the try tells
     pub published : (w : SeatView) (q old found : ℕ) (done : Bool) → IsInner v.shape q → ((l r : ℕ) (pairs : List (ℕ × ℕ)) → get_or (face l r pairs) 0 0 ≡ l) → ((l r : ℕ) (pairs : List (ℕ × ℕ)) → get_or (face l r pairs) 1 0 ≡ r)
         → (IsTrue done ↔ (found ≡ old)) → TriesNode face (filled_view v number five) q old number found w → Published v.shape q old (get_or five 0 0) (get_or five 1 0) done w.seen
-    published w q old found done inner names_left names_right decided told = let f = room.is_free in let of = of_lane v number room in let o = told.sees.book.over q told.index told.entry inner told.newest.at in
-        let now = holds_filled v number five f.lane f.only of f.long in let mine : Held = filled_lane v number five f.lane f.only of f.long in
-        let says = λ (good : IsTrue done). (told.hit (decided.0 good)).2 mine now in
-        let held = five_held v number five f.lane f.only of f.long mine now in record {
+    published w q old found done inner names_left names_right decided told = let o = told.sees.book.over q told.index told.entry inner told.newest.at in
+        let may : MayStore v number = may_store_room v number room in let mine : MayStore (filled_view v number five) number = filled v number five may in
+        let same = λ (good : IsTrue done). (told.hit (decided.0 good)).2 mine.own (owns_what_it_stores (filled_view v number five) number mine) in record {
           index = told.index;
           entry = told.entry;
           newest = told.newest;
@@ -41,8 +35,8 @@ module _ (face : ℕ → ℕ → List (ℕ × ℕ) → List ℕ) where
           right_child = o.right_child;
           left_at = o.left_at;
           right_at = o.right_at;
-          left_is = λ good. sym (names_left o.left_child.word o.right_child.word told.entry.pairs) ∙ ap (λ (z : List ℕ). get_or z 0 0) (sym o.words_say) ∙ sym (says good 0 (omega arith)) ∙ held 0 (omega arith);
-          right_is = λ good. sym (names_right o.left_child.word o.right_child.word told.entry.pairs) ∙ ap (λ (z : List ℕ). get_or z 1 0) (sym o.words_say) ∙ sym (says good 1 (omega arith)) ∙ held 1 (omega arith);
+          left_is = λ good. sym (names_left o.left_child.word o.right_child.word told.entry.pairs) ∙ ap (λ (z : List ℕ). get_or z 0 0) (sym o.words_say) ∙ sym (same good 0 (omega arith)) ∙ says v number five may 0 (omega arith);
+          right_is = λ good. sym (names_right o.left_child.word o.right_child.word told.entry.pairs) ∙ ap (λ (z : List ℕ). get_or z 1 0) (sym o.words_say) ∙ sym (same good 1 (omega arith)) ∙ says v number five may 1 (omega arith);
           missed = λ bad same. let miss = lost done found old decided bad in miss ((told.miss miss).1 ∙ sym same);
         }
       where
@@ -55,10 +49,10 @@ module _ (face : ℕ → ℕ → List (ℕ × ℕ) → List ℕ) where
         (λ (hit : found ≡ old). goes_publishing face v w number _ (told.hit hit).0 kn told.sees)
         (λ miss. goes_more face 0 (number + 1) [] v w (omega arith) (goes_seeing face v w _ (told.miss miss).0 kn told.sees)) (cases_eq found old)
 
-    -- a try that failed leaves the record free
-    pub free_again : done ≡ false → IsFree v number → IsFree w number
-    free_again is f = let miss : found ≢ old = λ same. (let good : done ≡ true = decided.1 same in false≢true (sym is ∙ good)) in
-        (goes_seeing face v w _ (told.miss miss).0 kn told.sees).still_free number (omega arith) f
+    -- a try that failed leaves the record its own
+    pub own_again : done ≡ false → MayStore v number → MayStore w number
+    own_again is f = let miss : found ≢ old = λ same. (let good : done ≡ true = decided.1 same in false≢true (sym is ∙ good)) in
+        (goes_seeing face v w _ (told.miss miss).0 kn told.sees).still_owned number (omega arith) f
 
 -- ---- both, by what the calls of the stores and of the try say
 
@@ -78,7 +72,7 @@ module _ {A B : Type 0} (parts_a : Parts A) (parts_b : Parts B) where
     pub goes : Goes f (number + 1) [] v w
     pub took : Took v w publish_steps
     pub published : Published v.shape q old left right done w.seen
-    pub again : done ≡ false → IsFree w number
+    pub again : done ≡ false → MayStore w number
 
   -- the views after each of the five stores of the record
   module _ {v v1 v2 v3 v4 v5 : SeatView} {number : ℕ} (five : List ℕ) (room : HasRoom v number 1) (e1 : v1 ≡ put v number 0 (get_or five 0 0)) (e2 : v2 ≡ put v1 number 1 (get_or five 1 0)) (e3 : v3 ≡ put v2 number 2 (get_or five 2 0))
@@ -94,5 +88,5 @@ module _ {A B : Type 0} (parts_a : Parts A) (parts_b : Parts B) where
           goes = goes_on f 0 (number + 1) (number + 1) [] v v5 w (omega arith) (omega arith) g (goes_tried f v5 w q old number t.found done t.decided t.told g.knows_table);
           took = took_on v v5 w record_words 1 publish_steps refl t5 (took_one v5 w _ refl t.told.stepped);
           published = published f v number five room w q old t.found done inner (left_in parts_a parts_b) (right_in parts_a parts_b) t.decided (subst (λ (z : SeatView). TriesNode f z q old number t.found w) (filled_is v v1 v2 v3 v4 v5 number five e1 e2 e3 e4 e5) t.told);
-          again = λ bad. free_again f v5 w q old number t.found done t.decided t.told g.knows_table bad (room_on f [] v v5 number 1 g room).is_free;
+          again = λ bad. own_again f v5 w q old number t.found done t.decided t.told g.knows_table bad (may_store_room v5 number (room_on f [] v v5 number 1 g room));
         }

@@ -48,8 +48,8 @@ of_something amount done other is ne = elim (cases_Bool (amount == 0)) [
 ]
 
 -- a word is that of its serial and its weight
-pub leaf_again : (word : ℕ) → word ≡ word_of_leaf (serial_in_word word) (weight_in_word word)
-leaf_again word = omega arith
+pub leaf_again : (word : ℕ) → serial_in_word word < 2 ^ 32 → word ≡ word_of_leaf (serial_in_word word) (weight_in_word word)
+leaf_again word few = omega arith
 
 -- a subtraction that goes on finds a member that weighs as much
 pub may_take : (amount word : ℕ) → goes_from (Sub amount) word ≡ true → ((serial_in_word word % 2 == 1) ≡ true) × (amount ≤ weight_in_word word)
@@ -174,8 +174,8 @@ remove_stands word = elim (cases_Bool (serial_in_word word % 2 == 1)) [
 ]
 
 -- the word that was loaded is the one that the exchange goes from
-pub from_word : (request : Request) (key word : ℕ) → word ≡ old_word (advance_from request key word)
-from_word request key word = leaf_again word ∙ (λ i. word_of_leaf (sym (serial_is request key word) i) (sym (weight_is request key word) i))
+pub from_word : (request : Request) (key word : ℕ) → serial_in_word word < 2 ^ 32 → word ≡ old_word (advance_from request key word)
+from_word request key word few = leaf_again word few ∙ (λ i. word_of_leaf (sym (serial_is request key word) i) (sym (weight_is request key word) i))
 
 -- and the word that the request makes of it is the one that the exchange goes to
 pub to_word : (request : Request) (key word : ℕ) → word_after request key word ≡ new_word (advance_from request key word)

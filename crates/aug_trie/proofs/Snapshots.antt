@@ -6,7 +6,7 @@ use Rattle.std.proofs.lemmas.List.Elements.{All-nil}
 use Rattle.aug_core.specs.Places.{Shape}
 use Rattle.aug_core.specs.Addresses.{IsInner, root_place}
 use Rattle.aug_core.specs.Lanes.{first_record, lane_records}
-use Rattle.aug_core.specs.Book.{Book, history_of, At, IsBook}
+use Rattle.aug_core.specs.Book.{Book, history_of, At, NamesOnce}
 use Rattle.aug_core.specs.Counts.{changes_of}
 use Rattle.aug_core.specs.inside.RootCuts.{root_cut}
 use Rattle.aug_core.specs.inside.EntryCuts.{entry_of}
@@ -14,7 +14,7 @@ use Rattle.aug_core.specs.Effects.{LoadsNode, opening_of}
 use Rattle.aug_core.specs.declared.view.Change.{Change}
 use Rattle.aug_core.specs.declared.view.Entry.{Entry}
 use Rattle.aug_core.specs.declared.view.SeatView.{SeatView}
-use Rattle.aug_core.proofs.Books.{one_index, at_below}
+use Rattle.aug_core.proofs.Books.{at_below}
 use Rattle.aug_core.proofs.OpeningCuts.{root_inner}
 use Rattle.aug_core.proofs.Sizes.{twice}
 use Rattle.aug_trie.specs.inside.Goes.{HasLeaves, Goes}
@@ -31,7 +31,7 @@ use Rattle.atomic_table.specs.Seated.{TableId}
 use Rattle.aug_core.specs.Kinds.{load_node}
 use Rattle.aug_core.specs.declared.step.StepTaken.{StepTaken}
 use Rattle.aug_trie.proofs.Accepting.{knowledge_on, snapshot_is}
-use Rattle.aug_trie.proofs.Going.{goes_more}
+use Rattle.aug_trie.proofs.Going.{goes_more, room_on}
 use Rattle.aug_trie.proofs.Histories.{some_bits, history_long, numbers_long, cut_at}
 use Rattle.std.proofs.lemmas.List.Sums.{prefix_len_stops, prefix_len_passes}
 use Rattle.std.specs.Prelude.{not}
@@ -75,12 +75,12 @@ pub cut_is : (s : Shape) (book : Book) (held : Snapshot) → HasNamed s book hel
 cut_is s book held has = let long = numbers_long s book in let same = history_long s book in cut_at s book (index_in (root_numbers s book) held) (omega arith)
 
 -- one with the number of an entry of the root shows that entry, for a record stands once in the root's history
-pub shows_entry : (face : ℕ → ℕ → List (ℕ × ℕ) → List ℕ) (s : Shape) (book : Book) (held : Snapshot) (i : ℕ) (e : Entry) → IsBook face s book → IsInner s (root_place s) → At book (root_place s) i e → held.number ≡ e.number
+pub shows_entry : (s : Shape) (book : Book) (held : Snapshot) (i : ℕ) (e : Entry) → NamesOnce s book → IsInner s (root_place s) → At book (root_place s) i e → held.number ≡ e.number
     → HasNamed s book held × (cut_named s book held ≡ root_cut s book i)
-shows_entry face s book held i e b inner at numbered =
+shows_entry s book held i e named inner at numbered =
     let n = number_at s book i e at in let has : HasNamed s book held = index_low (root_numbers s book) i held n.0 (n.1 ∙ sym numbered) in
     let t = entry_shown s book held has in
-    (has, cut_is s book held has ∙ ap (root_cut s book) (one_index face s book b (root_place s) t.index i t.entry e inner t.at at (sym t.numbered ∙ numbered)))
+    (has, cut_is s book held has ∙ ap (root_cut s book) (named.once (root_place s) t.index i t.entry e inner t.at at (sym t.numbered ∙ numbered)))
 
 module _ (face : ℕ → ℕ → List (ℕ × ℕ) → List ℕ) where
   -- a pass that only looked is one still
@@ -89,10 +89,7 @@ module _ (face : ℕ → ℕ → List (ℕ × ℕ) → List ℕ) where
     leaves_are = subst (λ (z : Shape). HasLeaves z leaves) (sym shape) p.leaves_are;
     bits_are = p.bits_are ∙ ap (λ (z : Shape). z.bits) (sym shape);
     knows_table = goes.knows_table;
-    room = record {
-      is_free = goes.still_free next (omega arith) p.room.is_free;
-      room = subst (λ (z : Shape × ℕ). next + left * bits ≤ first_record z.0 z.1 + lane_records z.0) (λ i. (sym shape i, sym goes.lane i)) p.room.room;
-    };
+    room = room_on face [] v w next (left * bits) g p.room;
     budget = let l : length (changes_of w.held) ≡ length (changes_of v.held) = ap (λ (z : List Change). length z) (goes.changes ∙ append-nil (changes_of v.held)) in
         let u : w.shape.updates ≡ v.shape.updates = ap (λ (z : Shape). z.updates) shape in let b = p.budget in omega arith;
     small = p.small;
@@ -110,7 +107,7 @@ module _ (face : ℕ → ℕ → List (ℕ × ℕ) → List ℕ) where
     held = record { number = r }
 
     shows : HasNamed v.shape w.seen held × (cut_named v.shape w.seen held ≡ root_cut v.shape w.seen t.index)
-    shows = shows_entry face v.shape w.seen held t.index t.entry t.sees.book (root_inner face (opening_of v) (some_bits face v p.knows_table)) t.newest.at t.found
+    shows = shows_entry v.shape w.seen held t.index t.entry t.sees.named (root_inner face (opening_of v) (some_bits face v p.knows_table)) t.newest.at t.found
 
     shaped : w.shape ≡ v.shape
     shaped = ap (λ (z : SeatView). z.shape) t.stepped

@@ -26,7 +26,7 @@ use Rattle.aug_trie.specs.declared.turns.points.Point.TheVariants.{Node}
 use Rattle.aug_trie.specs.declared.turns.ascents.Ascent.{Ascent}
 use Rattle.aug_trie.specs.declared.turns.stages.Stage.{Stage}
 use Rattle.aug_trie.specs.declared.turns.stages.Stage.TheVariants.{Leaf, Change, Up}
-use Rattle.aug_trie.proofs.Going.{may_change, room_on, goes_after}
+use Rattle.aug_trie.proofs.Going.{may_change, room_on, goes_after, room_within}
 use Rattle.aug_trie.proofs.Requesting.{from_word, to_word}
 use Rattle.aug_trie.proofs.Updating.{goes_begun, goes_leaf, advances, serial_few, told, may_rise, refused_at_once, updated}
 use Rattle.aug_trie.proofs.Ascending.{way_begins}
@@ -42,7 +42,7 @@ module _ (f : ℕ → ℕ → List (ℕ × ℕ) → List ℕ) where
   -- what one update takes of the records that are left
   pub room_one : (u : SeatView) (leaves bits number left : ℕ) → IsPass f u leaves bits number left → 1 ≤ left → HasRoom u number bits × (number + bits < 2 ^ 60) × (1 ≤ bits)
   room_one u leaves bits number left p some = let e : left ≡ suc (left - 1) = omega arith in let m : left * bits ≡ (left - 1) * bits + bits = ap (λ (z : ℕ). z * bits) e ∙ suc-mul (left - 1) bits in
-      let r = p.room.room in let s = p.small in let b = p.knows_table.laid_out.bits.0 in let is = p.bits_are in (record { is_free = p.room.is_free; room = omega arith }, omega arith, omega arith)
+      let s = p.small in let b = p.knows_table.laid_out.bits.0 in let is = p.bits_are in (room_within u number (left * bits) bits (omega arith) p.room, omega arith, omega arith)
 
   module _ {leaves bits number left key : ℕ} {request : Request} {u : SeatView} where
     -- a stage is what it was matched with
@@ -111,16 +111,16 @@ module _ (f : ℕ → ℕ → List (ℕ × ℕ) → List ℕ) where
         a = advance_from request key word
 
         told_old : TriesLeaf f old key a tried.found w
-        told_old = told f u old key word request t.low t.is_pass.knows_table loaded t.fits t.is_stage.lets w ok room_old.is_free.lane room_old.is_free.only tried
+        told_old = told f u old key word request t.low t.is_pass.knows_table loaded t.fits t.is_stage.lets w ok room_old.holds.0 room_old.holds.1 tried
 
         g_new : (gained : List changed.Change) × Goes f 0 gained old w
-        g_new = goes_leaf f old w key tried.found a room_old.is_free.lane room_old.is_free.only g_old.knows_table told_old
+        g_new = goes_leaf f old w key tried.found a room_old.holds.0 room_old.holds.1 g_old.knows_table told_old
 
         same_beginning : w.began ≡ old.began
-        same_beginning = ⊎_elim (λ (hit : tried.found ≡ old_word a). ap (λ (z : SeatView). z.began) (told_old.hit hit).0) (λ miss. ap (λ (z : SeatView). z.began) (told_old.miss miss).0) (cases_eq tried.found (old_word a))
+        same_beginning = ⊎_elim (λ (hit : tried.found ≡ old_word a). ap (λ (z : SeatView). z.began) (told_old.hit hit).0.changed) (λ miss. ap (λ (z : SeatView). z.began) (told_old.miss miss).0) (cases_eq tried.found (old_word a))
 
         pub tried_steps : w.steps ≡ old.steps ++ try_leaf key word (word_after request key word) tried.found ∷ []
-        tried_steps = subst (λ (z : ℕ × ℕ). w.steps ≡ old.steps ++ try_leaf key z.0 z.1 tried.found ∷ []) (λ i. (sym (from_word request key word) i, sym (to_word request key word) i)) told_old.stepped
+        tried_steps = subst (λ (z : ℕ × ℕ). w.steps ≡ old.steps ++ try_leaf key z.0 z.1 tried.found ∷ []) (λ i. (sym (from_word request key word (omega (arith, low_serial))) i, sym (to_word request key word) i)) told_old.stepped
 
         pub try_step : OneStep old w
         try_step = record { taken = try_leaf key word (word_after request key word) tried.found; steps = tried_steps; later = told_old.sees.later; shaped = g_new.1.shaped; same_members = g_new.1.same_members; same_eras = g_new.1.same_eras; lane = g_new.1.lane }
@@ -143,7 +143,7 @@ module _ (f : ℕ → ℕ → List (ℕ × ℕ) → List ℕ) where
                   tried = λ lets. omega arith;
                 };
                 has_begun = record { began = same_beginning ∙ ap (λ (z : SeatView). z.began) loaded.stepped; shaped = g.shaped; same_members = g.same_members; same_eras = g.same_eras; lane = g.lane };
-                finish = λ z risen. (updated f u old key word request t.low p.knows_table loaded bits number p.bits_are r.2 t.fits t.is_stage.lets w ok room_old.is_free.lane room_old.is_free.only tried z risen done comes).0;
+                finish = λ z risen. (updated f u old key word request t.low p.knows_table loaded bits number p.bits_are r.2 t.fits t.is_stage.lets w ok room_old.holds.0 room_old.holds.1 tried z risen done comes).0;
                 on_way = way_begins f bits number key w m up r.2 el (en ∙ ap (λ (z : ℕ). z + key / 2) (p.leaves_are.are ∙ ap (λ (z : Shape). 2 ^ z.bits) (sym g.shaped))) es ep;
               };
             }

@@ -9,7 +9,7 @@ use Rattle.aug_query.specs.Tree.{IsTreeSet}
 use Rattle.aug_core.specs.Faces.{face}
 use Rattle.aug_core.specs.Places.{Shape}
 use Rattle.aug_core.specs.Addresses.{IsInner, root_place}
-use Rattle.aug_core.specs.Book.{Book, ArePrefixes, IsBook}
+use Rattle.aug_core.specs.Book.{Book, ArePrefixes, IsBook, NamesOnce}
 use Rattle.aug_core.specs.Counts.{changes_of}
 use Rattle.aug_core.specs.Cuts.{Cut, weight_at}
 use Rattle.aug_core.specs.inside.RootCuts.{root_cut}
@@ -99,7 +99,7 @@ module _ {A B : Type 0} (parts_a : Parts A) (parts_b : Parts B) where
     -- a snapshot shows the same entry as before
     shows_later : (held : Snapshot) → HasNamed s book held → HasNamed s later held × (cut_named s later held ≡ root_cut s later (index_in (root_numbers s book) held))
     shows_later held has = let t = entry_shown s book held has in
-        shows_entry both s later held t.index t.entry (subst (λ (z : Shape). IsBook both z later) shaped kn'.book) (inner_root old.view kn) (entry_stays grows (root_place s) t.index t.entry t.at) t.numbered
+        shows_entry s later held t.index t.entry (subst (λ (z : Shape). NamesOnce z later) shaped kn'.named) (inner_root old.view kn) (entry_stays grows (root_place s) t.index t.entry t.at) t.numbered
 
     snapshot_on : (held : Snapshot) → HasNamed s book held → HasNamed new.view.shape later held
     snapshot_on held has = subst (λ (z : Shape). HasNamed z later held) (sym shaped) (shows_later held has).0

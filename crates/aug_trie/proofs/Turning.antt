@@ -14,7 +14,7 @@ use Rattle.aug_trie.specs.inside.Climbing.{Updated}
 use Rattle.aug_trie.specs.inside.Knows.{root_history, knows, root_numbers}
 use Rattle.aug_trie.specs.Updates.{ComesTo}
 use Rattle.aug_trie.specs.Pass.{PassFacts, GoesOn, StepsOf}
-use Rattle.aug_trie.specs.inside.PassState.{pass_facts, KeepsPass}
+use Rattle.aug_trie.specs.inside.PassState.{pass_facts, KeepsAccount}
 use Rattle.aug_trie.specs.inside.RoundState.{round_of, eras_of, past_rounds}
 use Rattle.aug_trie.specs.Node.{Keeps}
 use Rattle.aug_trie.specs.inside.Points.{OneStep}
@@ -160,7 +160,7 @@ module _ {A B : Type 0} (parts_a : Parts A) (parts_b : Parts B) where
 
   -- the last one made a pass of it again
   pub record ClimbDone (now : ClimbFacts) (w : Known) (done : Outcome) (after : Account) : Type 0 where
-    pub holds : KeepsPass both (Some w) after
+    pub holds : KeepsAccount both (Some w) after
     pub finish : Finishes done now (pass_facts w after.left)
     pub keeps : Keeps (summary_of parts_a parts_b) now.start (pass_facts w after.left)
 

@@ -3,10 +3,13 @@ use Rattle.std.proofs.Common.{◌≡◌, ◌≢◌, ℕ, ◌+◌, ◌*◌, ◌^�
 use Rattle.std.proofs.lemmas.Bool.{cases_eq, cases_Bool, eqb-false, eqb-true, false≢true}
 use Rattle.std.proofs.lemmas.Nat.{mul-le}
 use Rattle.aug_core.specs.Places.{Shape}
-use Rattle.aug_core.specs.Book.{Book, ArePrefixes, At, IsNewest}
+use Rattle.aug_core.specs.Book.{Book, ArePrefixes, At, IsNewest, IsPassed}
 use Rattle.aug_core.specs.Kinds.{load_leaf, try_leaf}
 use Rattle.aug_core.specs.inside.Shows.{NewestShows, ShowsAtMost, Lifts}
-use Rattle.aug_core.specs.Effects.{HoldsOnly, KnowsTable, BeginsAtLeaf, TriesLeaf, old_word, new_serial, made_by}
+use Rattle.aug_core.specs.Effects.{HoldsOnly, KnowsTable, BeginsAtLeaf, TriesLeaf, changing, old_word, new_word, new_serial, made_by, KnowsSerial}
+use Rattle.aug_core.specs.Layout.{IsLayout}
+use Rattle.aug_core.proofs.Fits.{few_serials}
+use Rattle.aug_core.proofs.Leaves.{hits_exactly}
 use Rattle.aug_core.specs.declared.step.StepTaken.{StepTaken}
 use Rattle.aug_core.specs.declared.view.Advance.{Advance}
 use Rattle.aug_core.specs.declared.view.Change.{Change}
@@ -66,37 +69,40 @@ module _ (f : ℕ → ℕ → List (ℕ × ℕ) → List ℕ) where
   -- a try of a leaf gains changes or none
   pub goes_leaf : (v w : SeatView) (key found : ℕ) (a : Advance) (h : Held) → HoldsOnly v h → KnowsTable f v → TriesLeaf f v key a found w → (gained : List Change) × Goes f 0 gained v w
   goes_leaf v w key found a h only kn told = ⊎_elim
-      (λ (hit : found ≡ old_word a). (made_by key a, goes_changing f v w (made_by key a) _ h only (told.hit hit).0 kn told.sees))
+      (λ (hit : found ≡ old_word a). (_, goes_changing f v w _ _ h only (told.hit hit).0.changed kn told.sees))
       (λ miss. ([], goes_seeing f v w _ (told.miss miss).0 kn told.sees)) (cases_eq found (old_word a))
 
   -- a loaded word has the serial and the weight of the leaf's newest entry
-  pub loaded_serial : (v w : SeatView) (key word : ℕ) → key < 2 ^ v.shape.bits → (l : BeginsAtLeaf f v key word w) → (serial_in_word word ≡ l.index) × (weight_in_word word ≡ l.entry.weight)
-  loaded_serial v w key word low l = let is = l.sees.book.serials key l.index l.entry low l.newest.at in let same = l.found ∙ is.named in
-      (ap serial_in_word same ∙ serial_of_leaf l.index l.entry.weight is.fits, ap weight_in_word same ∙ weight_of_leaf l.index l.entry.weight is.fits)
+  pub loaded_serial : (v w : SeatView) (key word : ℕ) → IsLayout v.shape → key < 2 ^ v.shape.bits → (l : BeginsAtLeaf f v key word w) → (serial_in_word word ≡ l.index) × (weight_in_word word ≡ l.entry.weight)
+  loaded_serial v w key word laid low l = let is = l.sees.book.serials key l.index l.entry low l.newest.at in let same = l.found ∙ is.named in let few = (few_serials v.shape w.seen laid l.sees.fits).few key low in let long = l.newest.last in
+      (ap serial_in_word same ∙ serial_of_leaf l.index l.entry.weight (omega arith) is.fits, ap weight_in_word same ∙ weight_of_leaf l.index l.entry.weight is.fits)
 
   small_key : (v : SeatView) (key : ℕ) → KnowsTable f v → key < 2 ^ v.shape.bits → key < 2 ^ 32
   small_key v key kn low = let few = (keys-within v.shape.bits kn.laid_out.bits.0 kn.laid_out.bits.1).1 in omega arith
 
-  -- the leaf may be exchanged as the request says
-  pub advances : (v w : SeatView) (key word : ℕ) (request : Request) → key < 2 ^ v.shape.bits → KnowsTable f v → BeginsAtLeaf f v key word w → FitsRequest request → goes_from request word ≡ true → MayAdvance w key word (word_after request key word)
-  advances v w key word request low kn l fits lets = let is = loaded_serial v w key word low l in record {
-    advance = advance_from request key word;
-    is_advance = is_advance request key word fits (small_key v key kn low) lets;
-    from = from_word request key word;
-    to = to_word request key word;
-    entry = l.entry;
-    at = subst (λ (z : ℕ). At w.seen key z l.entry) (sym (serial_is request key word ∙ is.0)) l.newest.at;
-    weighs = sym (weight_is request key word ∙ is.1);
-  }
-
-  -- and its serial is far from the end of its half of the word
+  -- a loaded serial is far from the end of its half of the word
   pub serial_few : (v w : SeatView) (key word : ℕ) → key < 2 ^ v.shape.bits → KnowsTable f v → BeginsAtLeaf f v key word w → serial_in_word word < 2 ^ 31
-  serial_few v w key word low kn l = let is = (loaded_serial v w key word low l).0 in let long = l.newest.last in let few = l.sees.fits.few key low in
+  serial_few v w key word low kn l = let is = (loaded_serial v w key word kn.laid_out low l).0 in let long = l.newest.last in let few = l.sees.fits.few key low in
       let some = mul-le v.shape.workers (2 * v.shape.updates) 64 131072 kn.laid_out.workers.1 (let up = kn.laid_out.updates.1 in omega arith) in omega (arith, is, long, few, some)
 
+  -- the leaf is known to have had the serial and the weight that the request goes from
+  knows_serial : (v w : SeatView) (key word : ℕ) (request : Request) → key < 2 ^ v.shape.bits → KnowsTable f v → BeginsAtLeaf f v key word w → KnowsSerial w key (advance_from request key word)
+  knows_serial v w key word request low kn l = let is = loaded_serial v w key word kn.laid_out low l in
+      record { entry = l.entry; at = subst (λ (z : ℕ). At w.seen key z l.entry) (sym (serial_is request key word ∙ is.0)) l.newest.at; weighs = sym (weight_is request key word ∙ is.1) }
+
+  -- and may be exchanged as it says
+  pub advances : (v w : SeatView) (key word : ℕ) (request : Request) → key < 2 ^ v.shape.bits → KnowsTable f v → BeginsAtLeaf f v key word w → FitsRequest request → goes_from request word ≡ true → MayAdvance w key word (word_after request key word)
+  advances v w key word request low kn l fits lets = record {
+    advance = advance_from request key word;
+    is_advance = is_advance request key word fits (small_key v key kn low) lets;
+    from = from_word request key word (let few = serial_few v w key word low kn l in omega arith);
+    to = to_word request key word;
+    known = knows_serial v w key word request low kn l;
+  }
+
   -- the root showed no serial past the one that was loaded
-  at_most : (v w : SeatView) (key word : ℕ) → key < 2 ^ v.shape.bits → BeginsAtLeaf f v key word w → ShowsAtMost v.shape v.seen key (serial_in_word word)
-  at_most v w key word low l = let serial = (loaded_serial v w key word low l).0 in record {
+  at_most : (v w : SeatView) (key word : ℕ) → IsLayout v.shape → key < 2 ^ v.shape.bits → BeginsAtLeaf f v key word w → ShowsAtMost v.shape v.seen key (serial_in_word word)
+  at_most v w key word laid low l = let serial = (loaded_serial v w key word laid low l).0 in record {
     at_most = λ i n h. let t = shows_leaf v.shape v.seen key v.shape.bits i n h in let le = newest_is_last w.seen key l.index t.0 l.entry t.1 l.newest (entry_stays l.sees.later key t.0 t.1 t.2) in let e = t.3 in omega (arith, serial, le, e);
   }
 
@@ -123,20 +129,20 @@ module _ (f : ℕ → ℕ → List (ℕ × ℕ) → List ℕ) where
     first = goes_begun v w0 key word kn loaded
 
     at_leaf : serial_in_word word ≡ loaded.index
-    at_leaf = (loaded_serial v w0 key word low loaded).0
+    at_leaf = (loaded_serial v w0 key word kn.laid_out low loaded).0
 
     -- the leaf's entry with the serial that was loaded has the weight that was loaded, now and later
     weighed_on : (book : Book) → ArePrefixes w0.seen book → WeighsAt book key (serial_in_word word) (weight_in_word word)
     weighed_on book later = record {
       entry = loaded.entry;
       at = entry_stays later key (serial_in_word word) loaded.entry (subst (λ (z : ℕ). At w0.seen key z loaded.entry) (sym at_leaf) loaded.newest.at);
-      weighs = sym (loaded_serial v w0 key word low loaded).1;
+      weighs = sym (loaded_serial v w0 key word kn.laid_out low loaded).1;
     }
 
     -- no earlier view was shown a serial past the one that was loaded
     at_most_from : (u : SeatView) → u.shape ≡ v.shape → ArePrefixes u.seen v.seen → ShowsAtMost u.shape u.seen key (serial_in_word word)
     at_most_from u same before = subst (λ (z : Shape). ShowsAtMost z u.seen key (serial_in_word word)) (sym same)
-        (record { at_most = λ i n h. (at_most v w0 key word low loaded).at_most i n (shows_later v.shape v.seen u.seen key v.shape.bits i n before h) })
+        (record { at_most = λ i n h. (at_most v w0 key word kn.laid_out low loaded).at_most i n (shows_later v.shape v.seen u.seen key v.shape.bits i n before h) })
 
     -- the word that was loaded refuses the update. What it comes to from an earlier view to a later one, which shows what the leaf had reached
     pub came_back : (used : ℕ) (u z : SeatView) → u.shape ≡ v.shape → ArePrefixes u.seen v.seen → ArePrefixes w0.seen z.seen → goes_from request word ≡ false → Lifts v.shape w0.seen z.seen key v.shape.bits → Goes f used [] u z → CameTo f used u key request z word (outcome_at_once request)
@@ -151,10 +157,14 @@ module _ (f : ℕ → ℕ → List (ℕ × ℕ) → List ℕ) where
     -- the leaf was tried
     module _ (fits : FitsRequest request) (lets : goes_from request word ≡ true) (w1 : SeatView) (ok : Bool) (h : Held) (only : HoldsOnly w0 h) (tried : TriedLeaf f w0 key word (word_after request key word) ok w1) where
       abbrev from : word ≡ old_word a
-      from = from_word request key word
+      from = from_word request key word (let few = serial_few v w0 key word low kn loaded in omega arith)
 
       pub told : TriesLeaf f w0 key a tried.found w1
-      told = tried.told a (is_advance request key word fits (small_key v key kn low) lets) from (to_word request key word)
+      told = tried.told a (is_advance request key word fits (small_key v key kn low) lets) (knows_serial v w0 key word request low kn loaded) from (to_word request key word)
+
+      -- in a round the leaf had the very serial that was loaded
+      exactly : tried.found ≡ old_word a → (w1 ≡ changing w0 w1.seen (made_by key a) (try_leaf key (old_word a) (new_word a) tried.found)) × (told.index ≡ new_serial a) × (a.replaces ≡ true → IsPassed w1.seen key (a.serial + 1))
+      exactly = hits_exactly f w0 key a tried.found w1 first.knows_table.laid_out (subst (λ (z : Shape). key < 2 ^ z.bits) (sym shaped0) low) told
 
       missed : tried.found ≢ word → tried.found ≢ old_word a
       missed other same = other (same ∙ sym from)
@@ -164,7 +174,7 @@ module _ (f : ℕ → ℕ → List (ℕ × ℕ) → List ℕ) where
       tried_goes = goes_leaf w0 w1 key tried.found a h only first.knows_table told
 
       pub goes_hit : tried.found ≡ word → Goes f 0 (made_by key a) v w1
-      goes_hit same = let gained : List Change = made_by key a in goes_after f 0 0 0 [] gained gained v w0 w1 (omega arith) (omega arith) refl first (goes_changing f w0 w1 gained _ h only (told.hit (same ∙ from)).0 first.knows_table told.sees)
+      goes_hit same = let gained : List Change = made_by key a in goes_after f 0 0 0 [] gained gained v w0 w1 (omega arith) (omega arith) refl first (goes_changing f w0 w1 gained _ h only (exactly (same ∙ from)).0 first.knows_table told.sees)
 
       pub goes_miss : tried.found ≢ word → Goes f 0 [] v w1
       goes_miss other = goes_on f 0 0 0 [] v w0 w1 (omega arith) (omega arith) first (goes_seeing f w0 w1 _ (told.miss (missed other)).0 first.knows_table told.sees)
@@ -206,13 +216,13 @@ module _ (f : ℕ → ℕ → List (ℕ × ℕ) → List ℕ) where
         weighed_up = let was = weighed_on w1.seen told.sees.later in record { entry = was.entry; at = entry_stays later key (serial_in_word word) was.entry was.at; weighs = was.weighs }
 
         went_up : tried.found ≡ word → Goes f used (made_by key a) u z → WentUp f used u key request z a
-        went_up same goes = let hit = told.hit (same ∙ from) in let reached : told.index ≡ new_serial a = hit.1 in record {
+        went_up same goes = let hit = exactly (same ∙ from) in let reached : told.index ≡ new_serial a = hit.1 in record {
           weighed = subst (λ (s : ℕ × ℕ). WeighsAt z.seen key s.0 s.1) (λ i. (sym (serial_is request key word) i, sym (weight_is request key word) i)) weighed_up;
           goes = goes;
           before = subst (ShowsAtMost u.shape u.seen key) (sym (serial_is request key word)) (at_most_from u same_shape before);
           shown = shown_up (new_serial a) (omega (arith, reached));
-          weighs = record { entry = told.entry; at = entry_stays later key (new_serial a) told.entry (subst (λ (s : ℕ). At w1.seen key s told.entry) reached told.newest.at); weighs = hit.2 };
-          passes = λ e. let p = told.passes (same ∙ from) e in record { entry = p.entry; at = entry_stays later key (a.serial + 1) p.entry p.at; passed = p.passed };
+          weighs = record { entry = told.entry; at = entry_stays later key (new_serial a) told.entry (subst (λ (s : ℕ). At w1.seen key s told.entry) reached told.newest.at); weighs = (told.hit (same ∙ from)).1 };
+          passes = λ e. let p = hit.2 e in record { entry = p.entry; at = entry_stays later key (a.serial + 1) p.entry p.at; passed = p.passed };
         }
 
         by_replaces : (b : Bool) → a.replaces ≡ b → WentUp f used u key request z a → CameTo f used u key request z word (if b then Replaced else Accepted)
@@ -286,9 +296,9 @@ module _ (f : ℕ → ℕ → List (ℕ × ℕ) → List ℕ) where
   pub leaf_tried : {v w0 w1 : SeatView} {key word bits number new : ℕ} {ok : Bool} (request : Request) → key < 2 ^ v.shape.bits → bits ≡ v.shape.bits → KnowsTable f v → HasRoom v number bits → BeginsAtLeaf f v key word w0
       → FitsRequest request → goes_from request word ≡ true → new ≡ word_after request key word → TriedLeaf f w0 key word new ok w1 → LeafTried v w1 key word bits number request ok
   leaf_tried {v} {w0} {w1} {key} {word} {bits} {number} {new} {ok} request low is kn room l fits lets is_new tries = let some = kn.laid_out.bits.0 in let few : 1 ≤ bits = omega arith in
-      let g0 = goes_begun v w0 key word kn l in let free = (room_on f [] v w0 number bits g0 room).is_free in let t = subst (λ (z : ℕ). TriedLeaf f w0 key word z ok w1) is_new tries in
-      let g1 = tried_goes v w0 key word request low kn l fits lets w1 ok free.lane free.only t in let g = goes_after f 0 0 0 [] g1.0 g1.0 v w0 w1 (omega arith) (omega arith) refl g0 g1.1 in record {
+      let g0 = goes_begun v w0 key word kn l in let one = g0.holds room.holds in let t = subst (λ (z : ℕ). TriedLeaf f w0 key word z ok w1) is_new tries in
+      let g1 = tried_goes v w0 key word request low kn l fits lets w1 ok one.0 one.1 t in let g = goes_after f 0 0 0 [] g1.0 g1.0 v w0 w1 (omega arith) (omega arith) refl g0 g1.1 in record {
         same_shape = g.shaped;
         rises = may_rise bits number key g1.0 v w1 low is room g;
-        updated = λ w done risen comes. updated v w0 key word request low kn l bits number is few fits lets w1 ok free.lane free.only t w risen done comes;
+        updated = λ w done risen comes. updated v w0 key word request low kn l bits number is few fits lets w1 ok one.0 one.1 t w risen done comes;
       }

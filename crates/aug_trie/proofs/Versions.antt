@@ -41,7 +41,7 @@ use Rattle.aug_trie.specs.inside.EndedTree.{word_in, IsLeafOf, IsVersion}
 use Rattle.aug_trie.specs.inside.EndedState.{pairs_at_rest, HoldsVersion}
 use Rattle.aug_core.proofs.Counting.{filter_shorter}
 use Rattle.aug_trie.proofs.Histories.{last_is}
-use Rattle.aug_trie.proofs.LeafWords.{serial_of_entry, weight_of_entry, pairs_of_serial}
+use Rattle.aug_trie.proofs.LeafWords.{parity_of_entry, weight_of_entry, pairs_of_serial}
 use Rattle.aug_trie.proofs.Trees.{tree_set, inner_root}
 use Rattle.aug_core.specs.Layout.{IsLayout}
 
@@ -110,7 +110,7 @@ module _ {A B : Type 0} (parts_a : Parts A) (parts_b : Parts B) where
     leaf_at : (place q i : ℕ) → IsPartOfCut s book cut 0 place q i → IsLeafOf pairs place (entry_of book q i).word
     leaf_at place q i p = let l = leaf_word s place q p.word in let e : Entry = entry_of book q i in let serial = b.serials q i e l.1 (entry_at book q i p.there) in record {
       says = sym (part_pairs both s book b cut 0 place q i p) ∙ pairs_of_serial q i e serial ∙ ap (λ z. leaf_pairs z e.word) l.0;
-      none_if_even = λ even. weight_of_entry q i e serial ∙ serial.none_if_even (ap (λ z. z % 2) (sym (serial_of_entry q i e serial)) ∙ even);
+      none_if_even = λ even. weight_of_entry q i e serial ∙ serial.none_if_even (sym (parity_of_entry q i e serial) ∙ even);
     }
 
     -- what stands below a cut is a version of the tree of its set

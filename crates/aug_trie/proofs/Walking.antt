@@ -14,7 +14,7 @@ use Rattle.aug_core.specs.Book.{At, IsSerial, IsBook}
 use Rattle.aug_core.specs.Cuts.{Cut, weight_at, set_of_cut, pairs_of_cut}
 use Rattle.aug_core.specs.inside.EntryCuts.{entry_of, IsPartOfCut}
 use Rattle.aug_core.specs.inside.RootCuts.{root_cut}
-use Rattle.aug_core.specs.Effects.{HasSeen, Says}
+use Rattle.aug_core.specs.Effects.{GuardsRecord, Says}
 use Rattle.aug_core.specs.declared.view.Entry.{Entry}
 use Rattle.aug_core.specs.declared.view.SeatView.{SeatView}
 use Rattle.aug_core.proofs.Books.{at_below}
@@ -27,7 +27,7 @@ use Rattle.aug_trie.specs.inside.LeafPairs.{leaf_pairs}
 use Rattle.aug_trie.specs.inside.NamedCuts.{IsSnapshotOf}
 use Rattle.aug_trie.specs.inside.NodeWords.{IsNodeAt}
 use Rattle.aug_trie.specs.TreeOf.{IsTreeOf}
-use Rattle.aug_trie.proofs.LeafWords.{serial_of_entry, weight_of_entry, pairs_of_serial}
+use Rattle.aug_trie.proofs.LeafWords.{parity_of_entry, weight_of_entry, pairs_of_serial}
 
 -- an interval has as many pairs as keys
 range_long : (cut : Cut) (a b : ℕ) → length (weighted_range_of (pairs_of_cut cut) a b) ≡ length (range_of (set_of_cut cut) a b)
@@ -86,11 +86,11 @@ module _ {A B : Type 0} (parts_a : Parts A) (parts_b : Parts B) where
       numbered = sym (b.named t.q t.index entry inner at) ∙ t.named
 
       -- its record may be read
-      pub node_seen : HasSeen v word
-      node_seen = record { place = t.q; index = t.index; entry = entry; inner = inner; at = at; numbered = numbered }
+      pub node_guarded : GuardsRecord v word
+      node_guarded = record { place = t.q; index = t.index; entry = entry; guards = record { inner = inner; at = at }; numbered = numbered }
 
       pub read : (field r : ℕ) → Says v word field r → r ≡ get_or entry.words field 0
-      read field r says = says t.q t.index entry inner at numbered
+      read field r says = says t.q t.index entry (record { inner = inner; at = at }) numbered
 
       words : entry.words ≡ both (entry_of v.seen (left_of v.shape t.q) entry.left).word (entry_of v.seen (right_of v.shape t.q) entry.right).word (weighted_range_of (pairs_of_cut cut) (place * 2 ^ suc level) ((place + 1) * 2 ^ suc level))
       words = part_words both v.shape v.seen b cut level place t.q t.index t.part
@@ -156,6 +156,6 @@ module _ {A B : Type 0} (parts_a : Parts A) (parts_b : Parts B) where
       pub leaf_weight : weight_in_word word ≡ weight_in (pairs_of_cut cut) key
       leaf_weight = let all : List (ℕ × ℕ) = pairs_of_cut cut in let first : ℕ = key * 2 ^ 0 in let end : ℕ = (key + 1) * 2 ^ 0 in
           let light : serial_in_word word % 2 ≡ 0 → weight_in_word word ≡ 0 = λ even. ap weight_in_word (sym t.named) ∙ weight_of_entry t.q t.index leaf serial.1
-          ∙ serial.1.none_if_even (ap (λ (z : ℕ). z % 2) (sym (ap serial_in_word (sym t.named) ∙ serial_of_entry t.q t.index leaf serial.1)) ∙ even) in
+          ∙ serial.1.none_if_even (sym (ap (λ (z : ℕ). serial_in_word z % 2) (sym t.named) ∙ parity_of_entry t.q t.index leaf serial.1) ∙ even) in
           weighs_alone key word light ∙ ap (λ (z : List (ℕ × ℕ)). weight_in z key) (sym pairs_are ∙ part_pairs both v.shape v.seen b cut 0 key t.q t.index t.part)
           ∙ ap (λ (z : Option ℕ). unwrap_or z 0) (weight_of-range all key first end (omega arith) (omega arith))

@@ -7,14 +7,15 @@ use Rattle.aug_monoid.specs.inside.Laws.{IsMonoid}
 use Rattle.aug_core.specs.Places.{Shape}
 use Rattle.aug_core.specs.Addresses.{place_count, IsInner, left_of, right_of}
 use Rattle.aug_core.specs.Faces.{face}
-use Rattle.aug_core.specs.Book.{At, ArePrefixes, IsBook}
+use Rattle.aug_core.specs.Book.{At, ArePrefixes, IsBook, NamesOnce}
 use Rattle.aug_core.specs.inside.Refreshes.{HasEntry, HasNewest, SaysLoaded, Published}
-use Rattle.aug_core.specs.Effects.{KnowsTable, LoadsLeaf, LoadsNode}
+use Rattle.aug_core.specs.Effects.{KnowsTable, LoadsLeaf, LoadsNode, MayStore}
 use Rattle.aug_core.specs.declared.view.SeatView.{SeatView}
 use Rattle.aug_core.proofs.Sizes.{twice}
 use Rattle.aug_core.proofs.EntryKeys.{are_small}
+use Rattle.aug_core.proofs.Fits.{HasFewSerials, few_serials}
 use Rattle.aug_core.proofs.Refreshing.{is_loaded, refreshed, has_entry}
-use Rattle.aug_trie.specs.inside.Goes.{IsFree, HasLeaves, HasRoom, Goes, Took, Tries, IsPartOf, part_steps, publish_steps, try_steps}
+use Rattle.aug_trie.specs.inside.Goes.{HasLeaves, HasRoom, Goes, Took, Tries, IsPartOf, part_steps, publish_steps, try_steps}
 use Rattle.aug_trie.specs.inside.Points.{TryOver}
 use Rattle.aug_trie.proofs.Going.{took_on, room_on, goes_on}
 use Rattle.aug_trie.proofs.Telling.{words_are}
@@ -66,9 +67,9 @@ module _ {A B : Type 0} (parts_a : Parts A) (parts_b : Parts B) where
 
 -- what the try left
 pub tries : (f : ℕ → ℕ → List (ℕ × ℕ) → List ℕ) (v w0 w1 w2 w4 w : SeatView) (q old ln rn number : ℕ) (done : Bool) → IsInner v.shape q → KnowsTable f w → w.shape ≡ v.shape → w4.shape ≡ v.shape → ArePrefixes v.seen w0.seen → ArePrefixes w0.seen w1.seen → ArePrefixes w1.seen w2.seen → ArePrefixes w2.seen w.seen
-    → HasNewest w0.seen q old → HasNewest w1.seen (left_of v.shape q) ln → HasNewest w2.seen (right_of v.shape q) rn → Published w4.shape q old ln rn done w.seen → (done ≡ false → IsFree w number) → Tries v q number done w
+    → HasNewest w0.seen q old → HasNewest w1.seen (left_of v.shape q) ln → HasNewest w2.seen (right_of v.shape q) rn → Published w4.shape q old ln rn done w.seen → (done ≡ false → MayStore w number) → Tries v q number done w
 tries f v w0 w1 w2 w4 w q old ln rn number done inner kn shaped shaped4 c0 c01 c12 c23 at_node at_left at_right p again = record {
-  refreshed = refreshed f v.shape w0.seen w1.seen w2.seen w.seen q old ln rn inner c01 c12 c23 at_node at_left at_right v.seen done (book_at f v.shape w shaped kn) c0 (subst (λ (z : Shape). Published z q old ln rn done w.seen) shaped4 p);
+  refreshed = refreshed f v.shape w0.seen w1.seen w2.seen w.seen q old ln rn inner c01 c12 c23 at_node at_left at_right v.seen done (book_at f v.shape w shaped kn) (subst (λ (z : Shape). NamesOnce z w.seen) shaped kn.named) (subst (λ (z : Shape). HasFewSerials z w.seen) shaped (few_serials w.shape w.seen kn.laid_out kn.fits)) c0 (subst (λ (z : Shape). Published z q old ln rn done w.seen) shaped4 p);
   again = λ bad _. again bad;
 }
 
@@ -103,7 +104,7 @@ module _ {A B : Type 0} (parts_a : Parts A) (parts_b : Parts B) where
     pub room : HasRoom w number 1
     pub few : m + k < 2 ^ 64
     pub loaded : (five : List ℕ) → five ≡ left ∷ right ∷ (m + k) ∷ rest → SaysLoaded f w.shape w.seen q old five
-    pub over : (w' : SeatView) (done : Bool) (five : List ℕ) → five ≡ left ∷ right ∷ (m + k) ∷ rest → Goes f (number + 1) [] w w' → Took w w' publish_steps → Published w.shape q old (get_or five 0 0) (get_or five 1 0) done w'.seen → (done ≡ false → IsFree w' number)
+    pub over : (w' : SeatView) (done : Bool) (five : List ℕ) → five ≡ left ∷ right ∷ (m + k) ∷ rest → Goes f (number + 1) [] w w' → Took w w' publish_steps → Published w.shape q old (get_or five 0 0) (get_or five 1 0) done w'.seen → (done ≡ false → MayStore w' number)
         → TryOver f v q number done w'
 
   -- so it is after the loads of the words of a node and of its two children, and those of the children's parts

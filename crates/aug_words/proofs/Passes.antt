@@ -140,10 +140,6 @@ module _ (face : ℕ → ℕ → List (ℕ × ℕ) → List ℕ) (lane lent : �
   pub works_on : IsAtWork me.0
   works_on = holds_lane me.0 seat.held seat.only
 
-  -- and what is said of the lane that it holds is said of that one
-  pub lane_named : (h : Held) → HoldsOnly me.0 h → (h.lane ≡ lane) × (h.state ≡ Taken)
-  lane_named h only = let same = one_held me.0 h seat.held only seat.only in (ap (λ (z : Held). z.lane) same ∙ seat.named, ap (λ (z : Held). z.state) same ∙ seat.taken)
-
   -- a record that a pass guards or owns is one of the table
   pub loads_inside : (number : ℕ) → MayLoad me.0 number → number < record_count me.0.shape
   loads_inside number may = ⊎_elim (guarded_inside face me.0 number seat.knows) (stores_inside me.0 number) may

@@ -4,16 +4,17 @@ use Rattle.std.proofs.Common.{◌≡◌, ℕ, zero, suc, true, List, [], ◌++�
 use Rattle.std.proofs.lemmas.Bool.{eqb-true}
 use Rattle.std.proofs.lemmas.List.{append-nil}
 use Rattle.aug_core.specs.Places.{Shape}
-use Rattle.aug_core.specs.Book.{Book, IsBook}
+use Rattle.aug_core.specs.Book.{Book, IsBook, NamesOnce}
 use Rattle.aug_core.specs.Cuts.{Cut, pairs_of_cut}
 use Rattle.aug_core.specs.inside.EntryCuts.{entry_of, IsPartOfCut}
 use Rattle.aug_core.specs.inside.RootCuts.{root_cut}
 use Rattle.aug_core.specs.inside.WordPlaces.{IsWord}
 use Rattle.aug_core.specs.declared.step.StepTaken.{StepTaken}
 use Rattle.aug_core.specs.declared.view.SeatView.{SeatView}
-use Rattle.aug_core.proofs.Books.{one_index}
-use Rattle.aug_core.proofs.EntryCuts.{Has, entry_at, part_pairs, part_fits}
-use Rattle.aug_core.proofs.Levels.{inner_word, leaf_word}
+use Rattle.aug_core.proofs.Fits.{HasFewSerials, few_serials}
+use Rattle.aug_core.proofs.Refreshing.{same_word}
+use Rattle.aug_core.proofs.EntryCuts.{entry_at, part_pairs, part_fits}
+use Rattle.aug_core.proofs.Levels.{level_inside}
 use Rattle.aug_model.specs.NodeKeys.{pairs_below}
 use Rattle.aug_query.specs.DescendBoth.{StandInBoth}
 use Rattle.aug_trie.specs.inside.NodesUnder.{word_under, IsNodeUnder}
@@ -40,25 +41,12 @@ both_kept_on p q r a b = record {
   few_steps = let x = a.few_steps in let y = b.few_steps in let long = length-append a.more b.more in omega arith;
 }
 
-module _ (f : ℕ → ℕ → List (ℕ × ℕ) → List ℕ) (s : Shape) (book : Book) (b : IsBook f s book) where
-  -- no two entries of one place have the same word: a record's number stands there once, and a leaf's word has the entry's index in it
-  pub same_entry : (level place q i j : ℕ) → IsWord s level place q → Has book q i → Has book q j → (entry_of book q i).word ≡ (entry_of book q j).word → i ≡ j
-  same_entry zero place q i j w there here same =
-      let leaf = leaf_word s place q w in
-      let mine = b.serials q i (entry_of book q i) leaf.1 (entry_at book q i there) in
-      let other = b.serials q j (entry_of book q j) leaf.1 (entry_at book q j here) in
-      omega (arith, mine.named, other.named, mine.fits, other.fits, same)
-  same_entry (suc level) place q i j w there here same =
-      let inner = inner_word s level place q w in
-      let mine = entry_at book q i there in
-      let other = entry_at book q j here in
-      one_index f s book b q i j (entry_of book q i) (entry_of book q j) inner mine other (sym (b.named q i (entry_of book q i) inner mine) ∙ same ∙ b.named q j (entry_of book q j) inner other)
-
-  -- so two cuts whose nodes at a level and a place have the same word have the same members with the same weights there
+module _ (f : ℕ → ℕ → List (ℕ × ℕ) → List ℕ) (s : Shape) (book : Book) (b : IsBook f s book) (once : NamesOnce s book) (few : HasFewSerials s book) where
+  -- two cuts whose nodes at a level and a place have the same word have the same members with the same weights there
   pub same_pairs : (cut other : Cut) (level place q i j : ℕ) → IsPartOfCut s book cut level place q i → IsPartOfCut s book other level place q j → (entry_of book q i).word ≡ (entry_of book q j).word
       → pairs_below (pairs_of_cut cut) level place ≡ pairs_below (pairs_of_cut other) level place
   same_pairs cut other level place q i j p r same =
-      sym (part_pairs f s book b cut level place q i p) ∙ ap (λ (z : ℕ). (entry_of book q z).pairs) (same_entry level place q i j p.word p.there r.there same) ∙ part_pairs f s book b other level place q j r
+      sym (part_pairs f s book b cut level place q i p) ∙ ap (λ (z : ℕ). (entry_of book q z).pairs) (same_word f s book b once few q i j (entry_of book q i) (entry_of book q j) (level_inside s q level place p.word) (entry_at book q i p.there) (entry_at book q j r.there) same) ∙ part_pairs f s book b other level place q j r
 
 -- the word of a node is the one at its level and place
 pub word_is : (s : Shape) (book : Book) (top level place word : ℕ) → IsNodeUnder s book top level place word → word ≡ word_under s book top level place
@@ -78,7 +66,7 @@ module _ (f : ℕ → ℕ → List (ℕ × ℕ) → List ℕ) (v : SeatView) (ea
         place_fits = part_fits f v.shape v.seen kn.book (root_cut v.shape v.seen (top_of v earlier)) level place node.q node.index node.part;
         same_below = λ same.
             ap (λ (z : Cut). pairs_below (pairs_of_cut z) level place) mine.cut_is
-            ∙ same_pairs f v.shape v.seen kn.book (root_cut v.shape v.seen (top_of v earlier)) (root_cut v.shape v.seen (top_of v later)) level place node.q node.index twin.index node.part
+            ∙ same_pairs f v.shape v.seen kn.book kn.named (few_serials v.shape v.seen kn.laid_out kn.fits) (root_cut v.shape v.seen (top_of v earlier)) (root_cut v.shape v.seen (top_of v later)) level place node.q node.index twin.index node.part
             (subst (λ (z : ℕ). IsPartOfCut v.shape v.seen (root_cut v.shape v.seen (top_of v later)) level place z twin.index) here twin.part)
             (node.named ∙ same_words same ∙ sym twin.named ∙ ap (λ (z : ℕ). (entry_of v.seen z twin.index).word) here)
             ∙ ap (λ (z : Cut). pairs_below (pairs_of_cut z) level place) (sym other.cut_is);

@@ -1,13 +1,11 @@
 -- What the steps of a pass leave of what it knew, and what they add.
-use Rattle.std.specs.Prelude.{◌≡◌, ℕ, ◌+◌, ◌-◌, ◌*◌, ◌^◌, ◌≤◌, Bool, false, nat_lt, if◌then◌else◌, List, ◌++◌, length}
+use Rattle.std.specs.Prelude.{◌≡◌, ℕ, ◌+◌, ◌-◌, ◌*◌, ◌^◌, ◌<◌, ◌≤◌, Bool, false, nat_lt, if◌then◌else◌, List, ◌++◌, length}
 use Rattle.aug_monoid.specs.Parts.{Parts}
 use Rattle.aug_monoid.specs.Fold.{fold_of}
 use Rattle.aug_core.specs.Places.{Shape, record_words}
-use Rattle.aug_core.specs.Lanes.{first_record, lane_records, block_size}
 use Rattle.aug_core.specs.Book.{At, ArePrefixes, IsFresh}
-use Rattle.aug_core.specs.Rule.{Lists}
 use Rattle.aug_core.specs.Counts.{changes_of}
-use Rattle.aug_core.specs.Effects.{HoldsOnly, own_lane, KnowsTable}
+use Rattle.aug_core.specs.Effects.{HoldsOnly, MayStore, own_lane, KnowsTable}
 use Rattle.aug_core.specs.inside.Refreshes.{Refreshed}
 use Rattle.aug_core.specs.declared.step.StepTaken.{StepTaken}
 use Rattle.aug_core.specs.declared.view.Change.{Change}
@@ -17,18 +15,14 @@ use Rattle.aug_core.specs.declared.view.SeatView.{SeatView}
 use Rattle.aug_trie.specs.inside.RoundState.{eras_of}
 use Rattle.aug_trie.specs.Pass.{TryNoLeaf}
 
--- the records of the view's lane from this one on were not published
-pub record IsFree (v : SeatView) (next : ℕ) : Type 0 where
-  pub lane : Held
-  pub only : HoldsOnly v lane
-  pub from_first : first_record v.shape lane.lane ≤ next
-  pub unpublished : (n : ℕ) → next ≤ n → Lists lane.published n → ⊥
-  pub long : length lane.words ≡ block_size v.shape
+-- the view holds one lane
+abbrev pub HoldsOne : SeatView → Type 0
+HoldsOne v = (h : Held) × HoldsOnly v h
 
--- `records` records of the lane are left from the record `next` on
+-- and it owns `records` records from the record `next` on
 pub record HasRoom (v : SeatView) (next records : ℕ) : Type 0 where
-  pub is_free : IsFree v next
-  pub room : next + records ≤ first_record v.shape (own_lane v.held) + lane_records v.shape
+  pub holds : HoldsOne v
+  pub owns : (n : ℕ) → next ≤ n → n < next + records → MayStore v n
 
 -- the view made `n` more steps, and no exchange of a leaf
 pub record Took (v w : SeatView) (n : ℕ) : Type 0 where
@@ -51,7 +45,7 @@ pub record Looks (most : ℕ) (v w : SeatView) : Type 0 where
   pub few : length more ≤ most
 
 module _ (face : ℕ → ℕ → List (ℕ × ℕ) → List ℕ) where
-  -- what was known grows, the changes gain these, and the records from `used` on that were free are so
+  -- what was known grows, the changes gain these, the lane is held still, and so are the records from `used` on that it owned
   pub record Goes (used : ℕ) (gained : List Change) (v w : SeatView) : Type 0 where
     pub later : ArePrefixes v.seen w.seen
     pub fresh : IsFresh v.shape w.seen v.seen
@@ -61,12 +55,13 @@ module _ (face : ℕ → ℕ → List (ℕ × ℕ) → List ℕ) where
     pub same_eras : eras_of w ≡ eras_of v
     pub lane : own_lane w.held ≡ own_lane v.held
     pub changes : changes_of w.held ≡ changes_of v.held ++ gained
-    pub still_free : (n : ℕ) → used ≤ n → IsFree v n → IsFree w n
+    pub holds : HoldsOne v → HoldsOne w
+    pub still_owned : (n : ℕ) → used ≤ n → MayStore v n → MayStore w n
 
--- one try at a node, which leaves its record free if it failed
+-- one try at a node, which leaves the view its record if it failed
 pub record Tries (v : SeatView) (q number : ℕ) (done : Bool) (w : SeatView) : Type 0 where
   pub refreshed : Refreshed v.shape v.seen q done w.seen
-  pub again : done ≡ false → IsFree v number → IsFree w number
+  pub again : done ≡ false → MayStore v number → MayStore w number
 
 -- the table has `leaves` leaves
 pub record HasLeaves (s : Shape) (leaves : ℕ) : Type 0 where

@@ -46,6 +46,6 @@ module _ (face : ℕ → ℕ → List (ℕ × ℕ) → List ℕ) where
     pub is_pass : IsPass known.view leaves bits next left
 
   -- what a pass keeps, and its half: it holds its words, and its account says how many of its changes are insertions and how many removals
-  pub record KeepsPass (words : Option Known) (a : Account) : Type 0 where
+  pub record KeepsAccount (words : Option Known) (a : Account) : Type 0 where
     pub pass : HoldsPass words a.leaves a.bits a.next a.left
     pub counts : HasCounts (changes_of (known_in words).view.held) a.inserts a.removals

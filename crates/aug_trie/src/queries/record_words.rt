@@ -3,7 +3,7 @@
 ghost use Rattle.std.specs.Prelude.{◌≡◌, ℕ, ◌+◌, ◌*◌, ◌^◌, ◌<◌, ◌≤◌, length};
 ghost use Rattle.aug_core.specs.Cuts.{set_of_cut};
 ghost use Rattle.aug_core.specs.Faces.{face};
-ghost use Rattle.aug_core.specs.Effects.{HasSeen, KnowsTable};
+ghost use Rattle.aug_core.specs.Effects.{GuardsRecord, KnowsTable};
 ghost use Rattle.aug_core.specs.Fields.{field_offset};
 ghost use Rattle.aug_words.specs.Seats.{Known, LoadsRecordWord};
 ghost use Rattle.aug_model.specs.NodeKeys.{keys_below};
@@ -25,7 +25,7 @@ pub(crate) trait RecordWords {
 
     // One of the five words of a record that it has seen: one step.
     fn load_word(&mut self, number: u64, field: RecordField) -> u64
-        requires { HasSeen (known self.old).view number }
+        requires { GuardsRecord (known self.old).view number }
         ensures table { (known self.new).table ≡ (known self.old).table }
         ensures view { LoadsRecordWord (known self.old).view number (field_offset field) result (known self.new).view };
 }

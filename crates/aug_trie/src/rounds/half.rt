@@ -28,13 +28,13 @@ impl<A: Monoid, B: Monoid> Model for PassHalf<A, B> {
     ghost use Rattle.aug_core.specs.Faces.{face};
     ghost use Rattle.std.specs.Prelude.{Some};
     ghost use Rattle.aug_trie.specs.Pass.{PassFacts};
-    ghost use Rattle.aug_trie.specs.inside.PassState.{pass_facts, KeepsPass};
+    ghost use Rattle.aug_trie.specs.inside.PassState.{pass_facts, KeepsAccount};
 
     ghost Value = { PassFacts };
 
     ghost view = { λ p. pass_facts p.words p.account.left };
 
-    ghost invariant = { λ p. KeepsPass (face A.parts B.parts) (Some p.words) p.account };
+    ghost invariant = { λ p. KeepsAccount (face A.parts B.parts) (Some p.words) p.account };
 }
 
 impl<A: Monoid, B: Monoid> PassHalf<A, B> {

@@ -33,13 +33,13 @@ pub struct Pass<'r, A: Monoid, B: Monoid> {
 impl<'r, A: Monoid, B: Monoid> Model for Pass<'r, A, B> {
     ghost use Rattle.aug_core.specs.Faces.{face};
     ghost use Rattle.aug_trie.specs.Pass.{PassFacts};
-    ghost use Rattle.aug_trie.specs.inside.PassState.{pass_facts, known_in, KeepsPass};
+    ghost use Rattle.aug_trie.specs.inside.PassState.{pass_facts, known_in, KeepsAccount};
 
     ghost Value = { PassFacts };
 
     ghost view = { λ p. pass_facts (known_in p.words) p.account.left };
 
-    ghost invariant = { λ p. KeepsPass (face A.parts B.parts) p.words p.account };
+    ghost invariant = { λ p. KeepsAccount (face A.parts B.parts) p.words p.account };
 }
 
 impl<'r, A: Monoid, B: Monoid> Pass<'r, A, B> {

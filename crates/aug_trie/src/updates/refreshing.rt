@@ -2,10 +2,10 @@
 ghost use Rattle.std.specs.Prelude.{◌≡◌, ℕ, ◌+◌, ◌^◌, ◌<◌, [], ◌∷◌, slice_index, false};
 ghost use Rattle.aug_core.specs.Faces.{face};
 ghost use Rattle.aug_core.specs.Addresses.{place_count, IsInner};
-ghost use Rattle.aug_core.specs.Effects.{KnowsTable};
+ghost use Rattle.aug_core.specs.Effects.{KnowsTable, MayStore};
 ghost use Rattle.aug_core.specs.inside.Refreshes.{HasNewest, SaysLoaded, Published};
 ghost use Rattle.aug_words.specs.Seats.{StaysAt};
-ghost use Rattle.aug_trie.specs.inside.Goes.{Goes, Took, HasRoom, IsFree, KnowsLeaves, publish_steps};
+ghost use Rattle.aug_trie.specs.inside.Goes.{Goes, Took, HasRoom, KnowsLeaves, publish_steps};
 ghost use Rattle.aug_trie.specs.inside.Points.{QuietStep, MayRefresh, TryOver};
 
 use crate::updates::parts::{Part, any_part};
@@ -71,7 +71,7 @@ fn publish<A: Monoid, B: Monoid>(
     ensures goes { Goes (face A.parts B.parts) (number + 1) [] pass.old.view pass.new.view }
     ensures took { Took pass.old.view pass.new.view publish_steps }
     ensures published { Published pass.old.view.shape node from (slice_index five 0) (slice_index five 1) result pass.new.view.seen }
-    ensures again { result ≡ false → IsFree pass.new.view number }
+    ensures again { result ≡ false → MayStore pass.new.view number }
 {
     pass.store_record_word(number, RecordField::Left, five[0]);
     pass.store_record_word(number, RecordField::Right, five[1]);

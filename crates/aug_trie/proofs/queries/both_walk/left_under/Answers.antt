@@ -1,11 +1,11 @@
 use Rattle.aug_core.specs.declared.view.SeatView.{SeatView}
 use Rattle.aug_trie.specs.inside.BothWalk.{top_of}
-use Rattle.aug_trie.proofs.Comparing.{under_seen, left_is_under}
+use Rattle.aug_trie.proofs.Comparing.{under_guarded, left_is_under}
 use Rattle.aug_trie.proofs.queries.both_walk.left_under.Goals as goal
 
 pub load_word-requires : goal.load_word-requires
 load_word-requires g c = let v : SeatView = (g.W.RecordWords.known c.args.words.now).view in
-    under_seen g.A.Monoid.parts g.B.Monoid.parts v c.requires.knows (top_of v c.args.snapshot) c.args.level c.args.place c.args.word c.requires.node
+    under_guarded g.A.Monoid.parts g.B.Monoid.parts v c.requires.knows (top_of v c.args.snapshot) c.args.level c.args.place c.args.word c.requires.node
 
 pub returns-clause-node : goal.returns-clause-node
 returns-clause-node g c = let v : SeatView = (g.W.RecordWords.known c.args.words.now).view in

@@ -2,13 +2,13 @@ use Rattle.std.proofs.Common.{ℕ, ◌-◌, ◌*◌, ◌+◌, inl, sym, subst, a
 use Rattle.aug_core.specs.declared.view.SeatView.{SeatView}
 use Rattle.aug_trie.specs.inside.NodeWords.{IsNodeAt}
 use Rattle.aug_trie.specs.inside.NamedCuts.{cut_named}
-use Rattle.aug_trie.proofs.Looking.{record_seen, right_is}
+use Rattle.aug_trie.proofs.Looking.{record_guarded, right_is}
 use Rattle.aug_trie.proofs.Looked.{looks_one, looks_on}
 use Rattle.aug_trie.proofs.queries.nodes.right_of.Goals as goal
 
 pub load_record_word-word-requires : goal.load_record_word-word-requires
 load_record_word-word-requires g c = let v : SeatView = c.args.pass.now.view in
-    inl (record_seen g.A.Monoid.parts g.B.Monoid.parts v c.requires.knows (cut_named v.shape v.seen c.args.node.now.snapshot) c.args.node.now.level c.args.node.now.place c.args.node.now.word c.requires.node c.requires.inner)
+    inl (record_guarded g.A.Monoid.parts g.B.Monoid.parts v c.requires.knows (cut_named v.shape v.seen c.args.node.now.snapshot) c.args.node.now.level c.args.node.now.place c.args.node.now.word c.requires.node c.requires.inner)
 
 pub node_at-requires-clause-node : goal.node_at-requires-clause-node
 node_at-requires-clause-node g c = let v : SeatView = c.args.pass.now.view in let r = c.load_record_word-word.result in let l = c.load_record_word-word.ensures.view in let s = c.args.node.now.snapshot in

@@ -3,8 +3,8 @@ use Rattle.aug_monoid.proofs.BoundLaws.{laws_of}
 use Rattle.aug_core.specs.Cuts.{Cut}
 use Rattle.aug_core.specs.declared.view.SeatView.{SeatView}
 use Rattle.aug_trie.specs.inside.NamedCuts.{cut_named}
-use Rattle.aug_trie.proofs.Telling.{seen_on, says_before}
-use Rattle.aug_trie.proofs.Looking.{leaf_tells, record_seen, count_fits, record_tells}
+use Rattle.aug_trie.proofs.Telling.{guards_on, says_before}
+use Rattle.aug_trie.proofs.Looking.{leaf_tells, record_guarded, count_fits, record_tells}
 use Rattle.aug_trie.proofs.Looked.{looks_one, looks_on}
 use Rattle.aug_trie.proofs.queries.nodes.summary_at.Goals as goal
 
@@ -14,18 +14,18 @@ returns-then-level-eq0-clause-tells g c = let v : SeatView = (g.W.RecordWords.kn
 
 pub load_word-count-requires : goal.load_word-count-requires
 load_word-count-requires g c = let v : SeatView = (g.W.RecordWords.known c.args.words.now).view in let inner : 1 ≤ c.args.level = search rules in
-    record_seen g.A.Monoid.parts g.B.Monoid.parts v c.requires.knows (cut_named v.shape v.seen c.args.snapshot) c.args.level c.args.place c.args.word c.requires.node inner
+    record_guarded g.A.Monoid.parts g.B.Monoid.parts v c.requires.knows (cut_named v.shape v.seen c.args.snapshot) c.args.level c.args.place c.args.word c.requires.node inner
 
 pub load_word-a-requires : goal.load_word-a-requires
 load_word-a-requires g c = let v : SeatView = (g.W.RecordWords.known c.args.words.now).view in let inner : 1 ≤ c.args.level = search rules in
-    seen_on v (g.W.RecordWords.known c.load_word-count.new.self).view _ c.args.word c.load_word-count.ensures.view.stepped
-    (record_seen g.A.Monoid.parts g.B.Monoid.parts v c.requires.knows (cut_named v.shape v.seen c.args.snapshot) c.args.level c.args.place c.args.word c.requires.node inner)
+    guards_on v (g.W.RecordWords.known c.load_word-count.new.self).view _ c.args.word c.load_word-count.ensures.view.stepped
+    (record_guarded g.A.Monoid.parts g.B.Monoid.parts v c.requires.knows (cut_named v.shape v.seen c.args.snapshot) c.args.level c.args.place c.args.word c.requires.node inner)
 
 pub load_word-b-requires : goal.load_word-b-requires
 load_word-b-requires g c = let v : SeatView = (g.W.RecordWords.known c.args.words.now).view in let inner : 1 ≤ c.args.level = search rules in
-    seen_on (g.W.RecordWords.known c.load_word-count.new.self).view (g.W.RecordWords.known c.load_word-a.new.self).view _ c.args.word c.load_word-a.ensures.view.stepped
-    (seen_on v (g.W.RecordWords.known c.load_word-count.new.self).view _ c.args.word c.load_word-count.ensures.view.stepped
-    (record_seen g.A.Monoid.parts g.B.Monoid.parts v c.requires.knows (cut_named v.shape v.seen c.args.snapshot) c.args.level c.args.place c.args.word c.requires.node inner))
+    guards_on (g.W.RecordWords.known c.load_word-count.new.self).view (g.W.RecordWords.known c.load_word-a.new.self).view _ c.args.word c.load_word-a.ensures.view.stepped
+    (guards_on v (g.W.RecordWords.known c.load_word-count.new.self).view _ c.args.word c.load_word-count.ensures.view.stepped
+    (record_guarded g.A.Monoid.parts g.B.Monoid.parts v c.requires.knows (cut_named v.shape v.seen c.args.snapshot) c.args.level c.args.place c.args.word c.requires.node inner))
 
 pub overflow_cast-result : goal.overflow_cast-result
 overflow_cast-result g c = let v : SeatView = (g.W.RecordWords.known c.args.words.now).view in let inner : 1 ≤ c.args.level = search rules in

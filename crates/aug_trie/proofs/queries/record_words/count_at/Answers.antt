@@ -5,7 +5,7 @@ use Rattle.aug_model.specs.NodeKeys.{keys_below}
 use Rattle.aug_trie.specs.inside.NodeWords.{IsNodeAt}
 use Rattle.aug_trie.specs.LeafWords.{serial_in_word}
 use Rattle.aug_trie.specs.inside.NamedCuts.{cut_named}
-use Rattle.aug_trie.proofs.Looking.{record_seen, count_fits, count_is}
+use Rattle.aug_trie.proofs.Looking.{record_guarded, count_fits, count_is}
 use Rattle.aug_trie.proofs.Walking.{leaf_count}
 use Rattle.aug_trie.proofs.queries.record_words.count_at.Goals as goal
 
@@ -20,7 +20,7 @@ returns-then-level-eq0-clause-value g c = let v : SeatView = (g.W.RecordWords.kn
 
 pub load_word-requires : goal.load_word-requires
 load_word-requires g c = let v : SeatView = (g.W.RecordWords.known c.args.words.now).view in let inner : 1 ≤ c.args.level = search rules in
-    record_seen g.A.Monoid.parts g.B.Monoid.parts v c.requires.knows (cut_named v.shape v.seen c.args.snapshot) c.args.level c.args.place c.args.word c.requires.node inner
+    record_guarded g.A.Monoid.parts g.B.Monoid.parts v c.requires.knows (cut_named v.shape v.seen c.args.snapshot) c.args.level c.args.place c.args.word c.requires.node inner
 
 pub overflow_cast-result-2 : goal.overflow_cast-result-2
 overflow_cast-result-2 g c = let v : SeatView = (g.W.RecordWords.known c.args.words.now).view in let inner : 1 ≤ c.args.level = search rules in

@@ -3,12 +3,12 @@ use Rattle.aug_core.specs.Cuts.{Cut}
 use Rattle.aug_core.specs.declared.view.SeatView.{SeatView}
 use Rattle.aug_trie.specs.inside.NodeWords.{IsNodeAt}
 use Rattle.aug_trie.specs.inside.NamedCuts.{cut_named}
-use Rattle.aug_trie.proofs.Looking.{record_seen, right_is}
+use Rattle.aug_trie.proofs.Looking.{record_guarded, right_is}
 use Rattle.aug_trie.proofs.queries.record_words.right_word.Goals as goal
 
 pub load_word-requires : goal.load_word-requires
 load_word-requires g c = let v : SeatView = (g.W.RecordWords.known c.args.words.now).view in let inner : 1 ≤ c.args.level + 1 = omega arith in
-    record_seen g.A.Monoid.parts g.B.Monoid.parts v c.requires.knows (cut_named v.shape v.seen c.args.snapshot) (c.args.level + 1) c.args.place c.args.word c.requires.node inner
+    record_guarded g.A.Monoid.parts g.B.Monoid.parts v c.requires.knows (cut_named v.shape v.seen c.args.snapshot) (c.args.level + 1) c.args.place c.args.word c.requires.node inner
 
 pub returns-clause-node : goal.returns-clause-node
 returns-clause-node g c = let v : SeatView = (g.W.RecordWords.known c.args.words.now).view in let cut : Cut = cut_named v.shape v.seen c.args.snapshot in let inner : 1 ≤ c.args.level + 1 = omega arith in

@@ -1,13 +1,13 @@
 use Rattle.std.proofs.Common.{arith, inl, refl, subst, sym, ◌≡◌, ◌+◌, set}
 use Rattle.aug_monoid.proofs.BoundLaws.{laws_of}
 use Rattle.aug_core.specs.Faces.{face}
-use Rattle.aug_core.specs.Effects.{HasSeen}
+use Rattle.aug_core.specs.Effects.{GuardsRecord}
 use Rattle.aug_core.specs.declared.view.SeatView.{SeatView}
 use Rattle.aug_trie.specs.inside.Points.{reading_words}
 use Rattle.aug_trie.specs.declared.turns.points.Point.TheVariants.{Part}
 use Rattle.aug_core.proofs.PlaceLemmas.{keys-within}
 use Rattle.aug_trie.proofs.Going.{quiet_stepping}
-use Rattle.aug_trie.proofs.Advancing.{child_seen, counts_fit, part_on, all_on, goes_all, took_all, nodes_told}
+use Rattle.aug_trie.proofs.Advancing.{child_guarded, counts_fit, part_on, all_on, goes_all, took_all, nodes_told}
 use Rattle.aug_trie.proofs.turns.points.load_part.Goals as goal
 
 pub next_word-number-requires : goal.next_word-number-requires
@@ -15,7 +15,7 @@ next_word-number-requires g c = c.requires.begun.3.is_at.few
 
 pub load_record_word-requires : goal.load_record_word-requires
 load_record_word-requires g c = let m = g.A.Monoid in let n = g.B.Monoid in let b = c.requires.begun in let old : SeatView = c.args.pass.now.view in
-    inl (subst (HasSeen old) (sym c.next_word-number.ensures.record) (child_seen m.parts n.parts (laws_of g.met.A.Monoid) (laws_of g.met.B.Monoid) b.0 b.1 b.2 c.args.reading old b.3))
+    inl (subst (GuardsRecord old) (sym c.next_word-number.ensures.record) (child_guarded m.parts n.parts (laws_of g.met.A.Monoid) (laws_of g.met.B.Monoid) b.0 b.1 b.2 c.args.reading old b.3))
 
 pub over_nodes-requires : goal.over_nodes-requires
 over_nodes-requires g c = let m = g.A.Monoid in let n = g.B.Monoid in let r = c.args.reading in let is = c.next_word-number.ensures in let b = c.requires.begun in let v : SeatView = b.0 in let t = b.3 in let a = t.is_at in

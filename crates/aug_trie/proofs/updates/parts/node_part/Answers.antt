@@ -2,20 +2,20 @@ use Rattle.std.proofs.Common.{arith, inl, ◌∙◌}
 use Rattle.aug_monoid.proofs.BoundLaws.{laws_of}
 use Rattle.aug_core.specs.Faces.{face}
 use Rattle.aug_core.specs.declared.view.SeatView.{SeatView}
-use Rattle.aug_trie.proofs.Telling.{has_seen, seen_on, says_before, goes_three, part_of_node}
+use Rattle.aug_trie.proofs.Telling.{guards_named, guards_on, says_before, goes_three, part_of_node}
 use Rattle.aug_trie.proofs.updates.parts.node_part.Goals as goal
 
 pub load_record_word-count-requires : goal.load_record_word-count-requires
-load_record_word-count-requires g c = inl (has_seen (face g.A.Monoid.parts g.B.Monoid.parts) c.args.pass.now.view c.args.node c.args.number c.requires.over.knows c.requires.inner c.requires.named)
+load_record_word-count-requires g c = inl (guards_named (face g.A.Monoid.parts g.B.Monoid.parts) c.args.pass.now.view c.args.node c.args.number c.requires.over.knows c.requires.inner c.requires.named)
 
 pub load_record_word-a-requires : goal.load_record_word-a-requires
-load_record_word-a-requires g c = inl (seen_on c.args.pass.now.view c.load_record_word-count.new.self.view _ c.args.number c.load_record_word-count.ensures.view.stepped
-    (has_seen (face g.A.Monoid.parts g.B.Monoid.parts) c.args.pass.now.view c.args.node c.args.number c.requires.over.knows c.requires.inner c.requires.named))
+load_record_word-a-requires g c = inl (guards_on c.args.pass.now.view c.load_record_word-count.new.self.view _ c.args.number c.load_record_word-count.ensures.view.stepped
+    (guards_named (face g.A.Monoid.parts g.B.Monoid.parts) c.args.pass.now.view c.args.node c.args.number c.requires.over.knows c.requires.inner c.requires.named))
 
 pub load_record_word-b-requires : goal.load_record_word-b-requires
-load_record_word-b-requires g c = inl (seen_on c.load_record_word-count.new.self.view c.load_record_word-a.new.self.view _ c.args.number c.load_record_word-a.ensures.view.stepped
-    (seen_on c.args.pass.now.view c.load_record_word-count.new.self.view _ c.args.number c.load_record_word-count.ensures.view.stepped
-    (has_seen (face g.A.Monoid.parts g.B.Monoid.parts) c.args.pass.now.view c.args.node c.args.number c.requires.over.knows c.requires.inner c.requires.named)))
+load_record_word-b-requires g c = inl (guards_on c.load_record_word-count.new.self.view c.load_record_word-a.new.self.view _ c.args.number c.load_record_word-a.ensures.view.stepped
+    (guards_on c.args.pass.now.view c.load_record_word-count.new.self.view _ c.args.number c.load_record_word-count.ensures.view.stepped
+    (guards_named (face g.A.Monoid.parts g.B.Monoid.parts) c.args.pass.now.view c.args.node c.args.number c.requires.over.knows c.requires.inner c.requires.named)))
 
 pub returns-clause-goes : goal.returns-clause-goes
 returns-clause-goes g c = goes_three (face g.A.Monoid.parts g.B.Monoid.parts) c.args.pass.now.view c.load_record_word-count.new.self.view c.load_record_word-a.new.self.view c.load_record_word-b.new.self.view _ _ _ c.requires.over.knows

@@ -6,7 +6,7 @@ use Rattle.aug_core.specs.declared.view.SeatView.{SeatView}
 use Rattle.aug_trie.specs.inside.Goes.{HasLeaves}
 use Rattle.aug_trie.specs.inside.Points.{TryOver}
 use Rattle.aug_trie.proofs.Ascending.{missed, covered_once, covered_twice}
-use Rattle.aug_trie.proofs.Going.{room_again}
+use Rattle.aug_trie.proofs.Going.{may_store_room, room_again}
 use Rattle.aug_trie.proofs.updates.propagate.refresh_twice.Goals as goal
 
 pub refresh-requires-2 : goal.refresh-requires-2
@@ -14,7 +14,7 @@ refresh-requires-2 g c = let over = c.refresh.ensures.view in let shaped = over.
   leaves = subst (λ (z : Shape). HasLeaves z c.args.leaves) (sym shaped) c.requires.leaves;
   inner = subst (λ (z : Shape). IsInner z c.args.node) (sym shaped) c.requires.inner;
   knows = over.goes.knows_table;
-  room = room_again (face g.A.Monoid.parts g.B.Monoid.parts) c.args.pass.now.view c.refresh.new.pass.view c.args.number (c.args.number + 1) over.goes (over.tries.again c.if-refresh.false c.requires.room.is_free) c.requires.room;
+  room = room_again (face g.A.Monoid.parts g.B.Monoid.parts) c.args.pass.now.view c.refresh.new.pass.view c.args.number (c.args.number + 1) over.goes (over.tries.again c.if-refresh.false (may_store_room c.args.pass.now.view c.args.number c.requires.room)) c.requires.room;
 }
 
 pub returns : goal.returns

@@ -6,7 +6,7 @@ use Rattle.aug_query.specs.Descend.{Loads}
 use Rattle.aug_words.specs.Seats.{Known}
 use Rattle.aug_trie.specs.Node.{Reads, steps_for}
 use Rattle.aug_trie.specs.Snapshot.{set_at}
-use Rattle.aug_trie.specs.inside.PassState.{pass_facts, KeepsPass}
+use Rattle.aug_trie.specs.inside.PassState.{pass_facts, KeepsAccount}
 use Rattle.aug_trie.specs.inside.SnapshotWalk.{set_seen, HasWalk}
 use Rattle.aug_trie.proofs.Asking.{may_walk, same_set, still_pass, reads_of}
 use Rattle.aug_trie.proofs.rounds.pass.Pass.ask.Goals as goal
@@ -20,7 +20,7 @@ pub invariant_of-self : goal.invariant_of-self
 invariant_of-self g c = let i = c.self.inside in let w = c.of_pass-walk.result in let most : Loads = g.Q.Query.most c.args.query (set_seen w.words.view w.snapshot) in
     let still = still_pass g.A.Monoid.parts g.B.Monoid.parts i.words w c.run-answer.new.tree i.account.leaves i.account.bits i.account.next i.account.left i.account.inserts i.account.removals most.nodes most.counts most.summaries most.passed c.self.invariant.pass c.self.invariant.counts
     (sym c.take.ensures.value ∙ c.of_pass-walk.ensures.words) c.run-answer.ensures.descends in
-    subst (λ (z : Known). KeepsPass (face g.A.Monoid.parts g.B.Monoid.parts) (Some z) i.account) (sym c.into_words.ensures) record { pass = still.0; counts = still.1 }
+    subst (λ (z : Known). KeepsAccount (face g.A.Monoid.parts g.B.Monoid.parts) (Some z) i.account) (sym c.into_words.ensures) record { pass = still.0; counts = still.1 }
 
 pub returns-clause-answer : goal.returns-clause-answer
 returns-clause-answer g c = let i = c.self.inside in

@@ -4,7 +4,7 @@ use Rattle.aug_core.specs.Faces.{face}
 use Rattle.aug_query.specs.DescendBoth.{BothSets, differing_nodes}
 use Rattle.aug_words.specs.Seats.{Known}
 use Rattle.aug_trie.specs.inside.BothWalk.{both_seen}
-use Rattle.aug_trie.specs.inside.PassState.{pass_facts, KeepsPass}
+use Rattle.aug_trie.specs.inside.PassState.{pass_facts, KeepsAccount}
 use Rattle.aug_trie.proofs.Comparing.{walks_both, same_both, still_pass_both, compared, none_read}
 use Rattle.aug_trie.proofs.Passing.{pass_told}
 use Rattle.aug_trie.proofs.rounds.pass.Pass.changes.Goals as goal
@@ -19,7 +19,7 @@ invariant_of-self g c = let i = c.self.inside in let w = c.over-walk.result in
     let there : i.words ≡ Some w.words = sym c.take.ensures.value ∙ c.in-Some.is ∙ ap (λ (z : Known). Some z) (sym c.over-walk.ensures.words) in
     let still = still_pass_both g.A.Monoid.parts g.B.Monoid.parts i.words w c.next_changes-page.new.trees i.account.leaves i.account.bits i.account.next i.account.left i.account.inserts i.account.removals
     (2 * differing_nodes (both_seen w.words.view w.earlier w.later) c.args.from) c.self.invariant.pass c.self.invariant.counts there c.next_changes-page.ensures.descends in
-    subst (λ (z : Known). KeepsPass (face g.A.Monoid.parts g.B.Monoid.parts) (Some z) i.account) (sym c.into_words.ensures) record { pass = still.0; counts = still.1 }
+    subst (λ (z : Known). KeepsAccount (face g.A.Monoid.parts g.B.Monoid.parts) (Some z) i.account) (sym c.into_words.ensures) record { pass = still.0; counts = still.1 }
 
 pub returns-clause-answer : goal.returns-clause-answer
 returns-clause-answer g c = let i = c.self.inside in let w = c.over-walk.result in

@@ -6,7 +6,7 @@ use Rattle.aug_query.specs.Yields.{YieldsNext}
 use Rattle.aug_words.specs.Seats.{Known}
 use Rattle.aug_trie.specs.Node.{Reads}
 use Rattle.aug_trie.specs.inside.Cursors.{IsCursorOf}
-use Rattle.aug_trie.specs.inside.PassState.{pass_facts, KeepsPass}
+use Rattle.aug_trie.specs.inside.PassState.{pass_facts, KeepsAccount}
 use Rattle.aug_trie.specs.inside.SnapshotWalk.{HasWalk}
 use Rattle.aug_trie.proofs.Asking.{may_walk, same_set, still_pass, reads_of}
 use Rattle.aug_trie.proofs.Cursors.{cursor_in, walked_out}
@@ -25,7 +25,7 @@ pub invariant_of-self : goal.invariant_of-self
 invariant_of-self g c = let i = c.self.inside in let w = c.of_pass-walk.result in let bits : ℕ = w.words.view.shape.bits in
     let still = still_pass g.A.Monoid.parts g.B.Monoid.parts i.words w c.next-found.new.tree i.account.leaves i.account.bits i.account.next i.account.left i.account.inserts i.account.removals (3 * bits - 2) (2 * bits - 1) 0 0 c.self.invariant.pass c.self.invariant.counts
     (sym c.take.ensures.value ∙ c.of_pass-walk.ensures.words) c.next-found.ensures.descends in
-    subst (λ (z : Known). KeepsPass (face g.A.Monoid.parts g.B.Monoid.parts) (Some z) i.account) (sym c.into_words.ensures) record { pass = still.0; counts = still.1 }
+    subst (λ (z : Known). KeepsAccount (face g.A.Monoid.parts g.B.Monoid.parts) (Some z) i.account) (sym c.into_words.ensures) record { pass = still.0; counts = still.1 }
 
 pub returns-clause-of_pass : goal.returns-clause-of_pass
 returns-clause-of_pass g c = let i = c.self.inside in let w = c.of_pass-walk.result in let bits : ℕ = w.words.view.shape.bits in

@@ -1,8 +1,7 @@
 -- What the test of two passes on one node needs: a table of 1 bit has the leaves 0 and 1, and the node 2 over them.
-use Rattle.std.proofs.Common.{◌≡◌, ◌≢◌, ℕ, Bool, true, false, ◌+◌, ◌-◌, ◌*◌, ◌/◌, ◌%◌, ◌^◌, ◌<◌, ◌≤◌, eqb, if◌then◌else◌, List, [], ◌∷◌, ◌++◌, length, get_or, refl, sym, ap, ◌∙◌, subst, arith}
+use Rattle.std.proofs.Common.{◌≡◌, ◌≢◌, ℕ, Bool, true, false, ◌+◌, ◌-◌, ◌*◌, ◌/◌, ◌%◌, ◌^◌, ◌<◌, ◌≤◌, eqb, if◌then◌else◌, List, [], ◌∷◌, ◌++◌, get_or, refl, sym, ap, ◌∙◌, subst, arith}
 use Rattle.aug_core.specs.Places.{Shape, shape_of, own_records}
 use Rattle.aug_core.specs.Addresses.{IsInner, left_of, right_of}
-use Rattle.aug_core.specs.Lanes.{IsOfLane, block_size}
 use Rattle.aug_core.specs.Book.{IsSerial, IsBook, IsNewest}
 use Rattle.aug_core.specs.inside.Refreshes.{HasNewest, SaysLoaded}
 use Rattle.aug_core.specs.Effects.{MayStore, TriesLeaf, LoadsLeaf, BeginsAtLeaf, LoadsNode, IsFilled}
@@ -13,6 +12,7 @@ use Rattle.aug_core.proofs.Filling.{filled_view, is_filled}
 use Rattle.aug_core.proofs.Refreshing.{is_loaded}
 use mathlib.Core.Bool.{true≢false}
 use Rattle.aug_words.specs.Seats.{MayAdvance, TriedLeaf}
+use Rattle.aug_words_tests.proofs.LaneTests.{IsOfLane}
 use Rattle.aug_core.proofs.PrefixLemmas.{book_refl}
 
 abbrev pub small : Shape
@@ -23,8 +23,8 @@ unfolding own_records
 no_own = refl
 
 -- each lane has one record, behind the one of the opening
-pub first_lane : (lane n : ℕ) → 1 + lane * 1 ≤ n → n < 2 + lane * 1 → IsOfLane small lane n
-first_lane lane n low high = let own = no_own in record { from_first = omega arith; below_next = omega arith }
+pub first_lane : (s : Shape) → s ≡ small → (lane : ℕ) → IsOfLane s lane (1 + lane)
+first_lane s e lane = subst (λ (z : Shape). IsOfLane z lane (1 + lane)) (sym e) (let own = no_own in (0, omega arith, omega arith))
 
 pub node_inner : (s : Shape) → s.bits ≡ 1 → IsInner s 2
 node_inner s one = let e : 2 ^ s.bits ≡ 2 = ap (λ (b : ℕ). 2 ^ b) one in let f : 2 ^ (s.bits + 1) ≡ 4 = ap (λ (b : ℕ). 2 ^ (b + 1)) one in record { past_leaves = omega arith; inside = omega arith }
@@ -36,16 +36,16 @@ there key word = if eqb (word / 2 ^ 32 % 2) 1 then (key, word % 2 ^ 32) ∷ [] e
 -- they are those of the entry that the word names
 there_is : (key i word : ℕ) (e : Entry) → IsSerial key i e → e.word ≡ word → e.pairs ≡ there key word
 there_is key i word e is named =
-    let of_leaf = is.named in let fits = is.fits in let serial : i ≡ word / 2 ^ 32 = omega arith in let weight : e.weight ≡ word % 2 ^ 32 = omega arith in
-    is.there_if_odd ∙ (λ j. if eqb (serial j % 2) 1 then (key, weight j) ∷ [] else [])
+    let of_leaf = is.named in let fits = is.fits in let odd : i % 2 ≡ word / 2 ^ 32 % 2 = omega arith in let weight : e.weight ≡ word % 2 ^ 32 = omega arith in
+    is.there_if_odd ∙ (λ j. if eqb (odd j) 1 then (key, weight j) ∷ [] else [])
 
 -- what the first load of an update allows
 module _ (face : ℕ → ℕ → List (ℕ × ℕ) → List ℕ) (v w : SeatView) (key word : ℕ) (began : BeginsAtLeaf face v key word w) (inside : key < 2 ^ v.shape.bits) where
   of_leaf : IsSerial key began.index began.entry
   of_leaf = began.sees.book.serials key began.index began.entry inside began.newest.at
 
-  -- the word has the newest serial, which is small
-  pub serial_is : (word / 2 ^ 32 ≡ began.index) × (began.index ≤ 1 + v.shape.workers * (2 * v.shape.updates))
+  -- the word has the lower bits of the newest serial, which is small
+  pub serial_is : (word / 2 ^ 32 ≡ began.index % 2 ^ 32) × (began.index ≤ 1 + v.shape.workers * (2 * v.shape.updates))
   serial_is = let leaf = of_leaf in let found = began.found in let named = leaf.named in let fits = leaf.fits in let last = began.newest.last in let few = began.sees.fits.few key inside in (omega arith, omega arith)
 
   -- a key that is not there may come in
@@ -54,28 +54,24 @@ module _ (face : ℕ → ℕ → List (ℕ × ℕ) → List ℕ) (v w : SeatView
     advance = record { serial = began.index; weight = began.entry.weight; replaces = false; new_weight = weight };
     is_advance = record { fits = leaf.fits; new_fits = fits; from_there = λ e. absurd (true≢false (sym e)); weighs_nothing = λ _ odd. absurd (omega arith) };
     from = began.found ∙ leaf.named;
-    to = ap (λ (z : ℕ). (z + 1) * 2 ^ 32 + weight) serial;
-    entry = began.entry;
-    at = began.newest.at;
-    weighs = refl;
+    to = let next : word / 2 ^ 32 + 1 ≡ (began.index + 1) % 2 ^ 32 = omega arith in ap (λ (z : ℕ). z * 2 ^ 32 + weight) next;
+    known = record { entry = began.entry; at = began.newest.at; weighs = refl };
   }
 
-  -- and one that is there may get another weight
-  pub may_replace : (weight : ℕ) → word / 2 ^ 32 % 2 ≡ 1 → weight < 2 ^ 32 → MayAdvance w key word ((word / 2 ^ 32 + 2) * 2 ^ 32 + weight)
-  may_replace weight odd fits = let leaf = of_leaf in let serial = serial_is.0 in record {
+  -- and one that is there may get another weight, in a table for one update
+  pub may_replace : (weight : ℕ) → word / 2 ^ 32 % 2 ≡ 1 → v.shape.workers * (2 * v.shape.updates) ≡ 2 → weight < 2 ^ 32 → MayAdvance w key word ((word / 2 ^ 32 + 2) * 2 ^ 32 + weight)
+  may_replace weight odd few fits = let leaf = of_leaf in let serial = serial_is.0 in let low = serial_is.1 in record {
     advance = record { serial = began.index; weight = began.entry.weight; replaces = true; new_weight = weight };
     is_advance = record { fits = leaf.fits; new_fits = fits; from_there = λ _. (let is : began.index % 2 ≡ 1 = omega arith in is); weighs_nothing = λ e. absurd (true≢false e) };
     from = began.found ∙ leaf.named;
-    to = ap (λ (z : ℕ). (z + 2) * 2 ^ 32 + weight) serial;
-    entry = began.entry;
-    at = began.newest.at;
-    weighs = refl;
+    to = let next : word / 2 ^ 32 + 2 ≡ (began.index + 2) % 2 ^ 32 = omega arith in ap (λ (z : ℕ). z * 2 ^ 32 + weight) next;
+    known = record { entry = began.entry; at = began.newest.at; weighs = refl };
   }
 
   -- and once it was tried, the pass has the records that it had
   module _ (x : SeatView) (new : ℕ) (done : Bool) (may : MayAdvance w key word new) (tried : TriedLeaf face w key word new done x) where
     told : TriesLeaf face w key may.advance tried.found x
-    told = tried.told may.advance may.is_advance may.from may.to
+    told = tried.told may.advance may.is_advance may.known may.from may.to
 
     pub shape_stays : x.shape ≡ v.shape
     shape_stays = told.shaped ∙ ap (λ (z : SeatView). z.shape) began.stepped
@@ -130,5 +126,5 @@ module _ (face : ℕ → ℕ → List (ℕ × ℕ) → List ℕ) (v v1 v2 v3 : S
       five_are = are ∙ (λ i. face (sym first i) (sym second i) (sym below_left i ++ sym below_right i));
     }
 
-    pub may_publish : (number : ℕ) (may : MayStore v3 number) → length may.lane.words ≡ block_size v3.shape → IsFilled face (filled_view v3 number five) 2 from number
-    may_publish number may long = is_filled v3 number five may.lane may.only may.of_lane long face 2 from (subst (λ (z : Shape). SaysLoaded face z v3.seen 2 from five) (sym shape3) says)
+    pub may_publish : (number : ℕ) (may : MayStore v3 number) → IsFilled face (filled_view v3 number five) 2 from number
+    may_publish number may = is_filled v3 number five may face 2 from (subst (λ (z : Shape). SaysLoaded face z v3.seen 2 from five) (sym shape3) says)

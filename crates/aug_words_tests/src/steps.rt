@@ -66,7 +66,6 @@ fn refill<A: Monoid, B: Monoid>(pass: &mut WordPass<'_, A, B>, number: u64) -> u
     let from = pass.load_node(NODE);
     let left = pass.load_leaf(0);
     let right = pass.load_leaf(1);
-    pass.lane();
     let five = words_over::<A, B>(left, right);
     pass.store_record_word(number, RecordField::Left, five[0]);
     pass.store_record_word(number, RecordField::Right, five[1]);

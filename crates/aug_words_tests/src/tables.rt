@@ -1,6 +1,6 @@
 //! A small table, and what a table holds at rest.
-ghost use Rattle.std.specs.Prelude.{◌≡◌, ◌≤◌, ◌<◌, ◌+◌, All, Some, IfOk, length};
-ghost use Rattle.aug_core.specs.Lanes.{IsOfLane};
+ghost use Rattle.std.specs.Prelude.{◌≡◌, ◌≤◌, ◌<◌, ◌+◌, ℕ, All, Some, IfOk, length};
+ghost use Rattle.aug_core.specs.Lanes.{first_record, lane_records};
 ghost use Rattle.aug_core.specs.Places.{shape_of, record_count};
 ghost use Rattle.aug_core.specs.Effects.{MayStore, MayChange};
 ghost use Rattle.aug_model.specs.Keys.{IsKeySet, keys_of};
@@ -57,7 +57,7 @@ pub(super) fn next_pass<'r, A: Monoid, B: Monoid>(
     requires together { AreTogether words.now lead.old }
     requires lane { (lead.old.view.spare ≡ Some lane) × (lane < words.now.shape.workers) }
     requires updates { 0 < words.now.shape.updates }
-    requires number { IsOfLane words.now.shape lane number }
+    requires number { (k : ℕ) × (k < lane_records words.now.shape) × (number ≡ first_record words.now.shape lane + k) }
     ensures together { AreTogether words.now lead.new }
     ensures lead { lead.new.view.spare ≡ Some (lane + 1) }
     ensures pass { AreTogether words.now result }

@@ -1,6 +1,6 @@
 //! Passes at work in threads of their own: each fills a record and reads it.
-ghost use Rattle.std.specs.Prelude.{◌≡◌, ◌<◌, ◌+◌, Some, IfOk};
-ghost use Rattle.aug_core.specs.Lanes.{IsOfLane};
+ghost use Rattle.std.specs.Prelude.{◌≡◌, ◌<◌, ◌+◌, ℕ, Some, IfOk};
+ghost use Rattle.aug_core.specs.Lanes.{first_record, lane_records};
 ghost use Rattle.aug_core.specs.Places.{shape_of};
 ghost use Rattle.aug_core.specs.Effects.{MayStore};
 ghost use Rattle.aug_words.specs.Seats.{AreTogether};
@@ -32,7 +32,7 @@ pub(super) fn next_half(
     requires together { AreTogether words.now lead.old }
     requires lane { (lead.old.view.spare ≡ Some lane) × (lane < words.now.shape.workers) }
     requires updates { 0 < words.now.shape.updates }
-    requires number { IsOfLane words.now.shape lane number }
+    requires number { (k : ℕ) × (k < lane_records words.now.shape) × (number ≡ first_record words.now.shape lane + k) }
     ensures together { AreTogether words.now lead.new }
     ensures lead { lead.new.view.spare ≡ Some (lane + 1) }
     ensures half { AreTogether words.now result }

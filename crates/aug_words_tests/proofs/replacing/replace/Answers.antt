@@ -18,10 +18,10 @@ overflow_add-serial-then-serial-eq1 g c =
 pub try_leaf-requires-clause-advance : goal.try_leaf-requires-clause-advance
 try_leaf-requires-clause-advance g c =
     let inside = subst (λ (s : Shape). c.args.leaf < 2 ^ s.bits) (sym c.requires.shape) (let low = c.requires.leaf in omega arith) in
-    may_replace (face g.A.Monoid.parts g.B.Monoid.parts) _ _ _ _ c.begin_at_leaf-word.ensures.view inside c.from.result c.if-serial-eq1.true (let weight = c.from.ensures in let fits = c.ranges.weight.fits in omega arith)
+    may_replace (face g.A.Monoid.parts g.B.Monoid.parts) _ _ _ _ c.begin_at_leaf-word.ensures.view inside c.from.result c.if-serial-eq1.true (ap (λ (s : Shape). s.workers * (2 * s.updates)) c.requires.shape) (let weight = c.from.ensures in let fits = c.ranges.weight.fits in omega arith)
 
 pub returns-then-serial-eq1 : goal.returns-then-serial-eq1
 returns-then-serial-eq1 g c =
     let inside = subst (λ (s : Shape). c.args.leaf < 2 ^ s.bits) (sym c.requires.shape) (let low = c.requires.leaf in omega arith) in
-    let may = may_replace (face g.A.Monoid.parts g.B.Monoid.parts) _ _ _ _ c.begin_at_leaf-word.ensures.view inside c.from.result c.if-serial-eq1.true (let weight = c.from.ensures in let fits = c.ranges.weight.fits in omega arith) in
+    let may = may_replace (face g.A.Monoid.parts g.B.Monoid.parts) _ _ _ _ c.begin_at_leaf-word.ensures.view inside c.from.result c.if-serial-eq1.true (ap (λ (s : Shape). s.workers * (2 * s.updates)) c.requires.shape) (let weight = c.from.ensures in let fits = c.ranges.weight.fits in omega arith) in
     record { same = (c.try_leaf.ensures.table ∙ c.begin_at_leaf-word.ensures.table, shape_stays _ _ _ _ _ c.begin_at_leaf-word.ensures.view inside _ _ _ may c.try_leaf.ensures.view) }

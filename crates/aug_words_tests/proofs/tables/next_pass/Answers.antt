@@ -1,7 +1,8 @@
-use Rattle.std.proofs.Common.{sym, subst, ◌∙◌, ◌<◌}
+use Rattle.std.proofs.Common.{sym, ap, subst, ◌∙◌, ◌+◌, ◌<◌}
 use Rattle.aug_core.specs.Faces.{face}
-use Rattle.aug_core.specs.Lanes.{IsOfLane}
+use Rattle.aug_core.specs.Lanes.{first_record, lane_records}
 use Rattle.aug_core.specs.Places.{Shape}
+use Rattle.aug_core.specs.Effects.{MayStore}
 use Rattle.aug_words.proofs.Leads.{lead_shape, next_spare, pass_shape, pass_may_store, pass_may_change}
 use Rattle.aug_words_tests.proofs.tables.next_pass.Goals as goal
 
@@ -24,8 +25,10 @@ returns-clause-pass g c = let f = face g.A.Monoid.parts g.B.Monoid.parts in let 
 }
 
 pub returns-clause-own : goal.returns-clause-own
-returns-clause-own g c = pass_may_store (face g.A.Monoid.parts g.B.Monoid.parts) _ _ _ c.split.ensures.hands_out c.args.lane c.args.number c.requires.lane.0
-    (subst (λ (s : Shape). IsOfLane s c.args.lane c.args.number) (sym c.requires.together.one_shape) c.requires.number)
+returns-clause-own g c = let of = c.requires.number in let shaped = c.requires.together.one_shape in
+    subst (MayStore c.split.result.view) (ap (λ (s : Shape). first_record s c.args.lane + of.0) shaped ∙ sym of.2)
+    (pass_may_store (face g.A.Monoid.parts g.B.Monoid.parts) _ _ _ c.split.ensures.hands_out c.args.lane of.0
+    record { next = c.requires.lane.0; exists = subst (λ (s : Shape). c.args.lane < s.workers) (sym shaped) c.requires.lane.1 } (subst (λ (s : Shape). of.0 < lane_records s) (sym shaped) of.1))
 
 pub returns-clause-change : goal.returns-clause-change
 returns-clause-change g c = pass_may_change (face g.A.Monoid.parts g.B.Monoid.parts) _ _ _ c.split.ensures.hands_out

@@ -19,7 +19,7 @@ use Rattle.aug_trie.specs.TreeOf.{IsTreeOf}
 use Rattle.aug_trie.specs.Updates.{ComesTo, TakesSnapshot, Tells}
 use Rattle.aug_trie.specs.inside.Climbing.{UpdatedFrom, told_by}
 use Rattle.aug_trie.specs.inside.Counted.{HasCounts, insertions_by, removals_by}
-use Rattle.aug_trie.specs.inside.Goes.{Looks}
+use Rattle.aug_trie.specs.inside.Goes.{Looks, HasRoom}
 use Rattle.aug_trie.specs.inside.Knows.{knows}
 use Rattle.aug_trie.specs.inside.NamedCuts.{cut_named}
 use Rattle.aug_trie.specs.inside.NodeWords.{IsNodeAt}
@@ -82,10 +82,10 @@ module _ {A B : Type 0} (parts_a : Parts A) (parts_b : Parts B) where
     pub has_count : (a.inserts + 1 < 2 ^ 32) × (a.removals + 1 < 2 ^ 32)
     has_count = let room = may_count f k.view a.leaves a.bits a.next a.left a.inserts a.removals told.0 counts in (omega (arith, room), omega (arith, room))
 
-    -- and its records are numbered
-    pub has_records : now.spent < now.round.updates → a.next + a.bits < 2 ^ 60
+    -- and it has the records for one more update, which are numbered
+    pub has_records : now.spent < now.round.updates → HasRoom k.view a.next a.bits × (a.next + a.bits < 2 ^ 60) × (1 ≤ a.bits)
     has_records budget = let budget' = subst (λ (z : PassFacts). z.spent < z.round.updates) (sym told.1) budget in let some : 1 ≤ a.left = omega arith in
-        (room_one f k.view a.leaves a.bits a.next a.left told.0 some).1
+        room_one f k.view a.leaves a.bits a.next a.left told.0 some
 
     pub update_made : (key : ℕ) (request : Request) (made : LeafUpdate) (w : Known) (after : Account) → key < 2 ^ now.round.bits → now.spent < now.round.updates → UpdatedFrom f (a.next + a.bits) k.view key request w.view made.found made.outcome → made.left ≡ word_left request key made.found made.outcome → w.table ≡ k.table
         → after ≡ account_after a request made.outcome → UpdateMade now key request made w after

@@ -31,11 +31,14 @@ pub returns-clause-steps : goal.returns-clause-steps
 returns-clause-steps g c = let i = c.self.inside in (update_made g.A.Monoid.parts g.B.Monoid.parts i.words i.account c.args.self.now c.in-Some.words c.self.invariant c.self.view_is (sym c.take.ensures.value ∙ c.in-Some.is)
     c.args.k c.args.request c.update-words.result.1 c.update-words.result.0 c.after-self-inside.result c.requires.key c.requires.budget c.update-words.ensures.updated c.update-words.ensures.left c.update-words.ensures.table c.after-self-inside.ensures).steps
 
+pub update-words-requires-clause-room : goal.update-words-requires-clause-room
+update-words-requires-clause-room g c = let i = c.self.inside in (has_records g.A.Monoid.parts g.B.Monoid.parts i.words i.account c.args.self.now c.in-Some.words c.self.invariant c.self.view_is (sym c.take.ensures.value ∙ c.in-Some.is) c.requires.budget).0
+
 pub update-words-requires-clause-small : goal.update-words-requires-clause-small
-update-words-requires-clause-small g c = let i = c.self.inside in has_records g.A.Monoid.parts g.B.Monoid.parts i.words i.account c.args.self.now c.in-Some.words c.self.invariant c.self.view_is (sym c.take.ensures.value ∙ c.in-Some.is) c.requires.budget
+update-words-requires-clause-small g c = let i = c.self.inside in (has_records g.A.Monoid.parts g.B.Monoid.parts i.words i.account c.args.self.now c.in-Some.words c.self.invariant c.self.view_is (sym c.take.ensures.value ∙ c.in-Some.is) c.requires.budget).1
 
 pub after-self-inside-requires-clause-records : goal.after-self-inside-requires-clause-records
-after-self-inside-requires-clause-records g c = let i = c.self.inside in has_records g.A.Monoid.parts g.B.Monoid.parts i.words i.account c.args.self.now c.in-Some.words c.self.invariant c.self.view_is (sym c.take.ensures.value ∙ c.in-Some.is) c.requires.budget
+after-self-inside-requires-clause-records g c = let i = c.self.inside in (has_records g.A.Monoid.parts g.B.Monoid.parts i.words i.account c.args.self.now c.in-Some.words c.self.invariant c.self.view_is (sym c.take.ensures.value ∙ c.in-Some.is) c.requires.budget).1
 
 pub returns-clause-tells : goal.returns-clause-tells
 returns-clause-tells g c = let i = c.self.inside in let made = c.update-words.result.1 in let before : Knowledge = c.args.self.now.knows in let after : Knowledge = knows c.update-words.result.0.view in

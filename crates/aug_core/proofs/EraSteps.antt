@@ -6,12 +6,10 @@ use Rattle.atomic_table.specs.Table.{step, Allows}
 use Rattle.aug_core.specs.Places.{Shape, record_start, record_words, word_count}
 use Rattle.aug_core.specs.Addresses.{IsInner}
 use Rattle.aug_core.specs.Lanes.{word_of_state}
-use Rattle.aug_core.specs.Book.{At}
 use Rattle.aug_core.specs.Eras.{IsAtWork, Ruled}
 use Rattle.aug_core.specs.Effects.{Sat, in_part, read_record, MayStore, stored_record, own_lane_place, took_lane, finished_lane, loaded_leaf, began_at_leaf, MayChange, old_word, new_word, IsAdvance, KnowsSerial, tried_leaf, loaded_node, IsFilled, tried_node}
 use Rattle.aug_core.specs.inside.LaneStates.{MayTake, HasTakenLane}
 use Rattle.aug_core.specs.declared.view.Advance.{Advance}
-use Rattle.aug_core.specs.declared.view.Entry.{Entry}
 use Rattle.aug_core.specs.declared.view.LaneState.TheVariants.{Free, Taken, Ended}
 use Rattle.aug_core.specs.Learning.{loaded_after_note}
 use Rattle.aug_core.proofs.Eras.{holds_lane, in_its_era, hears_in_its_era}

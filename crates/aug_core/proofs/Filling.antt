@@ -1,9 +1,8 @@
 -- The five words of a record, stored one after another, and what they must say to be published.
-use Rattle.std.proofs.Common.{◌≡◌, ℕ, zero, suc, ◌+◌, ◌<◌, List, ◌++◌, length, get_or, sym, ap, ◌∙◌, arith}
+use Rattle.std.proofs.Common.{◌≡◌, ℕ, zero, suc, ◌+◌, ◌<◌, List, ◌++◌, get_or, sym, ap, ◌∙◌, arith}
 use Rattle.aug_core.specs.Places.{record_start, record_words}
 use Rattle.aug_core.specs.inside.Refreshes.{SaysLoaded}
 use Rattle.aug_core.specs.Effects.{MayStore, storing, IsFilled}
-use Rattle.aug_core.specs.declared.view.Owned.{Owned}
 use Rattle.aug_core.specs.declared.view.SeatView.{SeatView}
 use Rattle.aug_core.proofs.Owning.{with_here, with_other}
 use Rattle.aug_core.proofs.Clients.{after_store, owns_what_it_stores}

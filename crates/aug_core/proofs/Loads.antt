@@ -1,5 +1,5 @@
 -- Loads keep the rule. One of a word of a record tells what the book or the seat's own lanes say of it, and one of a leaf or a node shows the whole book.
-use Rattle.std.proofs.Common.{true, ◌≡◌, ℕ, ◌+◌, ◌-◌, ◌*◌, ◌<◌, List, [], ◌∷◌, ◌++◌, ◌^◌, get_or, arith, sym, refl, ap, ◌∙◌, subst}
+use Rattle.std.proofs.Common.{true, ◌≡◌, ℕ, ◌+◌, ◌<◌, List, [], ◌∷◌, ◌++◌, ◌^◌, get_or, arith, sym, refl, ap, ◌∙◌, subst}
 use mathlib.Core.Option.{none, some}
 use lib.ListN.{get_elem?}
 use Rattle.atomic_table.specs.Table.{step, keeps, Allows}
@@ -11,8 +11,6 @@ use Rattle.aug_core.specs.Rule.{NamesNewest, Knows, Kept}
 use Rattle.aug_core.specs.Kinds.{load_leaf, load_node, load_record_word}
 use Rattle.aug_core.specs.Effects.{Sat, stepping, Says, SaysOwn, read_record, seeing, beginning, Sees, LoadsNode, loaded_leaf, began_at_leaf, loaded_node}
 use Rattle.aug_core.specs.inside.EraSteps.{WithEra}
-use Rattle.aug_core.specs.declared.view.Entry.{Entry}
-use Rattle.aug_core.specs.declared.view.Held.{Held}
 use Rattle.aug_core.specs.declared.view.SeatView.{SeatView}
 use Rattle.aug_core.proofs.Moves.{St, knows_keeping, rests, stands, watches}
 use Rattle.aug_core.proofs.Fits.{fits_book, named_once, sees_after}

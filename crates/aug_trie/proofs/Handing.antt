@@ -2,7 +2,6 @@
 use Rattle.std.proofs.Common.{◌≡◌, ℕ, ◌+◌, ◌-◌, ◌*◌, ◌^◌, ◌<◌, List, [], ◌∷◌, ◌++◌, append_assoc, length, length-append, All, sym, refl, ap, ◌∙◌, subst, arith}
 use Rattle.std.specs.Prelude.{unwrap_or, Some}
 use Rattle.std.proofs.lemmas.List.Elements.{All-nil, All-append}
-use mathlib.Core.Option.{some-ne-none}
 use Rattle.aug_core.specs.Addresses.{root_place}
 use Rattle.aug_core.specs.Lanes.{first_record, lane_records, new_lane}
 use Rattle.aug_core.specs.Counts.{changes_of}

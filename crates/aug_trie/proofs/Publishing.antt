@@ -1,12 +1,11 @@
 -- A record of the own lane is filled and published.
-use Rattle.std.proofs.Common.{◌≡◌, ◌≢◌, ◌↔◌, ℕ, ◌+◌, ◌≤◌, Bool, true, false, IsTrue, List, [], get_or, sym, refl, ap, ◌∙◌, subst, ⊎_elim, arith}
+use Rattle.std.proofs.Common.{◌≡◌, ◌≢◌, ◌↔◌, ℕ, ◌+◌, Bool, true, false, IsTrue, List, [], get_or, sym, refl, ap, ◌∙◌, subst, ⊎_elim, arith}
 use Rattle.std.proofs.lemmas.Bool.{cases_eq, false≢true}
 use Rattle.aug_monoid.specs.Parts.{Parts}
 use Rattle.aug_core.specs.Addresses.{IsInner}
 use Rattle.aug_core.specs.Faces.{face}
 use Rattle.aug_core.specs.inside.Refreshes.{SaysLoaded, Published}
 use Rattle.aug_core.specs.Effects.{storing, KnowsTable, MayStore, IsFilled, TriesNode}
-use Rattle.aug_core.specs.declared.view.Held.{Held}
 use Rattle.aug_core.specs.declared.view.SeatView.{SeatView}
 use Rattle.aug_core.specs.Places.{record_words}
 use Rattle.aug_core.proofs.FaceLemmas.{left_in, right_in}

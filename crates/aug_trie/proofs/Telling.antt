@@ -6,7 +6,6 @@ use Rattle.aug_monoid.specs.Weighted.{FitsPair}
 use Rattle.aug_monoid.proofs.FoldLemmas.{fold_of-append, of_word-fold_of}
 use Rattle.aug_core.specs.Addresses.{IsInner}
 use Rattle.aug_core.specs.Faces.{face}
-use Rattle.aug_core.specs.Book.{At}
 use Rattle.aug_core.specs.inside.Refreshes.{HasEntry}
 use Rattle.aug_core.specs.Effects.{GuardsRecord, KnowsTable, Says, stepping}
 use Rattle.aug_core.specs.declared.step.StepTaken.{StepTaken}

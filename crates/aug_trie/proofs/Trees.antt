@@ -9,7 +9,7 @@ use Rattle.aug_query.specs.Tree.{IsTreeSet}
 use Rattle.aug_core.specs.Faces.{face}
 use Rattle.aug_core.specs.Places.{Shape}
 use Rattle.aug_core.specs.Addresses.{IsInner, root_place}
-use Rattle.aug_core.specs.Book.{Book, ArePrefixes, IsBook, NamesOnce}
+use Rattle.aug_core.specs.Book.{Book, ArePrefixes, NamesOnce}
 use Rattle.aug_core.specs.Counts.{changes_of}
 use Rattle.aug_core.specs.Cuts.{Cut, weight_at}
 use Rattle.aug_core.specs.inside.RootCuts.{root_cut}

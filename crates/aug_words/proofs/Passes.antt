@@ -1,12 +1,10 @@
 -- The seat of a pass after a step.
-use Rattle.std.proofs.Common.{◌≡◌, ℕ, ◌+◌, ◌-◌, ◌*◌, ◌<◌, ◌≤◌, length, length-set, List, [], ◌∷◌, ◌++◌, refl, sym, ap, ◌∙◌, subst, ⊎_elim}
-use mathlib.Core.Option.{some}
-use lib.ListN.{get_elem?}
+use Rattle.std.proofs.Common.{◌≡◌, ℕ, ◌+◌, ◌*◌, ◌<◌, ◌≤◌, List, [], ◌∷◌, ◌++◌, refl, sym, ap, ◌∙◌, subst, ⊎_elim}
 use Rattle.atomic_table.specs.Seated.{TableId}
 use Rattle.aug_core.specs.Places.{Shape, lane_place, record_start, record_count, record_words, word_count}
 use Rattle.aug_core.specs.Book.{Book}
 use Rattle.std.proofs.lemmas.Bool.{cases_eq}
-use Rattle.aug_core.specs.Effects.{Sat, stepping, old_word, new_word, made_by, with_changes, publishing_from, Sees, LoadsLeaf, BeginsAtLeaf, LoadsNode, TriesLeaf, TriesNode, HoldsOnly, GuardsRecord, KnowsTable, MayStore, ReadsRecord, on_first, storing_in, going_from, storing, beginning}
+use Rattle.aug_core.specs.Effects.{Sat, stepping, old_word, new_word, made_by, with_changes, publishing_from, Sees, LoadsLeaf, BeginsAtLeaf, LoadsNode, TriesLeaf, TriesNode, GuardsRecord, KnowsTable, MayStore, ReadsRecord, on_first, storing_in, going_from, storing, beginning}
 use Rattle.aug_core.specs.Eras.{IsAtWork}
 use Rattle.aug_core.specs.inside.LaneStates.{HasTakenLane}
 use Rattle.aug_core.specs.Kinds.{load_leaf, try_leaf, load_node, try_node, load_record_word, store_record_word}
@@ -17,7 +15,6 @@ use Rattle.aug_core.specs.declared.view.Held.{Held}
 use Rattle.aug_core.specs.declared.view.LaneState.TheVariants.{Taken}
 use Rattle.aug_core.specs.declared.view.SeatView.{SeatView}
 use Rattle.aug_core.proofs.Fits.{knows_shown, knows_same}
-use Rattle.aug_core.proofs.Stores.{one_held}
 use Rattle.aug_core.proofs.Eras.{holds_lane}
 use Rattle.aug_words.specs.inside.SeatState.{IsPlaced, SitsAt, IsPassSeat, HasPassSeat, LendsHere}
 use Rattle.aug_words.specs.Seats.{AreTogether, Known, MayLoad, LoadsRecordWord, Store}

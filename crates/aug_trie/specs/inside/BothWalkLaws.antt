@@ -1,6 +1,6 @@
 -- What a walk over two snapshots keeps: lemmas for no walk at all, and for two walks one after the other; and that nodes which it sees to be the same
 -- cover the same members with the same weights. The last is what sharing comes to: in one book no two entries of one place have the same word.
-use Rattle.std.proofs.Common.{◌≡◌, ℕ, zero, suc, true, List, [], ◌++◌, length-append, append_assoc, refl, ap, sym, ◌∙◌, subst, arith}
+use Rattle.std.proofs.Common.{◌≡◌, ℕ, true, List, [], ◌++◌, length-append, append_assoc, refl, ap, sym, ◌∙◌, subst, arith}
 use Rattle.std.proofs.lemmas.Bool.{eqb-true}
 use Rattle.std.proofs.lemmas.List.{append-nil}
 use Rattle.aug_core.specs.Places.{Shape}
@@ -8,7 +8,6 @@ use Rattle.aug_core.specs.Book.{Book, IsBook, NamesOnce}
 use Rattle.aug_core.specs.Cuts.{Cut, pairs_of_cut}
 use Rattle.aug_core.specs.inside.EntryCuts.{entry_of, IsPartOfCut}
 use Rattle.aug_core.specs.inside.RootCuts.{root_cut}
-use Rattle.aug_core.specs.inside.WordPlaces.{IsWord}
 use Rattle.aug_core.specs.declared.step.StepTaken.{StepTaken}
 use Rattle.aug_core.specs.declared.view.SeatView.{SeatView}
 use Rattle.aug_core.proofs.Fits.{HasFewSerials, few_serials}

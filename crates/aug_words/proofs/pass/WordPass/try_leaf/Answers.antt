@@ -24,12 +24,5 @@ invariant_of-self g c = let m = g.A.Monoid in let n = g.B.Monoid in let f = face
 pub returns : goal.returns
 returns g c = let f = face g.A.Monoid.parts g.B.Monoid.parts in
     let told = c.compare_exchange-found.ensures.2 c.args.leaf (ap (λ (z : ℕ). z + c.args.leaf) c.self.invariant.sits.placed.base_is) in
-    record {
-      table = search rules;
-      view = record {
-        found = c.compare_exchange-found.result;
-        decided = search rules;
-        told = λ a is known from to. subst (λ (k : Known). TriesLeaf f k.view c.args.leaf a c.compare_exchange-found.result c.compare_exchange-found.new.seat.me.0) c.self.view_is
-            (told.1 a is (subst (λ (k : Known). KnowsSerial k.view c.args.leaf a) (sym c.self.view_is) known) from to);
-      };
-    }
+    let found = c.compare_exchange-found.result in
+    record { table = search rules; view = record { found = found; decided = search rules; told = λ a is known from to. subst (λ (k : Known). TriesLeaf f k.view c.args.leaf a found c.compare_exchange-found.new.seat.me.0) c.self.view_is (told.1 a is (subst (λ (k : Known). KnowsSerial k.view c.args.leaf a) (sym c.self.view_is) known) from to) } }

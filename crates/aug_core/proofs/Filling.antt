@@ -1,8 +1,9 @@
 -- The five words of a record, stored one after another, and what they must say to be published.
-use Rattle.std.proofs.Common.{◌≡◌, ℕ, zero, suc, ◌+◌, ◌<◌, List, ◌++◌, get_or, sym, ap, ◌∙◌, arith}
+use Rattle.std.proofs.Common.{◌≡◌, ℕ, zero, suc, ◌+◌, ◌<◌, ◌≤◌, List, ◌++◌, length, get_or, sym, ap, ◌∙◌, ⊎_elim, arith}
+use Rattle.std.proofs.lemmas.Bool.{cases_eq}
 use Rattle.aug_core.specs.Places.{record_start, record_words}
 use Rattle.aug_core.specs.inside.Refreshes.{SaysLoaded}
-use Rattle.aug_core.specs.Effects.{MayStore, storing, IsFilled}
+use Rattle.aug_core.specs.Effects.{MayStore, storing, stored, IsFilled}
 use Rattle.aug_core.specs.declared.view.SeatView.{SeatView}
 use Rattle.aug_core.proofs.Owning.{with_here, with_other}
 use Rattle.aug_core.proofs.Clients.{after_store, owns_what_it_stores}
@@ -11,11 +12,11 @@ use Rattle.aug_core.proofs.Clients.{after_store, owns_what_it_stores}
 abbrev pub put : SeatView → ℕ → ℕ → ℕ → SeatView
 put v number k x = storing v (record_start v.shape number + k) x
 
--- the view after five stores
+-- and after those of all five
 abbrev pub filled_view : SeatView → ℕ → List ℕ → SeatView
-filled_view v number five = put (put (put (put (put v number 0 (get_or five 0 0)) number 1 (get_or five 1 0)) number 2 (get_or five 2 0)) number 3 (get_or five 3 0)) number 4 (get_or five 4 0)
+filled_view v number five = stored v number five record_words
 
--- the five stores, one view after another
+-- the views after one another
 pub filled_is : (v v1 v2 v3 v4 v5 : SeatView) (number : ℕ) (five : List ℕ) → v1 ≡ put v number 0 (get_or five 0 0) → v2 ≡ put v1 number 1 (get_or five 1 0) → v3 ≡ put v2 number 2 (get_or five 2 0) → v4 ≡ put v3 number 3 (get_or five 3 0)
     → v5 ≡ put v4 number 4 (get_or five 4 0) → v5 ≡ filled_view v number five
 filled_is v v1 v2 v3 v4 v5 number five a b c d e =
@@ -23,50 +24,28 @@ filled_is v v1 v2 v3 v4 v5 number five a b c d e =
     let v4' = d ∙ ap (λ (z : SeatView). put z number 3 (get_or five 3 0)) v3' in e ∙ ap (λ (z : SeatView). put z number 4 (get_or five 4 0)) v4'
 
 module _ (v : SeatView) (number : ℕ) (five : List ℕ) (may : MayStore v number) where
-  abbrev at : ℕ → ℕ
-  at k = record_start v.shape number + k
-
-  abbrev m1 : MayStore (storing v (at 0) (get_or five 0 0)) number
-  m1 = after_store v (at 0) (get_or five 0 0) number may
-
-  abbrev m2 : MayStore (storing (storing v (at 0) (get_or five 0 0)) (at 1) (get_or five 1 0)) number
-  m2 = after_store (storing v (at 0) (get_or five 0 0)) (at 1) (get_or five 1 0) number m1
-
-  abbrev m3 : MayStore (storing (storing (storing v (at 0) (get_or five 0 0)) (at 1) (get_or five 1 0)) (at 2) (get_or five 2 0)) number
-  m3 = after_store (storing (storing v (at 0) (get_or five 0 0)) (at 1) (get_or five 1 0)) (at 2) (get_or five 2 0) number m2
-
-  abbrev m4 : MayStore (storing (storing (storing (storing v (at 0) (get_or five 0 0)) (at 1) (get_or five 1 0)) (at 2) (get_or five 2 0)) (at 3) (get_or five 3 0)) number
-  m4 = after_store (storing (storing (storing v (at 0) (get_or five 0 0)) (at 1) (get_or five 1 0)) (at 2) (get_or five 2 0)) (at 3) (get_or five 3 0) number m3
+  abbrev after : ℕ → SeatView
+  after n = stored v number five n
 
   -- the record may be stored still
-  abbrev pub filled : MayStore (filled_view v number five) number
-  filled = after_store (storing (storing (storing (storing v (at 0) (get_or five 0 0)) (at 1) (get_or five 1 0)) (at 2) (get_or five 2 0)) (at 3) (get_or five 3 0)) (at 4) (get_or five 4 0) number m4
+  pub may_fill : (n : ℕ) → MayStore (stored v number five n) number
+  may_fill zero = may
+  may_fill (suc n) = after_store (after n) (record_start (after n).shape number + n) (get_or five n 0) number (may_fill n)
 
-  -- and it has the five words
-  pub says : (k : ℕ) → k < record_words → get_or filled.own.words k 0 ≡ get_or five k 0
-  says zero small = let is : may.own.number ≡ number = may.numbered in with_other v.shape (at 4) (get_or five 4 0) m4.own 0 (λ is. omega arith)
-      ∙ with_other v.shape (at 3) (get_or five 3 0) m3.own 0 (λ is. omega arith)
-      ∙ with_other v.shape (at 2) (get_or five 2 0) m2.own 0 (λ is. omega arith)
-      ∙ with_other v.shape (at 1) (get_or five 1 0) m1.own 0 (λ is. omega arith)
-      ∙ with_here v.shape (at 0) (get_or five 0 0) may.own 0 (omega arith) (let l = may.long in omega arith)
-  says (suc zero) small = let is : may.own.number ≡ number = may.numbered in with_other v.shape (at 4) (get_or five 4 0) m4.own 1 (λ is. omega arith)
-      ∙ with_other v.shape (at 3) (get_or five 3 0) m3.own 1 (λ is. omega arith)
-      ∙ with_other v.shape (at 2) (get_or five 2 0) m2.own 1 (λ is. omega arith)
-      ∙ with_here v.shape (at 1) (get_or five 1 0) m1.own 1 (omega arith) (let l = m1.long in omega arith)
-  says (suc (suc zero)) small = let is : may.own.number ≡ number = may.numbered in with_other v.shape (at 4) (get_or five 4 0) m4.own 2 (λ is. omega arith)
-      ∙ with_other v.shape (at 3) (get_or five 3 0) m3.own 2 (λ is. omega arith)
-      ∙ with_here v.shape (at 2) (get_or five 2 0) m2.own 2 (omega arith) (let l = m2.long in omega arith)
-  says (suc (suc (suc zero))) small = let is : may.own.number ≡ number = may.numbered in with_other v.shape (at 4) (get_or five 4 0) m4.own 3 (λ is. omega arith)
-      ∙ with_here v.shape (at 3) (get_or five 3 0) m3.own 3 (omega arith) (let l = m3.long in omega arith)
-  says (suc (suc (suc (suc zero)))) small = let is : may.own.number ≡ number = may.numbered in with_here v.shape (at 4) (get_or five 4 0) m4.own 4 (omega arith) (let l = m4.long in omega arith)
-  says (suc (suc (suc (suc (suc k))))) small = absurd (omega arith)
+  -- and it has the words that were stored
+  pub says : (n k : ℕ) → k < n → n ≤ record_words → get_or (may_fill n).own.words k 0 ≡ get_or five k 0
+  unfolding may_fill
+  says zero k small fits = absurd (omega arith)
+  says (suc n) k small fits = let m = may_fill n in let numbered : m.own.number ≡ number = m.numbered in let long : length m.own.words ≡ record_words = m.long in ⊎_elim
+      (λ (last : k ≡ n). with_here (after n).shape (record_start (after n).shape number + n) (get_or five n 0) m.own k (omega arith) (omega arith) ∙ ap (λ (z : ℕ). get_or five z 0) (sym last))
+      (λ other. with_other (after n).shape (record_start (after n).shape number + n) (get_or five n 0) m.own k (λ is. other (omega arith)) ∙ says n k (omega arith) (omega arith)) (cases_eq k n)
 
   -- a record that says what was loaded may be published
   pub is_filled : (face : ℕ → ℕ → List (ℕ × ℕ) → List ℕ) (q old : ℕ) → SaysLoaded face v.shape v.seen q old five → IsFilled face (filled_view v number five) q old number
   is_filled face q old loaded = let l = loaded.is_loaded in record {
     is_loaded = l;
-    own = filled.own;
-    owns = owns_what_it_stores (filled_view v number five) number filled;
-    full = λ k small. says k small ∙ ap (λ (z : List ℕ). get_or z k 0) loaded.five_are
+    own = (may_fill record_words).own;
+    owns = owns_what_it_stores (filled_view v number five) number (may_fill record_words);
+    full = λ k small. says record_words k small (omega arith) ∙ ap (λ (z : List ℕ). get_or z k 0) loaded.five_are
         ∙ (λ i. get_or (face (sym loaded.left_named i) (sym loaded.right_named i) (l.left.pairs ++ l.right.pairs)) k 0);
   }

@@ -5,11 +5,11 @@ use lib.ListN.{get_elem?}
 use Rattle.atomic_table.specs.Table.{step, keeps, Allows}
 use Rattle.aug_core.specs.Places.{Shape, record_start, record_words}
 use Rattle.aug_core.specs.Addresses.{IsInner}
-use Rattle.aug_core.specs.Book.{ArePrefixes, IsFresh, NamesOnce, SerialsFit, IsBook}
+use Rattle.aug_core.specs.Book.{ArePrefixes, IsFresh, IsNewest, NamesOnce, SerialsFit, IsBook}
 use Rattle.aug_core.specs.Opening.{Opening}
-use Rattle.aug_core.specs.Rule.{NamesNewest, Knows, Kept}
+use Rattle.aug_core.specs.Rule.{Knows, Kept}
 use Rattle.aug_core.specs.Kinds.{load_leaf, load_node, load_record_word}
-use Rattle.aug_core.specs.Effects.{Sat, stepping, Says, SaysOwn, read_record, seeing, beginning, Sees, LoadsNode, loaded_leaf, began_at_leaf, loaded_node}
+use Rattle.aug_core.specs.Effects.{Sat, stepping, Says, SaysOwn, read_record, seeing, beginning, Sees, LeafLoaded, LoadsNode, loaded_leaf, began_at_leaf, loaded_node}
 use Rattle.aug_core.specs.inside.EraSteps.{WithEra}
 use Rattle.aug_core.specs.declared.view.SeatView.{SeatView}
 use Rattle.aug_core.proofs.Moves.{St, knows_keeping, rests, stands, watches}
@@ -55,8 +55,16 @@ module _ (face : ℕ → ℕ → List (ℕ × ℕ) → List ℕ) (o : Opening) w
         (subst (λ z. SerialsFit o.shape z) (sym is) (fits_book o s.words r.book s.views r.changes.tally r.changes.tallied))
 
     -- a leaf's word is that of its newest entry
-    finds_leaf : (place : ℕ) → place < 2 ^ v.shape.bits → NamesNewest s.words r.book place
-    finds_leaf place low = let low' : place < 2 ^ o.shape.bits = subst (λ (z : Shape). place < 2 ^ z.bits) ((r.each_view id v at).shaped live) low in let t2 = twice o.shape.bits in r.tree.newest place (omega arith)
+    leaf_told : (place : ℕ) (w : SeatView) → w.seen ≡ r.book → place < 2 ^ v.shape.bits → LeafLoaded face v w w place (get_or s.words place 0)
+    leaf_told place w is low = let low' : place < 2 ^ o.shape.bits = subst (λ (z : Shape). place < 2 ^ z.bits) ((r.each_view id v at).shaped live) low in let t2 = twice o.shape.bits in let t = r.tree.newest place (omega arith) in record {
+      stepped = refl;
+      sees = sees_it w is;
+      index = t.index;
+      entry = t.entry;
+      newest = subst (λ z. IsNewest z place t.index t.entry) (sym is) t.newest;
+      found = t.word;
+      shown = t.shown;
+    }
 
   pub loads_leaf : (n id place : ℕ) (me : Sat) → me.0.live ≡ true → me.1 ≡ [] → Allows (Kept face o) n id me place (λ x. x) (WithEra me (loaded_leaf face (step n place 0 0 none) me))
   loads_leaf n id place me live empty s r _ at _ =
@@ -68,15 +76,7 @@ module _ (face : ℕ → ℕ → List (ℕ × ℕ) → List ℕ) (o : Opening) w
         (
           (
             empty,
-            λ low. let t = finds_leaf s r id v at live place low in record {
-              stepped = refl;
-              sees = sees_it s r id v at live w refl;
-              index = t.index;
-              entry = t.entry;
-              newest = t.newest;
-              found = t.word;
-              shown = t.shown;
-            },
+            leaf_told s r id v at live place w refl,
           ),
           record { live = refl; era = refl; past = refl; shape = refl; members = refl; told = refl; base = refl; whole = refl; led = λ m e. (m, e) },
           record { reads = refl; lent = refl; leads = λ m e. (m, e); works = λ work. work },
@@ -94,15 +94,7 @@ module _ (face : ℕ → ℕ → List (ℕ × ℕ) → List ℕ) (o : Opening) w
         (
           (
             empty,
-            λ low. let t = finds_leaf s r id v at live place low in record {
-              stepped = refl;
-              sees = sees_it s r id v at live w refl;
-              index = t.index;
-              entry = t.entry;
-              newest = t.newest;
-              found = t.word;
-              shown = t.shown;
-            },
+            leaf_told s r id v at live place w refl,
           ),
           record { live = refl; era = refl; past = refl; shape = refl; members = refl; told = refl; base = refl; whole = refl; led = λ m e. (m, e) },
           record { reads = refl; lent = refl; leads = λ m e. (m, e); works = λ work. work },

@@ -8,14 +8,14 @@ use Rattle.aug_core.specs.Places.{Shape, record_start, record_words}
 use Rattle.aug_core.specs.Faces.{face}
 use Rattle.aug_core.specs.Addresses.{place_count, IsInner, left_of, right_of}
 use Rattle.aug_core.specs.inside.Refreshes.{HasNewest, SaysLoaded}
-use Rattle.aug_core.specs.Effects.{GuardsRecord, KnowsTable, Says, MayStore, IsFilled, TriesNode, storing}
+use Rattle.aug_core.specs.Effects.{GuardsRecord, KnowsTable, Says, MayStore, IsFilled, TriesNode, storing, stored}
 use Rattle.aug_core.specs.declared.view.SeatView.{SeatView}
 use Rattle.aug_core.proofs.FaceLemmas.{left_in, right_in}
 use Rattle.aug_core.proofs.Refreshing.{has_entry}
 use Rattle.aug_core.proofs.Sizes.{twice}
 use Rattle.aug_words.specs.Seats.{LoadsRecordWord}
 use Rattle.aug_trie.specs.inside.Goes.{HasRoom, Took, Goes, IsPartOf, part_steps, try_steps, Looks}
-use Rattle.aug_trie.specs.inside.Points.{stored, reading_words, child_at, field_after, five_over, IsOverLeaves, AfterLeft, AfterRight, AfterWords, AfterStores, TryAt, TryOver}
+use Rattle.aug_trie.specs.inside.Points.{reading_words, child_at, field_after, five_over, IsOverLeaves, AfterLeft, AfterRight, AfterWords, AfterStores, TryAt, TryOver}
 use Rattle.aug_trie.specs.declared.turns.points.Reading.{Reading}
 use Rattle.aug_trie.specs.declared.turns.points.Filling.{Filling}
 use Rattle.aug_trie.specs.declared.turns.points.Point.{Point}

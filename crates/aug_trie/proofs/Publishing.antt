@@ -10,7 +10,7 @@ use Rattle.aug_core.specs.declared.view.SeatView.{SeatView}
 use Rattle.aug_core.specs.Places.{record_words}
 use Rattle.aug_core.proofs.FaceLemmas.{left_in, right_in}
 use Rattle.aug_core.proofs.Clients.{owns_what_it_stores}
-use Rattle.aug_core.proofs.Filling.{put, filled_view, filled_is, filled, says, is_filled}
+use Rattle.aug_core.proofs.Filling.{put, filled_view, filled_is, may_fill, says, is_filled}
 use Rattle.aug_words.specs.Seats.{TriedNode}
 use Rattle.aug_trie.specs.inside.Goes.{HasRoom, Took, Goes, publish_steps}
 use Rattle.aug_trie.proofs.Going.{took_one, took_on, room_on, goes_on, goes_more, goes_storing, goes_seeing, goes_publishing, may_store_room}
@@ -25,7 +25,7 @@ module _ (face : ℕ → ℕ → List (ℕ × ℕ) → List ℕ) where
     pub published : (w : SeatView) (q old found : ℕ) (done : Bool) → IsInner v.shape q → ((l r : ℕ) (pairs : List (ℕ × ℕ)) → get_or (face l r pairs) 0 0 ≡ l) → ((l r : ℕ) (pairs : List (ℕ × ℕ)) → get_or (face l r pairs) 1 0 ≡ r)
         → (IsTrue done ↔ (found ≡ old)) → TriesNode face (filled_view v number five) q old number found w → Published v.shape q old (get_or five 0 0) (get_or five 1 0) done w.seen
     published w q old found done inner names_left names_right decided told = let o = told.sees.book.over q told.index told.entry inner told.newest.at in
-        let may : MayStore v number = may_store_room v number room in let mine : MayStore (filled_view v number five) number = filled v number five may in
+        let may : MayStore v number = may_store_room v number room in let mine : MayStore (filled_view v number five) number = may_fill v number five may record_words in
         let same = λ (good : IsTrue done). (told.hit (decided.0 good)).2 mine.own (owns_what_it_stores (filled_view v number five) number mine) in record {
           index = told.index;
           entry = told.entry;
@@ -34,8 +34,8 @@ module _ (face : ℕ → ℕ → List (ℕ × ℕ) → List ℕ) where
           right_child = o.right_child;
           left_at = o.left_at;
           right_at = o.right_at;
-          left_is = λ good. sym (names_left o.left_child.word o.right_child.word told.entry.pairs) ∙ ap (λ (z : List ℕ). get_or z 0 0) (sym o.words_say) ∙ sym (same good 0 (omega arith)) ∙ says v number five may 0 (omega arith);
-          right_is = λ good. sym (names_right o.left_child.word o.right_child.word told.entry.pairs) ∙ ap (λ (z : List ℕ). get_or z 1 0) (sym o.words_say) ∙ sym (same good 1 (omega arith)) ∙ says v number five may 1 (omega arith);
+          left_is = λ good. sym (names_left o.left_child.word o.right_child.word told.entry.pairs) ∙ ap (λ (z : List ℕ). get_or z 0 0) (sym o.words_say) ∙ sym (same good 0 (omega arith)) ∙ says v number five may record_words 0 (omega arith) (omega arith);
+          right_is = λ good. sym (names_right o.left_child.word o.right_child.word told.entry.pairs) ∙ ap (λ (z : List ℕ). get_or z 1 0) (sym o.words_say) ∙ sym (same good 1 (omega arith)) ∙ says v number five may record_words 1 (omega arith) (omega arith);
           missed = λ bad same. let miss = lost done found old decided bad in miss ((told.miss miss).1 ∙ sym same);
         }
       where

@@ -1,11 +1,11 @@
 -- One try at a node, step by step: which part of it was done at each point.
-use Rattle.std.specs.Prelude.{◌≡◌, ℕ, zero, suc, ◌+◌, ◌-◌, ◌*◌, ◌^◌, ◌<◌, ◌≤◌, Bool, nat_lt, if◌then◌else◌, List, [], ◌∷◌, ◌++◌, length, slice_index}
+use Rattle.std.specs.Prelude.{◌≡◌, ℕ, ◌+◌, ◌-◌, ◌*◌, ◌^◌, ◌<◌, ◌≤◌, Bool, nat_lt, if◌then◌else◌, List, [], ◌∷◌, ◌++◌, length, slice_index}
 use Rattle.aug_monoid.specs.Parts.{Parts}
-use Rattle.aug_core.specs.Places.{record_start, record_words}
+use Rattle.aug_core.specs.Places.{record_words}
 use Rattle.aug_core.specs.Addresses.{IsInner, left_of, right_of}
 use Rattle.aug_core.specs.Book.{ArePrefixes}
 use Rattle.aug_core.specs.inside.Refreshes.{HasNewest, SaysLoaded}
-use Rattle.aug_core.specs.Effects.{KnowsTable, Says, own_lane, storing}
+use Rattle.aug_core.specs.Effects.{KnowsTable, Says, own_lane, stored}
 use Rattle.aug_core.specs.declared.step.StepTaken.{StepTaken}
 use Rattle.aug_core.specs.declared.view.SeatView.{SeatView}
 use Rattle.aug_trie.specs.inside.RoundState.{eras_of}
@@ -31,11 +31,6 @@ pub record OneStep (v w : SeatView) : Type 0 where
 -- and its update has the same beginning as before
 abbrev pub QuietStep : SeatView → SeatView → Type 0
 QuietStep v w = OneStep v w × (w.began ≡ v.began)
-
--- the view after storing the first words of a record, as many as the last argument says
-abbrev pub stored : SeatView → ℕ → List ℕ → ℕ → SeatView
-stored v number five zero = v
-stored v number five (suc k) = storing (stored v number five k) (record_start (stored v number five k).shape number + k) (slice_index five k)
 
 -- how many words of the records of two children a try loads
 abbrev pub reading_words : ℕ

@@ -2,8 +2,8 @@
 use Rattle.std.proofs.Common.{◌≡◌, ℕ, zero, suc, ◌+◌, ◌<◌, ◌≤◌, List, ◌++◌, length, get_or, sym, ap, ◌∙◌, ⊎_elim, arith}
 use Rattle.std.proofs.lemmas.Bool.{cases_eq}
 use Rattle.aug_core.specs.Places.{record_start, record_words}
-use Rattle.aug_core.specs.inside.Refreshes.{SaysLoaded}
-use Rattle.aug_core.specs.Effects.{MayStore, storing, stored, IsFilled}
+use Rattle.aug_core.specs.inside.Refreshes.{SaysLoaded, stored}
+use Rattle.aug_core.specs.Effects.{MayStore, storing, IsFilled}
 use Rattle.aug_core.specs.declared.view.SeatView.{SeatView}
 use Rattle.aug_core.proofs.Owning.{with_here, with_other}
 use Rattle.aug_core.proofs.Clients.{after_store, owns_what_it_stores}

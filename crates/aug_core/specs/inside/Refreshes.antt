@@ -1,9 +1,11 @@
 -- One try to bring a node up to its children: what was loaded for it, what its record says, and what it left.
-use Rattle.std.specs.Prelude.{◌≡◌, ◌≢◌, ℕ, ◌+◌, ◌≤◌, Bool, false, IsTrue, List, ◌++◌, length, slice_index}
-use Rattle.aug_core.specs.Places.{Shape}
+use Rattle.std.specs.Prelude.{◌≡◌, ◌≢◌, ℕ, zero, suc, ◌+◌, ◌≤◌, Bool, false, IsTrue, List, ◌++◌, length, slice_index}
+use Rattle.aug_core.specs.Places.{Shape, record_start}
 use Rattle.aug_core.specs.Addresses.{left_of, right_of}
 use Rattle.aug_core.specs.Book.{Book, history_of, At, IsNewest, IsLoaded}
+use Rattle.aug_core.specs.Effects.{storing}
 use Rattle.aug_core.specs.declared.view.Entry.{Entry}
+use Rattle.aug_core.specs.declared.view.SeatView.{SeatView}
 
 -- an entry of the leaf or the node is named by the word
 pub record HasEntry (book : Book) (q word : ℕ) : Type 0 where
@@ -34,6 +36,11 @@ pub record SaysLoaded (face : ℕ → ℕ → List (ℕ × ℕ) → List ℕ) (s
   pub left_named : is_loaded.left.word ≡ slice_index five 0
   pub right_named : is_loaded.right.word ≡ slice_index five 1
   pub five_are : five ≡ face (slice_index five 0) (slice_index five 1) (is_loaded.left.pairs ++ is_loaded.right.pairs)
+
+-- the view after storing the first words of a record, as many as the last argument says
+abbrev pub stored : SeatView → ℕ → List ℕ → ℕ → SeatView
+stored v number words zero = v
+stored v number words (suc k) = storing (stored v number words k) (record_start (stored v number words k).shape number + k) (slice_index words k)
 
 -- the node's newest entry stands over children of these words, if it was published; otherwise it is another entry than the one that was loaded
 pub record Published (s : Shape) (q old left_word right_word : ℕ) (done : Bool) (book : Book) : Type 0 where

@@ -24,8 +24,9 @@ echo 7 passed, 0 failed
 """
 
 
-# Stands in for an rt that is given the crates ahead of the rest, and waits for that: it notes what it has.
+# Stands in for an rt that is given the crates ahead of the rest, as it says of a crate that it is kept, and waits for that: it notes what it has.
 AHEAD = """#!/bin/sh
+# rt: low is kept: an earlier run proved it
 if [ -e tests ]; then
     for _ in 1 2 3 4 5 6 7 8 9 10; do if [ -e had ]; then break; fi; sleep 0.5; done
     echo "rt $*" >>ran
@@ -79,18 +80,21 @@ class TestOfGate(InFolder):
         assert self.run_gate(rt=SLOW) == ("37 passed, 0 failed", 0)
         assert self.read("ran").splitlines()[0] == "rt ci"
 
-    def ahead(self, **given):
+    def ahead(self, rt=AHEAD, **given):
         """What rt is given ahead of the rest, or nothing."""
         for name in "HANDLES", "crates/low/src/lib.rt", "crates/low/must-fail/one.edit", "crates/middle/proofs/Lib.antt", "crates/aug_c/src/lib.rt":
             self.write(name, "")
         had = self.path("had")
-        assert self.run_gate(rt=AHEAD % (had, had, had), **given) == ("37 passed, 0 failed", 0)
+        assert self.run_gate(rt=rt % (had, had, had), **given) == ("37 passed, 0 failed", 0)
         return self.read("had").splitlines() if os.path.exists(had) else []
 
     def test_what_the_library_stands_on_is_proved_ahead_without_edits(self):
         first, *rest = self.ahead(jobs="4")
         assert first == "rt ci, RT_JOBS="
         assert sorted(rest) == ["HANDLES", "crates/low/src/lib.rt", "crates/middle/proofs/Lib.antt", "low:", "middle: low"]
+
+    def test_nothing_is_proved_ahead_by_an_rt_that_keeps_nothing(self):
+        assert self.ahead(rt=AHEAD.replace("is kept: ", ""), jobs="4") == []
 
     def test_nothing_is_proved_ahead_on_few_processors_or_with_words(self):
         assert self.ahead(jobs="3") == []

@@ -1,9 +1,9 @@
 -- The seat of a lead, and the table that it sits at.
-use Rattle.std.proofs.Common.{◌≡◌, ℕ, ◌+◌, ◌^◌, ◌<◌, ◌≤◌, List, [], ◌∷◌, ◌++◌, ◌-◌, ◌*◌, length, map, min, set, get_or, All, Option, Some, option_map, sym, refl, ap, ◌∙◌, subst, arith, ⊎_elim, inl, inr}
+use Rattle.std.proofs.Common.{◌≡◌, ℕ, ◌+◌, ◌^◌, ◌<◌, ◌≤◌, List, [], ◌∷◌, ◌++◌, ◌-◌, ◌*◌, length, map, min, set, get_or, All, Option, Some, option_map, sym, refl, ap, ◌∙◌, subst, arith, inl}
 use Rattle.std.specs.Prelude.{unwrap_or}
 use Rattle.aug_core.specs.Lanes.{lane_records, first_record, new_lane}
-use Rattle.aug_core.specs.Addresses.{IsInner, root_place, level_of, place_on}
-use Rattle.aug_core.specs.Places.{record_start, word_count}
+use Rattle.aug_core.specs.Addresses.{IsInner, root_place}
+use Rattle.aug_core.specs.Places.{word_count}
 use Rattle.aug_core.specs.Book.{Book, ArePrefixes, IsNewest, GoesOnFromBoth}
 use Rattle.aug_core.specs.Pasts.{IsLearnt, learnt_of}
 use Rattle.aug_core.specs.Learning.{learning}
@@ -35,10 +35,7 @@ use Rattle.aug_words.specs.declared.parts.Parts.{Parts}
 use Rattle.aug_words.specs.inside.SeatState.{ArePartsOf, IsCount, HasPassSeat, IsPassSeat, IsLeadSeat, IsLead, IsStore}
 use Rattle.aug_words.proofs.Counts.{parts_lent, parts_on, parts_taken, some_size}
 use Rattle.aug_core.specs.Readers.{taking_reader, without}
-use Rattle.aug_words.specs.inside.Laying.{Brings, IsDraft, NamesEntry, MayBring, ShownBelow, StepsBeside, words_in}
-use Rattle.aug_core.proofs.Levels.{level_is, root_word}
-use Rattle.aug_core.specs.inside.ClearParts.{IsClear, IsClearPart}
-use Rattle.aug_words.proofs.Lays.{drafts_on, knows_steps}
+use Rattle.aug_words.proofs.Lays.{drafts_on}
 use Rattle.aug_words.proofs.Passes.{placed_on}
 use Rattle.aug_core.proofs.PrefixLemmas.{book_refl}
 use Rattle.aug_core.specs.declared.opening.TableKey.{TableKey}
@@ -159,73 +156,6 @@ module _ (face : ℕ → ℕ → List (ℕ × ℕ) → List ℕ) (a a' : TableId
     knows = knows_told face me.0 (seen_in me.0.era w).seen (Some (learnt_of w)) seat.knows;
     names_root = let at = seat.names_root in record { index = at.index; entry = at.entry; newest = at.newest; named = at.named };
   })
-
--- ---- a lead that lays the next opening out
-
--- a word of a part where nobody reads
-clear_place : (size base place : ℕ) (lent : List ℕ) → IsClearPart size lent base → place < size → IsClear size lent (base + place)
-clear_place size base place lent clear small b has = ⊎_elim (λ low. inr (omega (arith, low))) (λ high. inl (omega (arith, high, small))) (clear b has)
-
-module _ (face : ℕ → ℕ → List (ℕ × ℕ) → List ℕ) (a : TableId) (b next root other : ℕ) (shown : List ℕ) (parts : Parts) (me : Sat) (lead : IsLead face a b next root other shown parts me) (room : 2 ^ me.0.shape.bits ≤ me.0.shape.members) where
-  seated : IsLeadSeat face next root me
-  seated = lead.1
-
-  draft : IsDraft face a other shown me.0
-  draft = lead.3 room
-
-  -- it may do so where nobody reads
-  pub lead_may : (t : TableId) (records : ℕ) (s : Shape) → IsClearPart (word_count me.0.shape) me.0.lent other → a ≡ t → me.0.shape ≡ s → records ≡ b + record_start s 0 → MayBring face a t records other s me
-  lead_may t records s clear one shape begins = subst (λ (z : Shape). MayBring face a t records other z me) shape record {
-    may = record {
-      seated = one;
-      no_slot = seated.no_slot;
-      long = lead.2 ∙ ap (λ (z : TableId). z.words) one;
-      inside = subst (λ (z : TableId). other + word_count me.0.shape ≤ z.words) one draft.inside;
-      few = subst (λ (z : TableId). z.words < 2 ^ 60) one lead.0.few;
-      leads = record { next = next; leads = seated.hands_out; live = seated.live; apart = draft.apart; clear = λ place small. clear_place (word_count me.0.shape) other place me.0.lent clear small };
-    };
-    shaped = refl;
-    wide = subst (λ (z : TableId). me.0.base + word_count me.0.shape ≤ z.words) one lead.0.wide;
-    records_are = begins ∙ (λ i. lead.0.base_is i + record_start (sym shape i) 0);
-    knows = seated.knows;
-    room = room;
-  }
-
-  -- from the root's newest record on
-  pub root_named : (top : ℕ) → top ≡ root_place me.0.shape → NamesEntry me.0.seen top root
-  root_named top is = let n = seated.names_root in let bits = seated.knows.laid_out.bits in let inner = root_inner me.0.shape bits.0 bits.1 in
-      subst (λ (z : ℕ). NamesEntry me.0.seen z root) (sym is) record { index = n.index; entry = n.entry; at = n.newest.at; named = seated.knows.book.named (root_place me.0.shape) n.index n.entry inner n.newest.at ∙ sym n.named }
-
-  pub root_below : (s : Shape) (top : ℕ) → me.0.shape ≡ s → top ≡ root_place s → ShownBelow face s me.0.seen (words_in other s me.0) shown (level_of s top) (place_on s top)
-  root_below s top shape is = let on = level_is s (root_place s) s.bits 0 (root_word s) in let level = ap (level_of s) is ∙ on.0 in let place = ap (place_on s) is ∙ on.1 in
-      subst (λ (z : ℕ × ℕ). ShownBelow face s me.0.seen (words_in other s me.0) shown z.0 z.1) (λ i. (sym level i, sym place i)) (subst (λ (z : Shape). ShownBelow face z me.0.seen (words_in other z me.0) shown z.bits 0) shape draft.below)
-
-  -- and is a lead that has done so
-  pub lead_brought : (a' : TableId) (noted : List ℕ) (me' : Sat) (s : Shape) (top : ℕ) → me.0.shape ≡ s → top ≡ root_place s → a' ≡ a → me'.1 ≡ [] → StepsBeside other s me.0 me'.0
-      → Brings face s me.0.seen (level_of s top) (place_on s top) (words_in other s me.0) (words_in other s me'.0) shown noted → IsLead face a' b next root other noted parts me'
-  lead_brought a' noted me' s top shape is one empty steps brings =
-      let on = level_is s (root_place s) s.bits 0 (root_word s) in let level = ap (level_of s) is ∙ on.0 in let place = ap (place_on s) is ∙ on.1 in
-      let whole = subst (λ (z : ℕ × ℕ). ShownBelow face s me.0.seen (words_in other s me'.0) noted z.0 z.1) (λ i. (level i, place i)) brings.below in
-      let w : SeatView = record me.0 { whole = me'.0.whole; steps = me'.0.steps } in
-      let seat : IsLeadSeat face next root (w, []) = record {
-        live = seated.live;
-        no_slot = refl;
-        hands_out = seated.hands_out;
-        knows = knows_steps face me.0 me'.0.whole me'.0.steps seated.knows;
-        names_root = let n = seated.names_root in record { index = n.index; entry = n.entry; newest = n.newest; named = n.named };
-      } in
-      let still : IsLead face a b next root other noted parts (w, []) = (
-        record { base_is = lead.0.base_is; wide = lead.0.wide; few = lead.0.few; part = lead.0.part; starts = lead.0.starts },
-        seat,
-        sym steps.beside.long ∙ lead.2,
-        (λ _. record {
-          inside = draft.inside;
-          apart = draft.apart;
-          noted = brings.noted ∙ draft.noted;
-          below = subst (λ (z : Shape). ShownBelow face z me.0.seen (words_in other z me'.0) noted z.bits 0) (sym shape) whole;
-        }),
-        lead.4,
-      ) in subst (λ (z : TableId × SeatView × List (ℕ × Unit {0})). IsLead face z.0 b next root other noted parts (z.1, z.2)) (λ i. (sym one i, sym steps.view_is i, sym empty i)) still
 
 -- a lead that may hand a lane out may do so after it loaded a node
 pub may_hand_out : (face : ℕ → ℕ → List (ℕ × ℕ) → List ℕ) (old new : SeatView) (q found lane next : ℕ) → LoadsNode face old q found new → IsNextLane old lane → new.spare ≡ Some next → next < new.shape.workers

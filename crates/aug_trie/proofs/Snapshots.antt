@@ -1,6 +1,7 @@
 -- A pass that only looked is one still, and a load of the root is a snapshot.
-use Rattle.std.proofs.Common.{◌≡◌, ℕ, ◌+◌, ◌-◌, ◌*◌, ◌<◌, ◌≤◌, Bool, eq-eqb, List, [], ◌∷◌, ◌++◌, length, length-append, sym, ap, ◌∙◌, subst, ⊎_elim, arith, true, false, ◌==◌, get_or, refl}
-use Rattle.std.proofs.lemmas.Bool.{cases_lt, eqb-true, false≢true}
+use Rattle.std.proofs.Common.{◌≡◌, ℕ, Some, zero, suc, ◌+◌, ◌-◌, ◌*◌, ◌<◌, ◌≤◌, eq-eqb, List, [], ◌∷◌, ◌++◌, length, length-append, sym, ap, ◌∙◌, subst, ⊎_elim, arith, ◌==◌, get_or}
+use Rattle.std.specs.Prelude.{unwrap_or}
+use Rattle.std.proofs.lemmas.Bool.{cases_lt, cond_both, eqb-true, false≢true}
 use Rattle.std.proofs.lemmas.List.{append-nil, length-map, get_or-map}
 use Rattle.std.proofs.lemmas.List.Elements.{All-nil}
 use Rattle.aug_core.specs.Places.{Shape}
@@ -21,6 +22,7 @@ use Rattle.aug_trie.specs.History.{last_cut}
 use Rattle.aug_trie.specs.Knowledge.{StandsIn}
 use Rattle.aug_trie.specs.Updates.{TakesSnapshot}
 use Rattle.aug_trie.specs.inside.Knows.{knows, root_numbers}
+use Rattle.std.specs.Path.{rfind_below}
 use Rattle.aug_trie.specs.Snapshot.{index_in}
 use Rattle.aug_trie.specs.declared.queries.snapshot.Snapshot.{Snapshot}
 use Rattle.aug_trie.specs.inside.PassState.{pass_facts, IsPass}
@@ -32,29 +34,32 @@ use Rattle.aug_core.specs.declared.step.StepTaken.{StepTaken}
 use Rattle.aug_trie.proofs.Accepting.{knowledge_on, snapshot_is}
 use Rattle.aug_trie.proofs.Going.{goes_more, room_on}
 use Rattle.aug_trie.proofs.Histories.{some_bits, history_long, numbers_long, cut_at}
-use Rattle.std.proofs.lemmas.List.Sums.{prefix_len_stops, prefix_len_passes}
-use Rattle.std.specs.Prelude.{not}
 use Rattle.aug_trie.specs.inside.NamedCuts.{HasNamed, cut_named, IsSnapshotOf}
 use Rattle.aug_core.proofs.EntryCuts.{entry_at, entry_is}
 use Rattle.aug_core.specs.Opening.{serial_entry}
 
 -- ---- where a snapshot's number stands in a list
 
--- if it stands there, it does at the snapshot's index
-pub at_index : (numbers : List ℕ) (held : Snapshot) → index_in numbers held < length numbers → get_or numbers (index_in numbers held) 0 ≡ held.number
-at_index numbers held low = let stops = prefix_len_stops (λ n. not (n == held.number)) numbers 0 low in
-    eqb-true (get_or numbers (index_in numbers held) 0) held.number (not-false (get_or numbers (index_in numbers held) 0 == held.number) stops)
-  where
-    not-false : (b : Bool) → not b ≡ false → b ≡ true
-    not-false true e = refl
-    not-false false e = absurd (false≢true (sym e))
+module _ (numbers : List ℕ) (held : Snapshot) where
+  abbrev end : ℕ
+  end = length numbers
 
--- which is no later than where it stands
-index_low : (numbers : List ℕ) (i : ℕ) (held : Snapshot) → i < length numbers → get_or numbers i 0 ≡ held.number → index_in numbers held < length numbers
-index_low numbers i held low is = ⊎_elim (λ inside. inside)
-    (λ (past : length numbers ≤ index_in numbers held). absurd (let passes = prefix_len_passes (λ n. not (n == held.number)) numbers i 0 (omega arith) in
-    false≢true (sym (ap not (eq-eqb (get_or numbers i 0) held.number is)) ∙ passes)))
-    (cases_lt (index_in numbers held) (length numbers))
+  below_is : (n : ℕ) → let i = unwrap_or (rfind_below held.number numbers n) end in i < end → get_or numbers i 0 ≡ held.number
+  below_is zero low = absurd (omega arith)
+  below_is (suc n) low = cond_both (get_or numbers n 0 == held.number) (Some n) (rfind_below held.number numbers n) (λ r. unwrap_or r end < end → get_or numbers (unwrap_or r end) 0 ≡ held.number)
+      (λ same _. eqb-true (get_or numbers n 0) held.number same) (λ other. below_is n) low
+
+  -- if it stands there, it does at the snapshot's index
+  pub at_index : index_in numbers held < end → get_or numbers (index_in numbers held) 0 ≡ held.number
+  at_index = below_is end
+
+  -- which is in the list if it stands among the first n
+  index_low : (n i : ℕ) → i < n → n ≤ end → get_or numbers i 0 ≡ held.number → unwrap_or (rfind_below held.number numbers n) end < end
+  index_low zero i low most is = absurd (omega arith)
+  index_low (suc n) i low most is = cond_both (get_or numbers n 0 == held.number) (Some n) (rfind_below held.number numbers n) (λ r. unwrap_or r end < end) (λ same. omega arith)
+      (λ other. ⊎_elim (λ (less : i < n). index_low n i less (omega arith) is)
+      (λ (last : n ≤ i). absurd (let e : i ≡ n = omega arith in false≢true (sym other ∙ eq-eqb (get_or numbers n 0) held.number (subst (λ (z : ℕ). get_or numbers z 0 ≡ held.number) e is))))
+      (cases_lt i n))
 
 -- ---- the records of the root
 
@@ -77,7 +82,7 @@ cut_is s book held has = let long = numbers_long s book in let same = history_lo
 pub shows_entry : (s : Shape) (book : Book) (held : Snapshot) (i : ℕ) (e : Entry) → NamesOnce s book → IsInner s (root_place s) → At book (root_place s) i e → held.number ≡ e.number
     → HasNamed s book held × (cut_named s book held ≡ root_cut s book i)
 shows_entry s book held i e named inner at numbered =
-    let n = number_at s book i e at in let has : HasNamed s book held = index_low (root_numbers s book) i held n.0 (n.1 ∙ sym numbered) in
+    let n = number_at s book i e at in let has : HasNamed s book held = index_low (root_numbers s book) held (length (root_numbers s book)) i n.0 (omega arith) (n.1 ∙ sym numbered) in
     let t = entry_shown s book held has in
     (has, cut_is s book held has ∙ ap (root_cut s book) (named.once (root_place s) t.index i t.entry e inner t.at at (sym t.numbered ∙ numbered)))
 

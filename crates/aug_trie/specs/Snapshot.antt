@@ -1,15 +1,15 @@
 -- Which snapshots are a pass's, and which cut and which set each shows. In the example the root's first entry has the number 4, and the one after 0
 -- was put in 6: a snapshot with the number 6 shows the second cut.
-use Rattle.std.specs.Prelude.{ℕ, ◌<◌, ◌==◌, List, [], length, slice_index_or}
-use Rattle.std.specs.List.{position_or_len}
+use Rattle.std.specs.Prelude.{ℕ, ◌<◌, List, [], length, slice_index_or, unwrap_or}
+use Rattle.std.specs.Path.{rfind_below}
 use Rattle.aug_core.specs.Cuts.{Cut, pairs_of_cut}
 use Rattle.aug_model.specs.Keys.{SetFacts}
 use Rattle.aug_trie.specs.Pass.{PassFacts}
 use Rattle.aug_trie.specs.declared.queries.snapshot.Snapshot.{Snapshot}
 
--- the index of the root's entry that a snapshot shows, by the numbers of the root's records: the first that is the snapshot's, or past the end if none is
+-- the index of the root's entry that a snapshot shows, by the records' numbers: the newest with the snapshot's, which its pass guards, or past the end
 abbrev pub index_in : List ℕ → Snapshot → ℕ
-index_in numbers s = position_or_len (λ n. n == s.number) numbers
+index_in numbers s = unwrap_or (rfind_below s.number numbers (length numbers)) (length numbers)
 
 -- the snapshot is the pass's: its number is that of one of the pass's cuts
 abbrev pub HasSnapshot : PassFacts → Snapshot → Type 0

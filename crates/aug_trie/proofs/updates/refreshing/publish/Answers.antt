@@ -1,3 +1,4 @@
+use Rattle.std.proofs.Common.{rules}
 use Rattle.aug_core.specs.Faces.{face}
 use Rattle.aug_trie.proofs.Going.{goes_self, may_store_room}
 use Rattle.aug_trie.proofs.Publishing.{stored_on, may_store_on, may_publish_filled, publishes}
@@ -24,18 +25,7 @@ try_node-requires-clause-own g c = let m = g.A.Monoid.parts in let n = g.B.Monoi
 pub try_node-requires-clause-filled : goal.try_node-requires-clause-filled
 try_node-requires-clause-filled g c = may_publish_filled g.A.Monoid.parts g.B.Monoid.parts c.args.five c.requires.room c.store_record_word.ensures.view c.store_record_word-2.ensures.view c.store_record_word-3.ensures.view c.store_record_word-4.ensures.view c.store_record_word-5.ensures.view c.requires.loaded
 
-pub returns-clause-goes : goal.returns-clause-goes
-returns-clause-goes g c = let m = g.A.Monoid.parts in let n = g.B.Monoid.parts in (publishes m n c.args.five c.requires.room c.store_record_word.ensures.view c.store_record_word-2.ensures.view c.store_record_word-3.ensures.view c.store_record_word-4.ensures.view c.store_record_word-5.ensures.view c.requires.inner
-    (stored_on m n _ _ c.store_record_word-5.ensures.view (stored_on m n _ _ c.store_record_word-4.ensures.view (stored_on m n _ _ c.store_record_word-3.ensures.view (stored_on m n _ _ c.store_record_word-2.ensures.view (stored_on m n _ _ c.store_record_word.ensures.view (goes_self (face m n) c.args.pass.now.view c.requires.knows)))))) c.try_node.ensures.view).goes
-
-pub returns-clause-took : goal.returns-clause-took
-returns-clause-took g c = let m = g.A.Monoid.parts in let n = g.B.Monoid.parts in (publishes m n c.args.five c.requires.room c.store_record_word.ensures.view c.store_record_word-2.ensures.view c.store_record_word-3.ensures.view c.store_record_word-4.ensures.view c.store_record_word-5.ensures.view c.requires.inner
-    (stored_on m n _ _ c.store_record_word-5.ensures.view (stored_on m n _ _ c.store_record_word-4.ensures.view (stored_on m n _ _ c.store_record_word-3.ensures.view (stored_on m n _ _ c.store_record_word-2.ensures.view (stored_on m n _ _ c.store_record_word.ensures.view (goes_self (face m n) c.args.pass.now.view c.requires.knows)))))) c.try_node.ensures.view).took
-
-pub returns-clause-published : goal.returns-clause-published
-returns-clause-published g c = let m = g.A.Monoid.parts in let n = g.B.Monoid.parts in (publishes m n c.args.five c.requires.room c.store_record_word.ensures.view c.store_record_word-2.ensures.view c.store_record_word-3.ensures.view c.store_record_word-4.ensures.view c.store_record_word-5.ensures.view c.requires.inner
-    (stored_on m n _ _ c.store_record_word-5.ensures.view (stored_on m n _ _ c.store_record_word-4.ensures.view (stored_on m n _ _ c.store_record_word-3.ensures.view (stored_on m n _ _ c.store_record_word-2.ensures.view (stored_on m n _ _ c.store_record_word.ensures.view (goes_self (face m n) c.args.pass.now.view c.requires.knows)))))) c.try_node.ensures.view).published
-
-pub returns-clause-again : goal.returns-clause-again
-returns-clause-again g c = let m = g.A.Monoid.parts in let n = g.B.Monoid.parts in (publishes m n c.args.five c.requires.room c.store_record_word.ensures.view c.store_record_word-2.ensures.view c.store_record_word-3.ensures.view c.store_record_word-4.ensures.view c.store_record_word-5.ensures.view c.requires.inner
-    (stored_on m n _ _ c.store_record_word-5.ensures.view (stored_on m n _ _ c.store_record_word-4.ensures.view (stored_on m n _ _ c.store_record_word-3.ensures.view (stored_on m n _ _ c.store_record_word-2.ensures.view (stored_on m n _ _ c.store_record_word.ensures.view (goes_self (face m n) c.args.pass.now.view c.requires.knows)))))) c.try_node.ensures.view).again
+pub returns : goal.returns
+returns g c = let m = g.A.Monoid.parts in let n = g.B.Monoid.parts in let made = publishes m n c.args.five c.requires.room c.store_record_word.ensures.view c.store_record_word-2.ensures.view c.store_record_word-3.ensures.view c.store_record_word-4.ensures.view c.store_record_word-5.ensures.view c.requires.inner
+    (stored_on m n _ _ c.store_record_word-5.ensures.view (stored_on m n _ _ c.store_record_word-4.ensures.view (stored_on m n _ _ c.store_record_word-3.ensures.view (stored_on m n _ _ c.store_record_word-2.ensures.view (stored_on m n _ _ c.store_record_word.ensures.view (goes_self (face m n) c.args.pass.now.view c.requires.knows)))))) c.try_node.ensures.view in
+    record { goes = made.goes; took = made.took; published = made.published; again = made.again; table = search rules }

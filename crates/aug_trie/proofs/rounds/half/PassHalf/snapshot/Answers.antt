@@ -10,18 +10,7 @@ pub invariant_of-self : goal.invariant_of-self
 invariant_of-self g c = let i = c.self.inside in (snapshot_taken g.A.Monoid.parts g.B.Monoid.parts (Some i.words) i.account c.args.self.now i.words c.self.invariant c.self.view_is refl
     c.load_node-number.result c.load_node-number.new.self c.load_node-number.ensures.view c.load_node-number.ensures.table).holds
 
-pub returns-clause-takes : goal.returns-clause-takes
-returns-clause-takes g c = let i = c.self.inside in (snapshot_taken g.A.Monoid.parts g.B.Monoid.parts (Some i.words) i.account c.args.self.now i.words c.self.invariant c.self.view_is refl
-    c.load_node-number.result c.load_node-number.new.self c.load_node-number.ensures.view c.load_node-number.ensures.table).takes
-
-pub returns-clause-known : goal.returns-clause-known
-returns-clause-known g c = let i = c.self.inside in (snapshot_taken g.A.Monoid.parts g.B.Monoid.parts (Some i.words) i.account c.args.self.now i.words c.self.invariant c.self.view_is refl
-    c.load_node-number.result c.load_node-number.new.self c.load_node-number.ensures.view c.load_node-number.ensures.table).known
-
-pub returns-clause-goes_on : goal.returns-clause-goes_on
-returns-clause-goes_on g c = let i = c.self.inside in (snapshot_taken g.A.Monoid.parts g.B.Monoid.parts (Some i.words) i.account c.args.self.now i.words c.self.invariant c.self.view_is refl
-    c.load_node-number.result c.load_node-number.new.self c.load_node-number.ensures.view c.load_node-number.ensures.table).goes_on
-
-pub returns-clause-keeps : goal.returns-clause-keeps
-returns-clause-keeps g c = let i = c.self.inside in (snapshot_taken g.A.Monoid.parts g.B.Monoid.parts (Some i.words) i.account c.args.self.now i.words c.self.invariant c.self.view_is refl
-    c.load_node-number.result c.load_node-number.new.self c.load_node-number.ensures.view c.load_node-number.ensures.table).keeps
+pub returns : goal.returns
+returns g c = let i = c.self.inside in let made = snapshot_taken g.A.Monoid.parts g.B.Monoid.parts (Some i.words) i.account c.args.self.now i.words c.self.invariant c.self.view_is refl
+    c.load_node-number.result c.load_node-number.new.self c.load_node-number.ensures.view c.load_node-number.ensures.table in
+    record { takes = made.takes; known = made.known; goes_on = made.goes_on; keeps = made.keeps; step = made.step }

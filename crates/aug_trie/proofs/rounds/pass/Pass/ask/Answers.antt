@@ -22,17 +22,13 @@ invariant_of-self g c = let i = c.self.inside in let w = c.of_pass-walk.result i
     (sym c.take.ensures.value ∙ c.of_pass-walk.ensures.words) c.run-answer.ensures.descends in
     subst (λ (z : Known). KeepsAccount (face g.A.Monoid.parts g.B.Monoid.parts) (Some z) i.account) (sym c.into_words.ensures) record { pass = still.0; counts = still.1 }
 
-pub returns-clause-answer : goal.returns-clause-answer
-returns-clause-answer g c = let i = c.self.inside in
-    let there = sym c.take.ensures.value ∙ c.of_pass-walk.ensures.words in
-    let same = same_set i.words c.of_pass-walk.result c.args.s i.account.left c.args.self.now there c.of_pass-walk.ensures.snapshot c.self.view_is in
-    subst (λ (z : SetFacts). g.Q.Query.Answers c.args.query z c.run-answer.result) same c.run-answer.ensures.answer
-
-pub returns-clause-reads : goal.returns-clause-reads
-returns-clause-reads g c = let i = c.self.inside in let w = c.of_pass-walk.result in let most : Loads = g.Q.Query.most c.args.query (set_seen w.words.view w.snapshot) in
+pub returns : goal.returns
+returns g c = let i = c.self.inside in let w = c.of_pass-walk.result in let most : Loads = g.Q.Query.most c.args.query (set_seen w.words.view w.snapshot) in
     let there = sym c.take.ensures.value ∙ c.of_pass-walk.ensures.words in
     let same = same_set i.words w c.args.s i.account.left c.args.self.now there c.of_pass-walk.ensures.snapshot c.self.view_is in
-    let all : ℕ = steps_for (g.Q.Query.most c.args.query (set_at c.args.self.now c.args.s)) in
-    subst (λ (z : Known). Reads (summary_of g.A.Monoid.parts g.B.Monoid.parts) all c.args.self.now (pass_facts z i.account.left)) (sym c.into_words.ensures)
-    (reads_of g.A.Monoid.parts g.B.Monoid.parts i.words w c.run-answer.new.tree i.account.left most.nodes most.counts most.summaries most.passed all c.args.self.now there c.self.view_is c.run-answer.ensures.descends
-    (le_of_eq (ap (λ (z : SetFacts). steps_for (g.Q.Query.most c.args.query z)) same)))
+    let all : ℕ = steps_for (g.Q.Query.most c.args.query (set_at c.args.self.now c.args.s)) in record {
+      answer = subst (λ (z : SetFacts). g.Q.Query.Answers c.args.query z c.run-answer.result) same c.run-answer.ensures.answer;
+      reads = subst (λ (z : Known). Reads (summary_of g.A.Monoid.parts g.B.Monoid.parts) all c.args.self.now (pass_facts z i.account.left)) (sym c.into_words.ensures)
+          (reads_of g.A.Monoid.parts g.B.Monoid.parts i.words w c.run-answer.new.tree i.account.left most.nodes most.counts most.summaries most.passed all c.args.self.now there c.self.view_is c.run-answer.ensures.descends
+          (le_of_eq (ap (λ (z : SetFacts). steps_for (g.Q.Query.most c.args.query z)) same)));
+    }

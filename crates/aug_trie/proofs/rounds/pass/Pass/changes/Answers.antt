@@ -21,21 +21,13 @@ invariant_of-self g c = let i = c.self.inside in let w = c.over-walk.result in
     (2 * differing_nodes (both_seen w.words.view w.earlier w.later) c.args.from) c.self.invariant.pass c.self.invariant.counts there c.next_changes-page.ensures.descends in
     subst (λ (z : Known). KeepsAccount (face g.A.Monoid.parts g.B.Monoid.parts) (Some z) i.account) (sym c.into_words.ensures) record { pass = still.0; counts = still.1 }
 
-pub returns-clause-answer : goal.returns-clause-answer
-returns-clause-answer g c = let i = c.self.inside in let w = c.over-walk.result in
+pub returns : goal.returns
+returns g c = let i = c.self.inside in let w = c.over-walk.result in
     let there : i.words ≡ Some w.words = sym c.take.ensures.value ∙ c.in-Some.is ∙ ap (λ (z : Known). Some z) (sym c.over-walk.ensures.words) in
     let same = same_both i.words w c.args.earlier c.args.later i.account.left c.args.self.now there c.over-walk.ensures.earlier c.over-walk.ensures.later c.self.view_is in
-    c.next_changes-page.ensures.answer ∙ ap (λ (z : BothSets). take 32 (changes_from z.earlier z.later c.args.from)) same
-
-pub returns-clause-reads : goal.returns-clause-reads
-returns-clause-reads g c = let i = c.self.inside in let w = c.over-walk.result in
-    let there : i.words ≡ Some w.words = sym c.take.ensures.value ∙ c.in-Some.is ∙ ap (λ (z : Known). Some z) (sym c.over-walk.ensures.words) in
-    compared g.A.Monoid.parts g.B.Monoid.parts i.words (Some c.into_words.result) w c.next_changes-page.new.trees c.args.earlier c.args.later c.args.from i.account.left c.args.self.now there c.over-walk.ensures.earlier c.over-walk.ensures.later c.self.view_is
-    c.next_changes-page.ensures.descends (ap (λ (z : Known). Some z) c.into_words.ensures)
-
-pub returns-clause-none : goal.returns-clause-none
-returns-clause-none g c = λ same. let i = c.self.inside in let w = c.over-walk.result in
-    let there : i.words ≡ Some w.words = sym c.take.ensures.value ∙ c.in-Some.is ∙ ap (λ (z : Known). Some z) (sym c.over-walk.ensures.words) in
-    none_read g.A.Monoid.parts g.B.Monoid.parts c.args.self.now (pass_facts c.into_words.result i.account.left) c.args.earlier c.args.later c.args.from
-    (compared g.A.Monoid.parts g.B.Monoid.parts i.words (Some c.into_words.result) w c.next_changes-page.new.trees c.args.earlier c.args.later c.args.from i.account.left c.args.self.now there c.over-walk.ensures.earlier c.over-walk.ensures.later c.self.view_is
-    c.next_changes-page.ensures.descends (ap (λ (z : Known). Some z) c.into_words.ensures)) same
+    let reads = compared g.A.Monoid.parts g.B.Monoid.parts i.words (Some c.into_words.result) w c.next_changes-page.new.trees c.args.earlier c.args.later c.args.from i.account.left c.args.self.now there c.over-walk.ensures.earlier c.over-walk.ensures.later c.self.view_is
+    c.next_changes-page.ensures.descends (ap (λ (z : Known). Some z) c.into_words.ensures) in record {
+      answer = c.next_changes-page.ensures.answer ∙ ap (λ (z : BothSets). take 32 (changes_from z.earlier z.later c.args.from)) same;
+      reads = reads;
+      none = none_read g.A.Monoid.parts g.B.Monoid.parts c.args.self.now (pass_facts c.into_words.result i.account.left) c.args.earlier c.args.later c.args.from reads;
+    }

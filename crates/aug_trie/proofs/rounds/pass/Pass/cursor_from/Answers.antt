@@ -1,4 +1,4 @@
-use Rattle.std.proofs.Common.{ℕ, ◌+◌, ◌^◌, min, Option, sym, ap, ◌∙◌, subst, arith, Some}
+use Rattle.std.proofs.Common.{refl, ℕ, ◌+◌, ◌^◌, min, Option, sym, ap, ◌∙◌, subst, arith, Some}
 use Rattle.aug_model.specs.Folds.{summary_of}
 use Rattle.aug_model.specs.Keys.{SetFacts}
 use Rattle.aug_core.specs.Faces.{face}
@@ -22,23 +22,14 @@ invariant_of-self g c = let i = c.self.inside in let w = c.of_pass-walk.result i
     (sym c.take.ensures.value ∙ c.of_pass-walk.ensures.words) c.from-cursor.ensures.descends in
     subst (λ (z : Known). KeepsAccount (face g.A.Monoid.parts g.B.Monoid.parts) (Some z) i.account) (sym c.into_words.ensures) record { pass = still.0; counts = still.1 }
 
-pub returns-clause-of_pass : goal.returns-clause-of_pass
-returns-clause-of_pass g c = let i = c.self.inside in let w = c.of_pass-walk.result in let bits : ℕ = w.words.view.shape.bits in
-    let there = sym c.take.ensures.value ∙ c.of_pass-walk.ensures.words in
-    subst (λ (z : Known). IsCursorOf (pass_facts z i.account.left) (record { snapshot = c.args.s; cursor = c.from-cursor.result })) (sym c.into_words.ensures)
-    (walked_out g.A.Monoid.parts g.B.Monoid.parts i.words w c.from-cursor.new.tree i.account.left (bits + 1) 1 0 0 c.args.self.now (record { snapshot = c.args.s; cursor = c.from-cursor.result }) there c.of_pass-walk.ensures.snapshot c.self.view_is c.requires c.from-cursor.ensures.descends c.from-cursor.ensures.of_tree)
-
-pub returns-clause-gap : goal.returns-clause-gap
-returns-clause-gap g c = let i = c.self.inside in
-    let there = sym c.take.ensures.value ∙ c.of_pass-walk.ensures.words in
-    let same = same_set i.words c.of_pass-walk.result c.args.s i.account.left c.args.self.now there c.of_pass-walk.ensures.snapshot c.self.view_is in
-    c.from-cursor.ensures.gap ∙ ap (λ (z : SetFacts). min c.args.k (2 ^ z.bits)) same
-
-pub returns-clause-reads : goal.returns-clause-reads
-returns-clause-reads g c = let i = c.self.inside in let w = c.of_pass-walk.result in let bits : ℕ = w.words.view.shape.bits in
-    let there = sym c.take.ensures.value ∙ c.of_pass-walk.ensures.words in
-    let same = same_set i.words w c.args.s i.account.left c.args.self.now there c.of_pass-walk.ensures.snapshot c.self.view_is in
-    let most : ℕ = c.args.self.now.round.bits + 2 in
-    subst (λ (z : Known). Reads (summary_of g.A.Monoid.parts g.B.Monoid.parts) most c.args.self.now (pass_facts z i.account.left)) (sym c.into_words.ensures)
-    (reads_of g.A.Monoid.parts g.B.Monoid.parts i.words w c.from-cursor.new.tree i.account.left (bits + 1) 1 0 0 most c.args.self.now there c.self.view_is c.from-cursor.ensures.descends
-    (omega (arith, ap (λ (z : SetFacts). z.bits) same)))
+pub returns : goal.returns
+returns g c = let i = c.self.inside in let w = c.of_pass-walk.result in let bits : ℕ = w.words.view.shape.bits in let e = c.from-cursor.ensures in
+    let there = sym c.take.ensures.value ∙ c.of_pass-walk.ensures.words in let most : ℕ = c.args.self.now.round.bits + 2 in
+    let same = same_set i.words w c.args.s i.account.left c.args.self.now there c.of_pass-walk.ensures.snapshot c.self.view_is in record {
+      of_pass = subst (λ (z : Known). IsCursorOf (pass_facts z i.account.left) (record { snapshot = c.args.s; cursor = c.from-cursor.result })) (sym c.into_words.ensures)
+          (walked_out g.A.Monoid.parts g.B.Monoid.parts i.words w c.from-cursor.new.tree i.account.left (bits + 1) 1 0 0 c.args.self.now (record { snapshot = c.args.s; cursor = c.from-cursor.result }) there c.of_pass-walk.ensures.snapshot c.self.view_is c.requires e.descends e.of_tree);
+      snapshot = refl;
+      gap = e.gap ∙ ap (λ (z : SetFacts). min c.args.k (2 ^ z.bits)) same;
+      reads = subst (λ (z : Known). Reads (summary_of g.A.Monoid.parts g.B.Monoid.parts) most c.args.self.now (pass_facts z i.account.left)) (sym c.into_words.ensures)
+          (reads_of g.A.Monoid.parts g.B.Monoid.parts i.words w c.from-cursor.new.tree i.account.left (bits + 1) 1 0 0 most c.args.self.now there c.self.view_is e.descends (omega (arith, ap (λ (z : SetFacts). z.bits) same)));
+    }

@@ -1,4 +1,4 @@
-use Rattle.std.proofs.Common.{rules, ℕ, ◌-◌, ◌*◌, Option, sym, ap, ◌∙◌, subst, arith, Some}
+use Rattle.std.proofs.Common.{refl, rules, ℕ, ◌-◌, ◌*◌, Option, sym, ap, ◌∙◌, subst, arith, Some}
 use Rattle.aug_model.specs.Folds.{summary_of}
 use Rattle.aug_model.specs.Keys.{SetFacts}
 use Rattle.aug_core.specs.Faces.{face}
@@ -27,23 +27,14 @@ invariant_of-self g c = let i = c.self.inside in let w = c.of_pass-walk.result i
     (sym c.take.ensures.value ∙ c.of_pass-walk.ensures.words) c.next-found.ensures.descends in
     subst (λ (z : Known). KeepsAccount (face g.A.Monoid.parts g.B.Monoid.parts) (Some z) i.account) (sym c.into_words.ensures) record { pass = still.0; counts = still.1 }
 
-pub returns-clause-of_pass : goal.returns-clause-of_pass
-returns-clause-of_pass g c = let i = c.self.inside in let w = c.of_pass-walk.result in let bits : ℕ = w.words.view.shape.bits in
-    let there = sym c.take.ensures.value ∙ c.of_pass-walk.ensures.words in
-    subst (λ (z : Known). IsCursorOf (pass_facts z i.account.left) (record { snapshot = c.args.at.now.snapshot; cursor = c.next-found.new.self })) (sym c.into_words.ensures)
-    (walked_out g.A.Monoid.parts g.B.Monoid.parts i.words w c.next-found.new.tree i.account.left (3 * bits - 2) (2 * bits - 1) 0 0 c.args.self.now (record { snapshot = c.args.at.now.snapshot; cursor = c.next-found.new.self }) there c.of_pass-walk.ensures.snapshot c.self.view_is c.requires.of_pass c.next-found.ensures.descends c.next-found.ensures.of_tree)
-
-pub returns-clause-answer : goal.returns-clause-answer
-returns-clause-answer g c = let i = c.self.inside in
-    let there = sym c.take.ensures.value ∙ c.of_pass-walk.ensures.words in
-    let same = same_set i.words c.of_pass-walk.result c.args.at.now.snapshot i.account.left c.args.self.now there c.of_pass-walk.ensures.snapshot c.self.view_is in
-    subst (λ (z : SetFacts). YieldsNext z c.args.at.now.cursor.gap c.next-found.new.self.gap c.next-found.result) same c.next-found.ensures.answer
-
-pub returns-clause-reads : goal.returns-clause-reads
-returns-clause-reads g c = let i = c.self.inside in let w = c.of_pass-walk.result in let bits : ℕ = w.words.view.shape.bits in
-    let there = sym c.take.ensures.value ∙ c.of_pass-walk.ensures.words in
-    let same = same_set i.words w c.args.at.now.snapshot i.account.left c.args.self.now there c.of_pass-walk.ensures.snapshot c.self.view_is in
-    let most : ℕ = 5 * c.args.self.now.round.bits - 3 in
-    subst (λ (z : Known). Reads (summary_of g.A.Monoid.parts g.B.Monoid.parts) most c.args.self.now (pass_facts z i.account.left)) (sym c.into_words.ensures)
-    (reads_of g.A.Monoid.parts g.B.Monoid.parts i.words w c.next-found.new.tree i.account.left (3 * bits - 2) (2 * bits - 1) 0 0 most c.args.self.now there c.self.view_is c.next-found.ensures.descends
-    (omega (arith, ap (λ (z : SetFacts). z.bits) same)))
+pub returns : goal.returns
+returns g c = let i = c.self.inside in let w = c.of_pass-walk.result in let bits : ℕ = w.words.view.shape.bits in let from = c.args.at.now in
+    let there = sym c.take.ensures.value ∙ c.of_pass-walk.ensures.words in let e = c.next-found.ensures in
+    let same = same_set i.words w from.snapshot i.account.left c.args.self.now there c.of_pass-walk.ensures.snapshot c.self.view_is in let most : ℕ = 5 * c.args.self.now.round.bits - 3 in record {
+      of_pass = subst (λ (z : Known). IsCursorOf (pass_facts z i.account.left) (record { snapshot = from.snapshot; cursor = c.next-found.new.self })) (sym c.into_words.ensures)
+          (walked_out g.A.Monoid.parts g.B.Monoid.parts i.words w c.next-found.new.tree i.account.left (3 * bits - 2) (2 * bits - 1) 0 0 c.args.self.now (record { snapshot = from.snapshot; cursor = c.next-found.new.self }) there c.of_pass-walk.ensures.snapshot c.self.view_is c.requires.of_pass e.descends e.of_tree);
+      snapshot = refl;
+      answer = subst (λ (z : SetFacts). YieldsNext z from.cursor.gap c.next-found.new.self.gap c.next-found.result) same e.answer;
+      reads = subst (λ (z : Known). Reads (summary_of g.A.Monoid.parts g.B.Monoid.parts) most c.args.self.now (pass_facts z i.account.left)) (sym c.into_words.ensures)
+          (reads_of g.A.Monoid.parts g.B.Monoid.parts i.words w c.next-found.new.tree i.account.left (3 * bits - 2) (2 * bits - 1) 0 0 most c.args.self.now there c.self.view_is e.descends (omega (arith, ap (λ (z : SetFacts). z.bits) same)));
+    }

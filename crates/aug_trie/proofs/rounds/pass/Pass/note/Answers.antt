@@ -10,10 +10,7 @@ pub invariant_of-result : goal.invariant_of-result
 invariant_of-result g c = let i = c.self.inside in (note_made g.A.Monoid.parts g.B.Monoid.parts i.words i.account c.args.self.now c.in-Some.words c.self.invariant c.self.view_is (sym c.take.ensures.value ∙ c.in-Some.is)
     c.note-made.result c.note-made.new.self c.note-made.ensures.same c.note-made.ensures.table c.note-made.ensures.note).knows_table
 
-pub returns-clause-same : goal.returns-clause-same
-returns-clause-same g c = let i = c.self.inside in (note_made g.A.Monoid.parts g.B.Monoid.parts i.words i.account c.args.self.now c.in-Some.words c.self.invariant c.self.view_is (sym c.take.ensures.value ∙ c.in-Some.is)
-    c.note-made.result c.note-made.new.self c.note-made.ensures.same c.note-made.ensures.table c.note-made.ensures.note).same
-
-pub returns-clause-note : goal.returns-clause-note
-returns-clause-note g c = let i = c.self.inside in (note_made g.A.Monoid.parts g.B.Monoid.parts i.words i.account c.args.self.now c.in-Some.words c.self.invariant c.self.view_is (sym c.take.ensures.value ∙ c.in-Some.is)
-    c.note-made.result c.note-made.new.self c.note-made.ensures.same c.note-made.ensures.table c.note-made.ensures.note).note_is
+pub returns : goal.returns
+returns g c = let i = c.self.inside in let made = note_made g.A.Monoid.parts g.B.Monoid.parts i.words i.account c.args.self.now c.in-Some.words c.self.invariant c.self.view_is (sym c.take.ensures.value ∙ c.in-Some.is)
+    c.note-made.result c.note-made.new.self c.note-made.ensures.same c.note-made.ensures.table c.note-made.ensures.note in
+    record { same = made.same; note = made.note_is }

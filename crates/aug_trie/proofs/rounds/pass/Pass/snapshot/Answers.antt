@@ -9,22 +9,7 @@ pub invariant_of-self : goal.invariant_of-self
 invariant_of-self g c = let i = c.self.inside in (snapshot_taken g.A.Monoid.parts g.B.Monoid.parts i.words i.account c.args.self.now c.in-Some.words c.self.invariant c.self.view_is (sym c.take.ensures.value ∙ c.in-Some.is)
     c.load_node-number.result c.load_node-number.new.self c.load_node-number.ensures.view c.load_node-number.ensures.table).holds
 
-pub returns-clause-takes : goal.returns-clause-takes
-returns-clause-takes g c = let i = c.self.inside in (snapshot_taken g.A.Monoid.parts g.B.Monoid.parts i.words i.account c.args.self.now c.in-Some.words c.self.invariant c.self.view_is (sym c.take.ensures.value ∙ c.in-Some.is)
-    c.load_node-number.result c.load_node-number.new.self c.load_node-number.ensures.view c.load_node-number.ensures.table).takes
-
-pub returns-clause-known : goal.returns-clause-known
-returns-clause-known g c = let i = c.self.inside in (snapshot_taken g.A.Monoid.parts g.B.Monoid.parts i.words i.account c.args.self.now c.in-Some.words c.self.invariant c.self.view_is (sym c.take.ensures.value ∙ c.in-Some.is)
-    c.load_node-number.result c.load_node-number.new.self c.load_node-number.ensures.view c.load_node-number.ensures.table).known
-
-pub returns-clause-goes_on : goal.returns-clause-goes_on
-returns-clause-goes_on g c = let i = c.self.inside in (snapshot_taken g.A.Monoid.parts g.B.Monoid.parts i.words i.account c.args.self.now c.in-Some.words c.self.invariant c.self.view_is (sym c.take.ensures.value ∙ c.in-Some.is)
-    c.load_node-number.result c.load_node-number.new.self c.load_node-number.ensures.view c.load_node-number.ensures.table).goes_on
-
-pub returns-clause-step : goal.returns-clause-step
-returns-clause-step g c = let i = c.self.inside in (snapshot_taken g.A.Monoid.parts g.B.Monoid.parts i.words i.account c.args.self.now c.in-Some.words c.self.invariant c.self.view_is (sym c.take.ensures.value ∙ c.in-Some.is)
-    c.load_node-number.result c.load_node-number.new.self c.load_node-number.ensures.view c.load_node-number.ensures.table).step
-
-pub returns-clause-keeps : goal.returns-clause-keeps
-returns-clause-keeps g c = let i = c.self.inside in (snapshot_taken g.A.Monoid.parts g.B.Monoid.parts i.words i.account c.args.self.now c.in-Some.words c.self.invariant c.self.view_is (sym c.take.ensures.value ∙ c.in-Some.is)
-    c.load_node-number.result c.load_node-number.new.self c.load_node-number.ensures.view c.load_node-number.ensures.table).keeps
+pub returns : goal.returns
+returns g c = let i = c.self.inside in let made = snapshot_taken g.A.Monoid.parts g.B.Monoid.parts i.words i.account c.args.self.now c.in-Some.words c.self.invariant c.self.view_is (sym c.take.ensures.value ∙ c.in-Some.is)
+    c.load_node-number.result c.load_node-number.new.self c.load_node-number.ensures.view c.load_node-number.ensures.table in
+    record { takes = made.takes; known = made.known; goes_on = made.goes_on; step = made.step; keeps = made.keeps }

@@ -1,5 +1,4 @@
 use Rattle.std.proofs.Common.{Option, ℕ, sym, subst, ◌∙◌}
-use Rattle.aug_trie.specs.Knowledge.{Knowledge}
 use Rattle.aug_trie.specs.Updates.{Tells}
 use Rattle.aug_trie.specs.inside.Knows.{knows}
 use Rattle.aug_trie.proofs.PassCalls.{has_count, has_records, update_made}
@@ -15,21 +14,17 @@ pub invariant_of-self : goal.invariant_of-self
 invariant_of-self g c = let i = c.self.inside in (update_made g.A.Monoid.parts g.B.Monoid.parts i.words i.account c.args.self.now c.in-Some.words c.self.invariant c.self.view_is (sym c.take.ensures.value ∙ c.in-Some.is)
     c.args.k c.args.request c.update-words.result.1 c.update-words.result.0 c.after-self-inside.result c.requires.key c.requires.budget c.update-words.ensures.updated c.update-words.ensures.left c.update-words.ensures.table c.after-self-inside.ensures).holds
 
-pub returns-clause-comes_to : goal.returns-clause-comes_to
-returns-clause-comes_to g c = let i = c.self.inside in (update_made g.A.Monoid.parts g.B.Monoid.parts i.words i.account c.args.self.now c.in-Some.words c.self.invariant c.self.view_is (sym c.take.ensures.value ∙ c.in-Some.is)
-    c.args.k c.args.request c.update-words.result.1 c.update-words.result.0 c.after-self-inside.result c.requires.key c.requires.budget c.update-words.ensures.updated c.update-words.ensures.left c.update-words.ensures.table c.after-self-inside.ensures).came_to
-
-pub returns-clause-goes_on : goal.returns-clause-goes_on
-returns-clause-goes_on g c = let i = c.self.inside in (update_made g.A.Monoid.parts g.B.Monoid.parts i.words i.account c.args.self.now c.in-Some.words c.self.invariant c.self.view_is (sym c.take.ensures.value ∙ c.in-Some.is)
-    c.args.k c.args.request c.update-words.result.1 c.update-words.result.0 c.after-self-inside.result c.requires.key c.requires.budget c.update-words.ensures.updated c.update-words.ensures.left c.update-words.ensures.table c.after-self-inside.ensures).goes_on
-
-pub returns-clause-keeps : goal.returns-clause-keeps
-returns-clause-keeps g c = let i = c.self.inside in (update_made g.A.Monoid.parts g.B.Monoid.parts i.words i.account c.args.self.now c.in-Some.words c.self.invariant c.self.view_is (sym c.take.ensures.value ∙ c.in-Some.is)
-    c.args.k c.args.request c.update-words.result.1 c.update-words.result.0 c.after-self-inside.result c.requires.key c.requires.budget c.update-words.ensures.updated c.update-words.ensures.left c.update-words.ensures.table c.after-self-inside.ensures).keeps
-
-pub returns-clause-steps : goal.returns-clause-steps
-returns-clause-steps g c = let i = c.self.inside in (update_made g.A.Monoid.parts g.B.Monoid.parts i.words i.account c.args.self.now c.in-Some.words c.self.invariant c.self.view_is (sym c.take.ensures.value ∙ c.in-Some.is)
-    c.args.k c.args.request c.update-words.result.1 c.update-words.result.0 c.after-self-inside.result c.requires.key c.requires.budget c.update-words.ensures.updated c.update-words.ensures.left c.update-words.ensures.table c.after-self-inside.ensures).steps
+pub returns : goal.returns
+returns g c = let i = c.self.inside in let made = update_made g.A.Monoid.parts g.B.Monoid.parts i.words i.account c.args.self.now c.in-Some.words c.self.invariant c.self.view_is (sym c.take.ensures.value ∙ c.in-Some.is)
+    c.args.k c.args.request c.update-words.result.1 c.update-words.result.0 c.after-self-inside.result c.requires.key c.requires.budget c.update-words.ensures.updated c.update-words.ensures.left c.update-words.ensures.table c.after-self-inside.ensures in
+    record {
+      comes_to = made.came_to;
+      goes_on = made.goes_on;
+      keeps = made.keeps;
+      steps = made.steps;
+      tells = subst (λ (z : Option ℕ × Option ℕ). Tells c.args.request c.args.k (record { outcome = c.update-words.result.1.outcome; before = z.0; now = z.1 }) c.args.self.now.knows (knows c.update-words.result.0.view))
+          (λ i. (sym c.weight_in-before.ensures i, sym c.weight_in-now.ensures i)) made.tells;
+    }
 
 pub update-words-requires-clause-room : goal.update-words-requires-clause-room
 update-words-requires-clause-room g c = let i = c.self.inside in (has_records g.A.Monoid.parts g.B.Monoid.parts i.words i.account c.args.self.now c.in-Some.words c.self.invariant c.self.view_is (sym c.take.ensures.value ∙ c.in-Some.is) c.requires.budget).0
@@ -39,8 +34,3 @@ update-words-requires-clause-small g c = let i = c.self.inside in (has_records g
 
 pub after-self-inside-requires-clause-records : goal.after-self-inside-requires-clause-records
 after-self-inside-requires-clause-records g c = let i = c.self.inside in (has_records g.A.Monoid.parts g.B.Monoid.parts i.words i.account c.args.self.now c.in-Some.words c.self.invariant c.self.view_is (sym c.take.ensures.value ∙ c.in-Some.is) c.requires.budget).1
-
-pub returns-clause-tells : goal.returns-clause-tells
-returns-clause-tells g c = let i = c.self.inside in let made = c.update-words.result.1 in let before : Knowledge = c.args.self.now.knows in let after : Knowledge = knows c.update-words.result.0.view in
-    subst (λ (z : Option ℕ × Option ℕ). Tells c.args.request c.args.k (record { outcome = made.outcome; before = z.0; now = z.1 }) before after) (λ i. (sym c.weight_in-before.ensures i, sym c.weight_in-now.ensures i)) (update_made g.A.Monoid.parts g.B.Monoid.parts i.words i.account c.args.self.now c.in-Some.words c.self.invariant c.self.view_is (sym c.take.ensures.value ∙ c.in-Some.is)
-    c.args.k c.args.request c.update-words.result.1 c.update-words.result.0 c.after-self-inside.result c.requires.key c.requires.budget c.update-words.ensures.updated c.update-words.ensures.left c.update-words.ensures.table c.after-self-inside.ensures).tells

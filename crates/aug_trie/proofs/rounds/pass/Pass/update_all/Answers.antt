@@ -1,4 +1,4 @@
-use Rattle.std.proofs.Common.{sym, ◌∙◌}
+use Rattle.std.proofs.Common.{rules, sym, ◌∙◌}
 use Rattle.aug_trie.proofs.BatchCalls.{batch_made, may_raise}
 use Rattle.aug_trie.proofs.rounds.pass.Pass.update_all.Goals as goal
 
@@ -6,17 +6,10 @@ pub invariant_of-self : goal.invariant_of-self
 invariant_of-self g c = let left = c.at_leaves-after.ensures in let up = c.propagate_all-words.ensures in
     (batch_made g.A.Monoid.parts g.B.Monoid.parts c.self.invariant c.self.view_is (sym c.take.ensures.value ∙ c.in-Some.is) c.requires.keys c.requires.budget left.left left.table left.account left.counts up.raised up.table).holds
 
-pub returns-clause-does : goal.returns-clause-does
-returns-clause-does g c = let left = c.at_leaves-after.ensures in let up = c.propagate_all-words.ensures in
-    (batch_made g.A.Monoid.parts g.B.Monoid.parts c.self.invariant c.self.view_is (sym c.take.ensures.value ∙ c.in-Some.is) c.requires.keys c.requires.budget left.left left.table left.account left.counts up.raised up.table).does
-
-pub returns-clause-goes_on : goal.returns-clause-goes_on
-returns-clause-goes_on g c = let left = c.at_leaves-after.ensures in let up = c.propagate_all-words.ensures in
-    (batch_made g.A.Monoid.parts g.B.Monoid.parts c.self.invariant c.self.view_is (sym c.take.ensures.value ∙ c.in-Some.is) c.requires.keys c.requires.budget left.left left.table left.account left.counts up.raised up.table).goes_on
-
-pub returns-clause-keeps : goal.returns-clause-keeps
-returns-clause-keeps g c = let left = c.at_leaves-after.ensures in let up = c.propagate_all-words.ensures in
-    (batch_made g.A.Monoid.parts g.B.Monoid.parts c.self.invariant c.self.view_is (sym c.take.ensures.value ∙ c.in-Some.is) c.requires.keys c.requires.budget left.left left.table left.account left.counts up.raised up.table).keeps
+pub returns : goal.returns
+returns g c = let left = c.at_leaves-after.ensures in let up = c.propagate_all-words.ensures in
+    let made = batch_made g.A.Monoid.parts g.B.Monoid.parts c.self.invariant c.self.view_is (sym c.take.ensures.value ∙ c.in-Some.is) c.requires.keys c.requires.budget left.left left.table left.account left.counts up.raised up.table in
+    record { does = made.does; goes_on = made.goes_on; keeps = made.keeps; rest = search rules }
 
 pub propagate_all-words-requires-clause-keys : goal.propagate_all-words-requires-clause-keys
 propagate_all-words-requires-clause-keys g c = let left = c.at_leaves-after.ensures in

@@ -30,16 +30,13 @@ invariant_of-self g c = let i = c.self.inside in let w = c.of_reader-walk.result
     (still_reader (face g.A.Monoid.parts g.B.Monoid.parts) (steps_for most) i.words w.words c.run-answer.new.tree.words i.bits c.args.self.now c.self.invariant there c.self.view_is
     (looks_of g.A.Monoid.parts g.B.Monoid.parts most.nodes most.counts most.summaries most.passed w c.run-answer.new.tree c.run-answer.ensures.descends))
 
-pub returns-clause-answer : goal.returns-clause-answer
-returns-clause-answer g c = let i = c.self.inside in let w = c.of_reader-walk.result in
-    let there : i.words ≡ Some w.words = sym c.take.ensures.value ∙ c.in-Some.is ∙ ap (λ (z : Known). Some z) (sym c.of_reader-walk.ensures.words) in
-    subst (λ (z : SetFacts). g.Q.Query.Answers c.args.query z c.run-answer.result) (same_set i.words w c.args.s 0 c.args.self.now there c.of_reader-walk.ensures.snapshot c.self.view_is) c.run-answer.ensures.answer
-
-pub returns-clause-reads : goal.returns-clause-reads
-returns-clause-reads g c = let i = c.self.inside in let w = c.of_reader-walk.result in let most : Loads = g.Q.Query.most c.args.query (set_seen w.words.view w.snapshot) in
+pub returns : goal.returns
+returns g c = let i = c.self.inside in let w = c.of_reader-walk.result in let most : Loads = g.Q.Query.most c.args.query (set_seen w.words.view w.snapshot) in
     let there : i.words ≡ Some w.words = sym c.take.ensures.value ∙ c.in-Some.is ∙ ap (λ (z : Known). Some z) (sym c.of_reader-walk.ensures.words) in
     let same = same_set i.words w c.args.s 0 c.args.self.now there c.of_reader-walk.ensures.snapshot c.self.view_is in
-    let all : ℕ = steps_for (g.Q.Query.most c.args.query (set_at c.args.self.now c.args.s)) in
-    subst (λ (z : Known). Reads (summary_of g.A.Monoid.parts g.B.Monoid.parts) all c.args.self.now (pass_facts z 0)) (sym c.into_reader.ensures)
-    (reads_of g.A.Monoid.parts g.B.Monoid.parts i.words w c.run-answer.new.tree 0 most.nodes most.counts most.summaries most.passed all c.args.self.now there c.self.view_is c.run-answer.ensures.descends
-    (le_of_eq (ap (λ (z : SetFacts). steps_for (g.Q.Query.most c.args.query z)) same)))
+    let all : ℕ = steps_for (g.Q.Query.most c.args.query (set_at c.args.self.now c.args.s)) in record {
+      answer = subst (λ (z : SetFacts). g.Q.Query.Answers c.args.query z c.run-answer.result) same c.run-answer.ensures.answer;
+      reads = subst (λ (z : Known). Reads (summary_of g.A.Monoid.parts g.B.Monoid.parts) all c.args.self.now (pass_facts z 0)) (sym c.into_reader.ensures)
+          (reads_of g.A.Monoid.parts g.B.Monoid.parts i.words w c.run-answer.new.tree 0 most.nodes most.counts most.summaries most.passed all c.args.self.now there c.self.view_is c.run-answer.ensures.descends
+          (le_of_eq (ap (λ (z : SetFacts). steps_for (g.Q.Query.most c.args.query z)) same)));
+    }

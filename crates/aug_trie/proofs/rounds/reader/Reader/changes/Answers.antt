@@ -21,21 +21,13 @@ invariant_of-self g c = let f = face g.A.Monoid.parts g.B.Monoid.parts in let i 
     subst (λ (z : Known). HoldsReader f (Some z) i.bits) (sym (c.reader.view_is ∙ c.into_words.ensures))
     (still_reader f (2 * n) i.words w.words c.next_changes-page.new.trees.words i.bits c.args.self.now c.self.invariant there c.self.view_is (looks_of_both f n w c.next_changes-page.new.trees c.next_changes-page.ensures.descends))
 
-pub returns-clause-answer : goal.returns-clause-answer
-returns-clause-answer g c = let i = c.self.inside in let w = c.over-walk.result in
+pub returns : goal.returns
+returns g c = let i = c.self.inside in let w = c.over-walk.result in
     let there : i.words ≡ Some w.words = sym c.take.ensures.value ∙ c.in-Some.is ∙ ap (λ (z : Known). Some z) (sym c.over-walk.ensures.words) in
     let same = same_both i.words w c.args.earlier c.args.later 0 c.args.self.now there c.over-walk.ensures.earlier c.over-walk.ensures.later c.self.view_is in
-    c.next_changes-page.ensures.answer ∙ ap (λ (z : BothSets). take 32 (changes_from z.earlier z.later c.args.from)) same
-
-pub returns-clause-reads : goal.returns-clause-reads
-returns-clause-reads g c = let i = c.self.inside in let w = c.over-walk.result in
-    let there : i.words ≡ Some w.words = sym c.take.ensures.value ∙ c.in-Some.is ∙ ap (λ (z : Known). Some z) (sym c.over-walk.ensures.words) in
-    compared g.A.Monoid.parts g.B.Monoid.parts i.words (Some c.reader.inside.reader) w c.next_changes-page.new.trees c.args.earlier c.args.later c.args.from 0 c.args.self.now there c.over-walk.ensures.earlier c.over-walk.ensures.later c.self.view_is
-    c.next_changes-page.ensures.descends (ap (λ (z : Known). Some z) (c.reader.view_is ∙ c.into_words.ensures))
-
-pub returns-clause-none : goal.returns-clause-none
-returns-clause-none g c = λ same. let i = c.self.inside in let w = c.over-walk.result in
-    let there : i.words ≡ Some w.words = sym c.take.ensures.value ∙ c.in-Some.is ∙ ap (λ (z : Known). Some z) (sym c.over-walk.ensures.words) in
-    none_read g.A.Monoid.parts g.B.Monoid.parts c.args.self.now (pass_facts c.reader.inside.reader 0) c.args.earlier c.args.later c.args.from
-    (compared g.A.Monoid.parts g.B.Monoid.parts i.words (Some c.reader.inside.reader) w c.next_changes-page.new.trees c.args.earlier c.args.later c.args.from 0 c.args.self.now there c.over-walk.ensures.earlier c.over-walk.ensures.later c.self.view_is
-    c.next_changes-page.ensures.descends (ap (λ (z : Known). Some z) (c.reader.view_is ∙ c.into_words.ensures))) same
+    let reads = compared g.A.Monoid.parts g.B.Monoid.parts i.words (Some c.reader.inside.reader) w c.next_changes-page.new.trees c.args.earlier c.args.later c.args.from 0 c.args.self.now there c.over-walk.ensures.earlier c.over-walk.ensures.later c.self.view_is
+    c.next_changes-page.ensures.descends (ap (λ (z : Known). Some z) (c.reader.view_is ∙ c.into_words.ensures)) in record {
+      answer = c.next_changes-page.ensures.answer ∙ ap (λ (z : BothSets). take 32 (changes_from z.earlier z.later c.args.from)) same;
+      reads = reads;
+      none = none_read g.A.Monoid.parts g.B.Monoid.parts c.args.self.now (pass_facts c.reader.inside.reader 0) c.args.earlier c.args.later c.args.from reads;
+    }

@@ -20,13 +20,13 @@ pub fn next_changes<D: DescendBoth>(trees: &mut D, from: u32) -> Changes
     let bits = trees.bits();
     let tops = trees.tops();
     let mut page = ArrayVec::new();
-    put_changes(trees, from, bits, 0, &tops, &mut page);
+    append_changes(trees, from, bits, 0, &tops, &mut page);
     page
 }
 
 // Appends to a page the changes of the keys from `from` on that the nodes at a level and a place cover, as many as it has room for. Children whose keys
 // are all below `from` are not loaded.
-fn put_changes<D: DescendBoth>(
+fn append_changes<D: DescendBoth>(
     trees: &mut D,
     from: u32,
     level: u32,
@@ -42,26 +42,26 @@ fn put_changes<D: DescendBoth>(
         return;
     }
     if level == 0 {
-        put_change(trees, place, nodes, page);
+        append_change(trees, place, nodes, page);
         return;
     }
     let left = 2 * place;
     if from >> (level - 1) > left {
         let children = trees.rights(level - 1, place, nodes);
-        put_changes(trees, from, level - 1, left + 1, &children, page);
+        append_changes(trees, from, level - 1, left + 1, &children, page);
         return;
     }
     let children = trees.lefts(level - 1, place, nodes);
-    put_changes(trees, from, level - 1, left, &children, page);
+    append_changes(trees, from, level - 1, left, &children, page);
     if page.is_full() {
         return;
     }
     let children = trees.rights(level - 1, place, nodes);
-    put_changes(trees, from, level - 1, left + 1, &children, page);
+    append_changes(trees, from, level - 1, left + 1, &children, page);
 }
 
 // Appends the change of one key, if there is one, to a page that has room.
-fn put_change<D: DescendBoth>(trees: &D, place: u32, nodes: &D::Name, page: &mut Changes)
+fn append_change<D: DescendBoth>(trees: &D, place: u32, nodes: &D::Name, page: &mut Changes)
     requires name { D.Names trees.now 0 place nodes.now }
     requires room { length page.old.items < 32 }
     ensures answer { page.new.items ≡ page.old.items ++ differences_in (D.both_of trees.now).earlier.pairs (D.both_of trees.now).later.pairs place (place + 1) }

@@ -64,12 +64,12 @@ fn page_of<A: Monoid, B: Monoid, D: Descend<A, B>>(tree: &mut D, stretch: Stretc
     let top = tree.top();
     let count = tree.count(bits, 0, &top);
     let mut page = ArrayVec::new();
-    put_part(tree, stretch, bits, 0, &top, count, &mut page);
+    append_members(tree, stretch, bits, 0, &top, count, &mut page);
     page
 }
 
-// Puts the members of a stretch that a node covers at the end of a page, as many as it has places for. The node covers `count` members.
-fn put_part<A: Monoid, B: Monoid, D: Descend<A, B>>(
+// Appends to a page the members of a stretch that a node covers, as many as it has places for. The node covers `count` members.
+fn append_members<A: Monoid, B: Monoid, D: Descend<A, B>>(
     tree: &mut D,
     stretch: Stretch,
     level: u32,
@@ -94,12 +94,12 @@ fn put_part<A: Monoid, B: Monoid, D: Descend<A, B>>(
     }
     let (child, at) = stretch.first_child(tree, level - 1, place, node);
     let some = tree.count(level - 1, at, &child);
-    put_part(tree, stretch, level - 1, at, &child, some, page);
+    append_members(tree, stretch, level - 1, at, &child, some, page);
     if some == count || page.is_full() {
         return;
     }
     let (child, at) = stretch.second_child(tree, level - 1, place, node);
-    put_part(tree, stretch, level - 1, at, &child, count - some, page);
+    append_members(tree, stretch, level - 1, at, &child, count - some, page);
 }
 
 impl Stretch {

@@ -60,7 +60,7 @@ fn page_since<A: Monoid, B: Monoid, D: Descend<A, B>, L: MemberList>(
         next: place_from(list, from),
         page: ArrayVec::new(),
     };
-    put_since(tree, list, from, bits, 0, &top, count, &mut merge);
+    append_since(tree, list, from, bits, 0, &top, count, &mut merge);
     merge.page
 }
 
@@ -73,7 +73,7 @@ struct Merge {
 
 // Appends to the page the changes of the keys from `from` on that the node at a level and a place covers, as many as it has room for. The node covers
 // `count` members. A node that covers none of either set is not gone into.
-fn put_since<A: Monoid, B: Monoid, D: Descend<A, B>, L: MemberList>(
+fn append_since<A: Monoid, B: Monoid, D: Descend<A, B>, L: MemberList>(
     tree: &mut D,
     list: &L,
     from: u32,
@@ -97,17 +97,17 @@ fn put_since<A: Monoid, B: Monoid, D: Descend<A, B>, L: MemberList>(
         return;
     }
     if level == 0 {
-        put_key(tree, list, place, node, count, merge);
+        append_change(tree, list, place, node, count, merge);
         return;
     }
     let left = tree.left(level - 1, place, node);
     let some = tree.count(level - 1, 2 * place, &left);
-    put_since(tree, list, from, level - 1, 2 * place, &left, some, merge);
+    append_since(tree, list, from, level - 1, 2 * place, &left, some, merge);
     if merge.page.is_full() {
         return;
     }
     let right = tree.right(level - 1, place, node);
-    put_since(
+    append_since(
         tree,
         list,
         from,
@@ -128,7 +128,7 @@ fn is_under<L: MemberList>(list: &L, next: usize, level: u32, place: u32) -> boo
 }
 
 // Appends the change of one key, if there is one, to a page that has room.
-fn put_key<A: Monoid, B: Monoid, D: Descend<A, B>, L: MemberList>(
+fn append_change<A: Monoid, B: Monoid, D: Descend<A, B>, L: MemberList>(
     tree: &D,
     list: &L,
     key: u32,

@@ -57,38 +57,38 @@ pub fn put_pairs<A: Monoid, B: Monoid, D: Descend<A, B>>(tree: &mut D, list: &mu
 }
 
 // What a list has of each member.
-trait Listed: Copy {
-    // The item of a key with a weight.
-    ghost item_of: { ℕ → ℕ → Self };
+trait Element: Copy {
+    // The element of a key with a weight.
+    ghost element_of: { ℕ → ℕ → Self };
 
-    // That item.
+    // That element.
     fn of_member(key: u32, weight: u32) -> Self
-        ensures { result ≡ item_of key weight };
+        ensures { result ≡ element_of key weight };
 }
 
-impl Listed for u32 {
-    ghost item_of = { λ key weight. key };
+impl Element for u32 {
+    ghost element_of = { λ key weight. key };
 
     fn of_member(key: u32, _weight: u32) -> u32 {
         key
     }
 }
 
-impl Listed for (u32, u32) {
-    ghost item_of = { λ key weight. (key, weight) };
+impl Element for (u32, u32) {
+    ghost element_of = { λ key weight. (key, weight) };
 
     fn of_member(key: u32, weight: u32) -> (u32, u32) {
         (key, weight)
     }
 }
 
-// The items of all members, rising.
-fn list<A: Monoid, B: Monoid, D: Descend<A, B>, I: Listed>(
+// The elements of all members, rising.
+fn list<A: Monoid, B: Monoid, D: Descend<A, B>, E: Element>(
     alloc: Global,
     tree: &mut D,
-) -> Result<Vec<I>, AllocError>
+) -> Result<Vec<E>, AllocError>
     ensures set { IsTreeSet (D.set_of tree.old) }
-    ensures answer { IfOk result (λ list. list.items ≡ map (λ k. I.item_of k (weight_in (D.set_of tree.old).pairs k)) (list_of (D.set_of tree.old))) }
+    ensures answer { IfOk result (λ list. list.items ≡ map (λ k. E.element_of k (weight_in (D.set_of tree.old).pairs k)) (list_of (D.set_of tree.old))) }
     ensures room { IfOk result (λ list. vec_capacity list ≡ length (list_of (D.set_of tree.old))) }
     ensures descends { Descends D.set_of D.loads_of D.Names D.KeepsRest (2 * (D.set_of tree.old).bits * length (list_of (D.set_of tree.old)) + 1) ((D.set_of tree.old).bits * length (list_of (D.set_of tree.old)) + 1) 0 0 tree.old tree.new }
 {
@@ -100,19 +100,19 @@ fn list<A: Monoid, B: Monoid, D: Descend<A, B>, I: Listed>(
     Ok(list)
 }
 
-// Puts the items of the members that the node at a level and a place covers at the end of `list`, which has room for them. No
+// Puts the elements of the members that the node at a level and a place covers at the end of `list`, which has room for them. No
 // child that covers none is gone into, and only the count of a left child is loaded.
-fn list_members<A: Monoid, B: Monoid, D: Descend<A, B>, I: Listed>(
+fn list_members<A: Monoid, B: Monoid, D: Descend<A, B>, E: Element>(
     tree: &mut D,
     level: u32,
     place: u32,
     node: &D::Name,
     count: u32,
-    list: &mut Vec<I>,
+    list: &mut Vec<E>,
 )
     requires node { HasCount (D.Names tree.old) (D.set_of tree.old) level place node.now count }
     requires room { vec_len list.old + count ≤ vec_capacity list.old }
-    ensures answer { list.new.items ≡ list.old.items ++ map (λ k. I.item_of k (weight_in (D.set_of tree.old).pairs k)) (keys_below (list_of (D.set_of tree.old)) level place) }
+    ensures answer { list.new.items ≡ list.old.items ++ map (λ k. E.element_of k (weight_in (D.set_of tree.old).pairs k)) (keys_below (list_of (D.set_of tree.old)) level place) }
     ensures length { vec_len list.new ≡ vec_len list.old + count }
     ensures room { vec_capacity list.new ≡ vec_capacity list.old }
     ensures descends { Descends D.set_of D.loads_of D.Names D.KeepsRest (2 * level * count) (level * count) 0 0 tree.old tree.new }
@@ -121,7 +121,7 @@ fn list_members<A: Monoid, B: Monoid, D: Descend<A, B>, I: Listed>(
         return;
     }
     if level == 0 {
-        list.push_reserved(I::of_member(place, tree.weight(place, node)));
+        list.push_reserved(E::of_member(place, tree.weight(place, node)));
         return;
     }
     let left = tree.left(level - 1, place, node);

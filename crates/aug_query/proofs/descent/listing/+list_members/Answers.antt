@@ -10,7 +10,7 @@ use Rattle.aug_query.proofs.descent.listing.+list_members.Goals as goal
 pub returns-then-level-eq0-clause-answer : goal.returns-then-level-eq0-clause-answer
 returns-then-level-eq0-clause-answer g t c =
     let node = g.met.D.Descend.name_stands c.args.tree.now _ _ c.args.node.now c.requires.node.name in
-    listed_leaf g.I.Listed.item_of (g.D.Descend.set_of c.args.tree.now) c.args.level c.args.place c.args.count c.weight.result c.of_member.result c.args.list.now.items c.push_reserved.new.self.items
+    listed_leaf g.E.Element.element_of (g.D.Descend.set_of c.args.tree.now) c.args.level c.args.place c.args.count c.weight.result c.of_member.result c.args.list.now.items c.push_reserved.new.self.items
     node.is_tree_set c.if-level-eq0.true c.requires.node.count c.if-count-eq0.false c.weight.ensures c.of_member.ensures c.push_reserved.ensures.items
 
 pub returns-then-level-eq0-clause-length : goal.returns-then-level-eq0-clause-length
@@ -63,7 +63,7 @@ returns-then-below-count-clause-answer g t c =
     let node = g.met.D.Descend.name_stands c.args.tree.now _ _ c.args.node.now c.requires.node.name in
     let low = c.count-below.ensures.descends.same_set ∙ c.left-left.ensures.descends.same_set in
     let high = c.right-right.ensures.descends.same_set ∙ c.list_members.ensures.descends.same_set ∙ low in
-    listed_both g.I.Listed.item_of (g.D.Descend.set_of c.args.tree.now) (g.D.Descend.set_of c.count-below.new.self) (g.D.Descend.set_of c.right-right.new.self) c.args.level (c.args.level - 1) c.args.place c.args.list.now.items c.list_members.new.list.items c.list_members-then-below-count.new.list.items
+    listed_both g.E.Element.element_of (g.D.Descend.set_of c.args.tree.now) (g.D.Descend.set_of c.count-below.new.self) (g.D.Descend.set_of c.right-right.new.self) c.args.level (c.args.level - 1) c.args.place c.args.list.now.items c.list_members.new.list.items c.list_members-then-below-count.new.list.items
     node.is_tree_set (omega (arith, c.if-level-eq0.false)) low high c.list_members.ensures.answer c.list_members-then-below-count.ensures.answer
 
 pub returns-then-below-count-clause-descends : goal.returns-then-below-count-clause-descends
@@ -76,7 +76,7 @@ returns-clause-answer g t c =
     let node = g.met.D.Descend.name_stands c.args.tree.now _ _ c.args.node.now c.requires.node.name in
     let low = c.count-below.ensures.descends.same_set ∙ c.left-left.ensures.descends.same_set in
     let count = count_of (g.D.Descend.set_of c.count-below.new.self) (g.D.Descend.set_of c.left-left.new.self) (c.args.level - 1) (2 * c.args.place) c.count-below.result (sym c.count-below.ensures.descends.same_set) c.count-below.ensures.value in
-    listed_left g.I.Listed.item_of (g.D.Descend.set_of c.args.tree.now) (g.D.Descend.set_of c.count-below.new.self) c.args.level (c.args.level - 1) c.args.place c.args.count c.count-below.result c.args.list.now.items c.list_members.new.list.items
+    listed_left g.E.Element.element_of (g.D.Descend.set_of c.args.tree.now) (g.D.Descend.set_of c.count-below.new.self) c.args.level (c.args.level - 1) c.args.place c.args.count c.count-below.result c.args.list.now.items c.list_members.new.list.items
     node.is_tree_set (omega (arith, c.if-level-eq0.false)) low c.requires.node.count count (omega (arith, c.if-below-count.false)) c.list_members.ensures.answer
 
 pub returns-clause-length : goal.returns-clause-length
@@ -95,7 +95,7 @@ returns-clause-descends g t c =
 pub returns-then-count-eq0-clause-answer : goal.returns-then-count-eq0-clause-answer
 returns-then-count-eq0-clause-answer g t c =
     let set = g.D.Descend.set_of c.args.tree.now in
-    no_part (λ (s : SetFacts) (k : ℕ). g.I.Listed.item_of k (weight_in s.pairs k)) set (keys_below (list_of set) c.args.level c.args.place) _ _ (sym c.requires.node.count ∙ c.if-count-eq0.true) refl
+    no_part (λ (s : SetFacts) (k : ℕ). g.E.Element.element_of k (weight_in s.pairs k)) set (keys_below (list_of set) c.args.level c.args.place) _ _ (sym c.requires.node.count ∙ c.if-count-eq0.true) refl
 
 pub returns-then-count-eq0-clause-descends : goal.returns-then-count-eq0-clause-descends
 returns-then-count-eq0-clause-descends g t c = still g.met.D.Descend.keeps_so

@@ -6,7 +6,7 @@ use Rattle.aug_query.proofs.descent.listing.list.Goals as goal
 pub returns-clause-answer : goal.returns-clause-answer
 returns-clause-answer g c =
     let same = c.count-count.ensures.descends.same_set ∙ c.top-top.ensures.descends.same_set in
-    listed_whole g.I.Listed.item_of (g.D.Descend.set_of c.args.tree.now) (g.D.Descend.set_of c.count-count.new.self) c.bits-bits.result c.in_ok-list.list.items c.list_members.new.list.items
+    listed_whole g.E.Element.element_of (g.D.Descend.set_of c.args.tree.now) (g.D.Descend.set_of c.count-count.new.self) c.bits-bits.result c.in_ok-list.list.items c.list_members.new.list.items
     c.bits-bits.ensures.set c.bits-bits.ensures.value same c.in_ok-list.ensures.items c.list_members.ensures.answer
 
 pub returns-clause-room : goal.returns-clause-room

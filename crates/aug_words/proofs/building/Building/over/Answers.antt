@@ -24,14 +24,14 @@ loop-level-init g c = let b = c.marked-building.result.plan in let words = c.mar
 
 pub loop-level-preserved : goal.loop-level-preserved
 loop-level-preserved g c =
-    let m = g.A.Monoid in let n = g.B.Monoid in let b = c.put_shared.new.self.plan in let words = c.put_shared.new.self.words.items in let i = c.loop-level.invariant in let under = c.loop-level-test.true in
-    let same = c.put_shared.ensures.same in let was = ap (λ (z : Plan). z.bits) same in let last = i.last in record {
+    let m = g.A.Monoid in let n = g.B.Monoid in let b = c.build_shared.new.self.plan in let words = c.build_shared.new.self.words.items in let i = c.loop-level.invariant in let under = c.loop-level-test.true in
+    let same = c.build_shared.ensures.same in let was = ap (λ (z : Plan). z.bits) same in let last = i.last in record {
       in_range = omega arith;
       last = i.last ∙ sym was;
       shape = ap (λ (z : Plan). z.key.shape) same ∙ i.shape;
       members = ap (λ (z : Plan). z.key.members) same ∙ i.members;
       parts = subst (λ (z : Plan). HasParts c.args.layout.now z.lanes z.records) (sym same) i.parts;
-      built = subst (λ (z : Plan). IsBuilt (face m.parts n.parts) z.key (c.loop-level.level + 1) (2 ^ z.key.shape.bits) words) (sym same) c.put_shared.ensures.built;
+      built = subst (λ (z : Plan). IsBuilt (face m.parts n.parts) z.key (c.loop-level.level + 1) (2 ^ z.key.shape.bits) words) (sym same) c.build_shared.ensures.built;
     }
 
 pub loop-level-2-init : goal.loop-level-2-init
@@ -52,8 +52,8 @@ loop-level-2-init g c =
 
 pub loop-level-2-preserved : goal.loop-level-2-preserved
 loop-level-2-preserved g c =
-    let m = g.A.Monoid in let n = g.B.Monoid in let b = c.put_level.new.self.plan in let words = c.put_level.new.self.words.items in let o = b.key in let s = o.shape in let i = c.loop-level-2.invariant in let level = c.loop-level-2.level in let under = c.loop-level-2-test.true in
-    let same = c.put_level.ensures.same in let was = ap (λ (z : Plan). z.bits) same in let last = i.last in let bits = b.bits_are in let few_bits = b.laid_out.bits.1 in
+    let m = g.A.Monoid in let n = g.B.Monoid in let b = c.build_level.new.self.plan in let words = c.build_level.new.self.words.items in let o = b.key in let s = o.shape in let i = c.loop-level-2.invariant in let level = c.loop-level-2.level in let under = c.loop-level-2-test.true in
+    let same = c.build_level.ensures.same in let was = ap (λ (z : Plan). z.bits) same in let last = i.last in let bits = b.bits_are in let few_bits = b.laid_out.bits.1 in
     let low : level < s.bits = omega arith in
     let shape = ap (λ (z : Plan). z.key.shape) same ∙ i.shape in
     let first : c.loop-level-2.first ≡ level_start s (suc level) = i.first ∙ ap (λ (z : Plan). level_start z.key.shape (suc level)) (sym same) in
@@ -70,7 +70,7 @@ loop-level-2-preserved g c =
       first = ap₂ (λ (x y : ℕ). x + y) first nodes ∙ next_level s level low;
       next = omega arith;
       few = omega arith;
-      built = subst (λ (z : Plan). IsBuilt (face m.parts n.parts) z.key z.key.shape.bits (level_start z.key.shape (suc (level + 1))) words) (sym same) c.put_level.ensures.built;
+      built = subst (λ (z : Plan). IsBuilt (face m.parts n.parts) z.key z.key.shape.bits (level_start z.key.shape (suc (level + 1))) words) (sym same) c.build_level.ensures.built;
     }
 
 pub returns-clause-built : goal.returns-clause-built

@@ -4,7 +4,7 @@ use Rattle.std.proofs.lemmas.Nat.{one_shl}
 use Rattle.aug_core.specs.Faces.{face}
 use Rattle.aug_words.specs.inside.Builds.{IsBuilt}
 use Rattle.aug_words.proofs.Builds.{next_level}
-use Rattle.aug_words.proofs.building.Building.put_level.Goals as goal
+use Rattle.aug_words.proofs.building.Building.build_level.Goals as goal
 
 pub returns-clause-built : goal.returns-clause-built
 returns-clause-built g c =

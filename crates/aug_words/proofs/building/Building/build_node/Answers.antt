@@ -1,6 +1,6 @@
 use Rattle.std.proofs.Common.{arith, sym, ◌∙◌, ◌+◌}
 use Rattle.aug_words.proofs.Builds.{next_node, own_inside}
-use Rattle.aug_words.proofs.building.Building.put.Goals as goal
+use Rattle.aug_words.proofs.building.Building.build_node.Goals as goal
 
 pub overflow_add-result : goal.overflow_add-result
 overflow_add-result g c =

@@ -2,7 +2,7 @@ use Rattle.std.proofs.Common.{◌≡◌, ◌≤◌, ◌+◌, ◌-◌, ◌^◌, s
 use Rattle.aug_core.specs.Places.{level_start}
 use Rattle.aug_core.specs.Faces.{face}
 use Rattle.aug_words.specs.inside.Builds.{next_own, IsBuilt}
-use Rattle.aug_words.proofs.building.Building.put_level.Given as goal
+use Rattle.aug_words.proofs.building.Building.build_level.Given as goal
 
 abbrev pub invariant-loop-place : goal.invariant-loop-place
 invariant-loop-place g l =

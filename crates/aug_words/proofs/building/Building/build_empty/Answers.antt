@@ -3,7 +3,7 @@ use Rattle.aug_core.specs.Places.{level_start}
 use Rattle.aug_core.specs.Faces.{face}
 use Rattle.aug_words.specs.inside.Builds.{IsBuilt}
 use Rattle.aug_words.proofs.Builds.{rises, next_node, node_shared}
-use Rattle.aug_words.proofs.building.Building.put_empty.Goals as goal
+use Rattle.aug_words.proofs.building.Building.build_empty.Goals as goal
 
 pub index_mut-requires : goal.index_mut-requires
 index_mut-requires g c = let n = next_node _ c.args.self.now.plan c.args.level c.args.first c.args.place c.args.self.now.words.items c.requires.node in let inside = n.inside in omega arith

@@ -8,8 +8,8 @@ use std::mem;
 use std::process::Abort;
 use std::test::Fail;
 
-// Puts a key of the set's bits in.
-fn put(rt: &impl Abort, set: &mut KeySet, k: u32) -> bool {
+// Inserts a key of the set's bits.
+fn insert(rt: &impl Abort, set: &mut KeySet, k: u32) -> bool {
     let bits = set.bits();
     holds(rt, k < 1 << bits);
     set.insert(k)
@@ -20,7 +20,7 @@ fn sizes(rt: &impl Abort, alloc: Global, bits: u32) -> Result<(u32, u32, u32), M
     let mut set = KeySet::try_new(alloc, bits)?;
     let bits = set.bits();
     let none = set.size();
-    put(rt, &mut set, u32::MAX >> (32 - bits));
+    insert(rt, &mut set, u32::MAX >> (32 - bits));
     Ok((bits, none, set.size()))
 }
 
@@ -74,7 +74,7 @@ fn made(alloc: Global, bits: u32) -> Result<KeySet, ModelError> {
 #[test]
 fn refused_memory_spoils_no_other_set(rt: HostRuntime) -> Result<(), Fail> {
     let mut first = made(rt.alloc(), 4)?;
-    holds(&rt, put(&rt, &mut first, 9));
+    holds(&rt, insert(&rt, &mut first, 9));
     let second = made(rt.alloc(), 16)?;
     let found = (first.size(), first.after(0), second.size());
     equal(&rt, found, (1, Some(9), 0));
@@ -159,13 +159,13 @@ fn assert_ranges(rt: &impl Abort, set: &KeySet) {
 fn example(rt: &impl Abort, alloc: Global) -> Result<KeySet, Fail> {
     let mut set = KeySet::try_new(alloc, 4)?;
     for k in [9, 5, 7] {
-        holds(rt, put(rt, &mut set, k));
+        holds(rt, insert(rt, &mut set, k));
     }
     equal(rt, (set.remove(7), set.remove(8)), (true, false));
     holds(rt, set.bits() == 4);
     equal(rt, set.put(5, u32::MAX), Outcome::Replaced);
     equal(rt, set.put(0, u32::MAX), Outcome::Accepted);
-    equal(rt, put(rt, &mut set, 5), false);
+    equal(rt, insert(rt, &mut set, 5), false);
     Ok(set)
 }
 
@@ -173,7 +173,7 @@ fn example(rt: &impl Abort, alloc: Global) -> Result<KeySet, Fail> {
 fn answers_from_its_members(rt: HostRuntime) -> Result<(), Fail> {
     let set = example(&rt, rt.alloc())?;
     let mut copy = KeySet::try_new(rt.alloc(), 4)?;
-    holds(&rt, put(&rt, &mut copy, 3));
+    holds(&rt, insert(&rt, &mut copy, 3));
     holds(&rt, copy.bits() == set.bits());
     copy.copy_from(&set);
     assert_members(&rt, &copy);

@@ -52,7 +52,7 @@ pub(super) fn take_back(lead: &mut Lead<Sum, Extent>, words: &WordsOf, filled: F
 }
 
 // Stores one word of a record of the pass.
-fn put(pass: &mut WordPass<Sum, Extent>, number: u64, field: RecordField, value: u64)
+fn store(pass: &mut WordPass<Sum, Extent>, number: u64, field: RecordField, value: u64)
     requires { MayStore pass.old.view number }
     ensures { (pass.new.table ≡ pass.old.table) × (pass.new.view.shape ≡ pass.old.view.shape) × (pass.new.view.members ≡ pass.old.view.members) × MayStore pass.new.view number }
 {
@@ -60,7 +60,7 @@ fn put(pass: &mut WordPass<Sum, Extent>, number: u64, field: RecordField, value:
 }
 
 // Loads one word of a record of the pass.
-fn get(pass: &mut WordPass<Sum, Extent>, number: u64, field: RecordField) -> u64
+fn load(pass: &mut WordPass<Sum, Extent>, number: u64, field: RecordField) -> u64
     requires { MayStore pass.old.view number }
     ensures { (pass.new.table ≡ pass.old.table) × (pass.new.view.shape ≡ pass.old.view.shape) × (pass.new.view.members ≡ pass.old.view.members) × MayStore pass.new.view number }
 {
@@ -74,17 +74,17 @@ pub(super) fn work(words: &WordsOf, half: WordHalf<Sum, Extent>, number: u64, fi
     ensures { AreTogether words.now result.half }
 {
     let mut pass = words.pass(half);
-    put(&mut pass, number, RecordField::Left, first);
-    put(&mut pass, number, RecordField::Right, first + 1);
-    put(&mut pass, number, RecordField::Count, first + 2);
-    put(&mut pass, number, RecordField::A, first + 3);
-    put(&mut pass, number, RecordField::B, first + 4);
+    store(&mut pass, number, RecordField::Left, first);
+    store(&mut pass, number, RecordField::Right, first + 1);
+    store(&mut pass, number, RecordField::Count, first + 2);
+    store(&mut pass, number, RecordField::A, first + 3);
+    store(&mut pass, number, RecordField::B, first + 4);
     let words = [
-        get(&mut pass, number, RecordField::Left),
-        get(&mut pass, number, RecordField::Right),
-        get(&mut pass, number, RecordField::Count),
-        get(&mut pass, number, RecordField::A),
-        get(&mut pass, number, RecordField::B),
+        load(&mut pass, number, RecordField::Left),
+        load(&mut pass, number, RecordField::Right),
+        load(&mut pass, number, RecordField::Count),
+        load(&mut pass, number, RecordField::A),
+        load(&mut pass, number, RecordField::B),
     ];
     Filled {
         half: pass.into_half(),

@@ -1,7 +1,7 @@
 use Rattle.std.proofs.Common.{ap, inr}
 use Rattle.aug_core.specs.declared.view.SeatView.{SeatView}
 use Rattle.aug_core.proofs.Clients.{may_store_stepped}
-use Rattle.aug_words_tests.proofs.working.get.Goals as goal
+use Rattle.aug_words_tests.proofs.working.load.Goals as goal
 
 pub load_record_word-requires : goal.load_record_word-requires
 load_record_word-requires c = inr c.requires

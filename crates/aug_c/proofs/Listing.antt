@@ -294,9 +294,9 @@ both_listed members keys keys_after weights weights_after old new code said same
 min_comm : (a b : ℕ) → min a b ≡ min b a
 min_comm a b = omega arith
 
-pub put_more : {X Y : Type 0} (f : X → Y) (none : X) (page : List X) (before now : List Y) (at i : ℕ) (answer : Y) → i < length page → at + i < length before → now ≡ (take at before ++ map f (take i page)) ++ drop (at + i) before → answer ≡ f (get_or page i none)
+pub page_more : {X Y : Type 0} (f : X → Y) (none : X) (page : List X) (before now : List Y) (at i : ℕ) (answer : Y) → i < length page → at + i < length before → now ≡ (take at before ++ map f (take i page)) ++ drop (at + i) before → answer ≡ f (get_or page i none)
     → set now (at + i) answer ≡ (take at before ++ map f (take (i + 1) page)) ++ drop (at + (i + 1)) before
-put_more {X} {Y} f none page before now at i answer inside room is value =
+page_more {X} {Y} f none page before now at i answer inside room is value =
     let front = take at before ++ map f (take i page) in
     let long : length front ≡ at + i = length-append (take at before) (map f (take i page)) ∙ omega (arith, length-take-le at before (omega (arith, room)), length-map (take i page) f, length-take-le i page (omega (arith, inside))) in
     let next : at + i + 1 ≡ at + (i + 1) = omega arith in
@@ -304,9 +304,9 @@ put_more {X} {Y} f none page before now at i answer inside room is value =
     ap (λ (xs : List Y). set xs (at + i) answer) is ∙ written_more front before (at + i) answer long room ∙ ap (λ (n : ℕ). (front ++ answer ∷ []) ++ drop n before) next
     ∙ ap (λ (xs : List Y). xs ++ drop (at + (i + 1)) before) (ap (λ (x : Y). front ++ x ∷ []) value ∙ append_assoc (take at before) (map f (take i page)) (f (get_or page i none) ∷ []) ∙ ap (λ (xs : List Y). take at before ++ xs) (sym one))
 
-pub put_all : {X Y : Type 0} (f : X → Y) (page : List X) (before now : List Y) (at i : ℕ) → at < length before → i ≡ min (length page) (length before - at) → now ≡ (take at before ++ map f (take i page)) ++ drop (at + i) before
+pub page_all : {X Y : Type 0} (f : X → Y) (page : List X) (before now : List Y) (at i : ℕ) → at < length before → i ≡ min (length page) (length before - at) → now ≡ (take at before ++ map f (take i page)) ++ drop (at + i) before
     → now ≡ take at before ++ (take (length before - at) (map f page) ++ drop (at + length page) before)
-put_all {X} {Y} f page before now at i room is written =
+page_all {X} {Y} f page before now at i room is written =
     let left = length before - at in
     let some : map f (take i page) ≡ take left (map f page) = ap (λ (n : ℕ). map f (take n page)) (is ∙ min_comm (length page) left) ∙ sym (take-map f (min left (length page)) page) ∙ ap (λ (n : ℕ). take (min left n) (map f page)) (sym (length-map page f)) ∙ take_min left (map f page) in
     let rest : drop (at + i) before ≡ drop (at + length page) before = elim (cases_lt (length page) left) [

@@ -16,8 +16,8 @@ use Rattle.aug_c.proofs.Reading.{asked_on}
 
 -- a whole page is written from the first place on
 pub page_lists : (page before out : List WeightChange) (n : ℕ) → n ≡ length page → out ≡ take 0 before ++ (take (length before - 0) page ++ drop (0 + n) before) → ListsMembers page before out (min (length before) (length page))
-page_lists page before out n long put = wrote_all page before out (0 + n) (omega (arith, long))
-    (wrote_more page before before out page 0 n (omega arith) (sym (take_all n page (omega (arith, long)))) (sym long) (wrote_none page before) put) (inr (omega (arith, long)))
+page_lists page before out n long written = wrote_all page before out (0 + n) (omega (arith, long))
+    (wrote_more page before before out page 0 n (omega arith) (sym (take_all n page (omega (arith, long)))) (sym long) (wrote_none page before) written) (inr (omega (arith, long)))
 
 module _ (earlier : SetFacts) (first : LookFacts) (from : ℕ) (before : List WeightChange) where
   abbrev pub all_since : List Difference
@@ -40,9 +40,9 @@ module _ (earlier : SetFacts) (first : LookFacts) (from : ℕ) (before : List We
     page_long = ap length page_is ∙ length-take 32 (drop listed all_since) ∙ ap (min 32) (length-drop listed all_since)
 
     pub page_since : (out' : List WeightChange) → IsAsked span_of most now after → out' ≡ take listed out ++ (take (length out - listed) (map change_of items) ++ drop (listed + length items) out) → SinceWritten (listed + length items) after out'
-    page_since out' asked put = let many = w.few in record {
+    page_since out' asked written = let many = w.few in record {
       few = omega (arith, page_long, many);
-      wrote = wrote_more (map change_of all_since) before out out' (map change_of items) listed (length items) (omega (arith, many, length-map all_since change_of)) (parts_are change_of listed all_since items (as_many (drop listed all_since) items page_is)) (length-map items change_of) w.wrote put;
+      wrote = wrote_more (map change_of all_since) before out out' (map change_of items) listed (length items) (omega (arith, many, length-map all_since change_of)) (parts_are change_of listed all_since items (as_many (drop listed all_since) items page_is)) (length-map items change_of) w.wrote written;
       most = w.most + most;
       asked = asked_on span_of w.most most first now after w.asked asked;
     }

@@ -65,7 +65,7 @@ impl Order for Falling {
 
 // Writes the key of each member of a page, or its weight, to the places from `at` on, as many as there are.
 #[inline(always)]
-fn put(page: &[(u32, u32)], weights: bool, at: usize, out: &mut [u32])
+fn write_members(page: &[(u32, u32)], weights: bool, at: usize, out: &mut [u32])
     ensures { out.new ≡ take at out.old ++ (take (length out.old - at) (map (member_part weights) page.now) ++ drop (at + length page.now) out.old) }
 {
     if out.len() <= at {
@@ -89,8 +89,8 @@ fn list<O: Order>(look: &mut SummedLook, key: u32, keys: &mut [u32], weights: &m
     let mut listed = 0;
     while listed < keys.len() {
         let (page, next) = O::page(look, from);
-        put(page.as_slice(), false, listed, keys);
-        put(page.as_slice(), true, listed, weights);
+        write_members(page.as_slice(), false, listed, keys);
+        write_members(page.as_slice(), true, listed, weights);
         listed += page.len();
         let Some(next) = next else {
             return listed.min(keys.len()) as i64;

@@ -34,7 +34,7 @@ fn as_change(one: Difference) -> WeightChange
 }
 
 // Writes each change of a page to the places from `at` on, as many as there are.
-fn put(page: &[Difference], at: usize, out: &mut [WeightChange])
+fn write_changes(page: &[Difference], at: usize, out: &mut [WeightChange])
     ensures { out.new ≡ take at out.old ++ (take (length out.old - at) (map change_of page.now) ++ drop (at + length page.now) out.old) }
 {
     if out.len() <= at {
@@ -50,7 +50,7 @@ fn page_of(look: &mut SummedLook, from: u32, out: &mut [WeightChange]) -> i64
     ensures { ListsChanges from out.old out.new look.old look.new result }
 {
     let page = look.changes(from);
-    put(page.as_slice(), 0, out);
+    write_changes(page.as_slice(), 0, out);
     out.len().min(page.len()) as i64
 }
 
@@ -116,7 +116,7 @@ fn list_since(look: &mut SummedLook, list: &Arrays, from: u32, out: &mut [Weight
     let mut listed = 0;
     while listed < out.len() {
         let page = look.changes_since(list, next);
-        put(page.as_slice(), listed, out);
+        write_changes(page.as_slice(), listed, out);
         listed += page.len();
         if !page.is_full() {
             return listed.min(out.len()) as i64;

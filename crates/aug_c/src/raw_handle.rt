@@ -161,9 +161,9 @@ impl RawHandle {
         Some(held.into_raw_box(alloc).into_box())
     }
 
-    /// Puts a box in, which it owns from then on.
+    /// Holds a box, which it owns from then on.
     #[inline(always)]
-    pub(crate) fn put(&mut self, mark: u64, slot: Box<HandleSlot, Global>)
+    pub(crate) fn hold(&mut self, mark: u64, slot: Box<HandleSlot, Global>)
         requires { IsMark mark }
         ensures mark { self.new.tag ≡ mark }
         ensures value { self.new.held.value ≡ Some slot.value }

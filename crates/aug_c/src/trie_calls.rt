@@ -73,7 +73,7 @@ fn open_set(alloc: Global, trie: &mut RawHandle, set: Members, users: u32, bytes
         return NO_MEMORY;
     };
     let slot = filled(slot, HandleState::Trie(Opened { live, spare }));
-    trie.put(TRIE, slot);
+    trie.hold(TRIE, slot);
     0
 }
 
@@ -99,7 +99,7 @@ fn open_user(alloc: Global, trie: &mut Opened, user: &mut RawHandle) -> i64
         unreachable!()
     };
     let slot = filled(slot, HandleState::User(User::of(access)));
-    user.put(USER, slot);
+    user.hold(USER, slot);
     0
 }
 
@@ -200,7 +200,7 @@ fn close_opened(
         }
         Err((live, _)) => {
             let slot = filled(slot, HandleState::Trie(Opened { live, spare }));
-            trie.put(TRIE, slot);
+            trie.hold(TRIE, slot);
             AGAIN
         }
     }

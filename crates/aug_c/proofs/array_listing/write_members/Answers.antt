@@ -1,8 +1,8 @@
 use Rattle.std.proofs.Common.{◌≡◌, ◌+◌, ◌<◌, Bool, length, get_or, ap, sym, ◌∙◌, arith}
-use Rattle.aug_c.proofs.Listing.{put_more, put_all}
+use Rattle.aug_c.proofs.Listing.{page_more, page_all}
 use Rattle.aug_c.specs.inside.KeyRequests.{member_part}
-use Rattle.aug_c.proofs.array_listing.put.Goals as goal
-use Rattle.aug_c.proofs.array_listing.put.Goals.{then-weights, else-weights}
+use Rattle.aug_c.proofs.array_listing.write_members.Goals as goal
+use Rattle.aug_c.proofs.array_listing.write_members.Goals.{then-weights, else-weights}
 
 pub loop-i-preserved : goal.loop-i-preserved
 loop-i-preserved c =
@@ -14,9 +14,9 @@ loop-i-preserved c =
       | then-weights w ↦ w.out-is ∙ ap (λ (b : Bool). member_part b member) (sym w.if-weights.true)
       | else-weights w ↦ w.out-is ∙ ap (λ (b : Bool). member_part b member) (sym w.if-weights.false)
     ] in
-    put_more (member_part c.args.weights) (0, 0) c.args.page.now c.args.out.now c.loop-i.out c.args.at c.loop-i.i c.if-weights.out inside room c.loop-i.invariant value
+    page_more (member_part c.args.weights) (0, 0) c.args.page.now c.args.out.now c.loop-i.out c.args.at c.loop-i.i c.if-weights.out inside room c.loop-i.invariant value
 
 pub returns : goal.returns
 returns c =
     let all : c.loop-i.i ≡ c.min-count.result = omega (arith, c.loop-i-test.false, c.loop-i.auto.i-end) in
-    put_all (member_part c.args.weights) c.args.page.now c.args.out.now c.loop-i.out c.args.at c.loop-i.i (omega (arith, c.if-out-at.false)) (all ∙ c.min-count.ensures) c.loop-i.invariant
+    page_all (member_part c.args.weights) c.args.page.now c.args.out.now c.loop-i.out c.args.at c.loop-i.i (omega (arith, c.if-out-at.false)) (all ∙ c.min-count.ensures) c.loop-i.invariant

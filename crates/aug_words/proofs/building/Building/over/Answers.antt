@@ -5,7 +5,7 @@ use Rattle.aug_model.specs.Keys.{is_member, keys_of}
 use Rattle.aug_core.specs.Faces.{face}
 use Rattle.aug_core.proofs.Sizes.{own_none, own_next, own_few_more}
 use Rattle.aug_words.specs.declared.building.Plan.{Plan}
-use Rattle.aug_words.specs.inside.Builds.{HasParts, next_own, IsMarked, IsBuilt}
+use Rattle.aug_words.specs.inside.Builds.{HasStarts, next_own, IsMarked, IsBuilt}
 use Rattle.aug_words.proofs.Builds.{rises, built_none, members_below_keys, next_level, first_nodes, last_nodes}
 use Rattle.aug_words.proofs.building.Building.over.Goals as goal
 
@@ -15,7 +15,7 @@ loop-level-init g c = let b = c.marked-building.result.plan in let words = c.mar
   last = refl;
   shape = e.key.0;
   members = e.key.1;
-  parts = e.parts;
+  starts = e.starts;
   built = built_none _ b.key (rises b.key b.key_set) words
       (subst (λ (s : Shape). (key : ℕ) → is_member (keys_of b.key.members) key ≡ true → key < 2 ^ s.bits) (sym e.key.0)
       (subst (λ (ms : List (ℕ × ℕ)). (key : ℕ) → is_member (keys_of ms) key ≡ true → key < 2 ^ c.args.layout.now.bits) (sym e.key.1) (members_below_keys c.args.layout.now (keys_of c.args.members.now) c.requires.keys)))
@@ -30,7 +30,7 @@ loop-level-preserved g c =
       last = i.last ∙ sym was;
       shape = ap (λ (z : Plan). z.key.shape) same ∙ i.shape;
       members = ap (λ (z : Plan). z.key.members) same ∙ i.members;
-      parts = subst (λ (z : Plan). HasParts c.args.layout.now z.lanes z.records) (sym same) i.parts;
+      starts = subst (λ (z : Plan). HasStarts c.args.layout.now z.lanes z.records) (sym same) i.starts;
       built = subst (λ (z : Plan). IsBuilt (face m.parts n.parts) z.key (c.loop-level.level + 1) (2 ^ z.key.shape.bits) words) (sym same) c.build_shared.ensures.built;
     }
 
@@ -43,7 +43,7 @@ loop-level-2-init g c =
       last = refl;
       shape = i.shape;
       members = i.members;
-      parts = i.parts;
+      starts = i.starts;
       first = b.leaves_are ∙ from;
       next = omega arith;
       few = omega arith;
@@ -66,7 +66,7 @@ loop-level-2-preserved g c =
       last = i.last ∙ ap (λ (z : Plan). z.bits) (sym same);
       shape = shape;
       members = ap (λ (z : Plan). z.key.members) same ∙ i.members;
-      parts = subst (λ (z : Plan). HasParts c.args.layout.now z.lanes z.records) (sym same) i.parts;
+      starts = subst (λ (z : Plan). HasStarts c.args.layout.now z.lanes z.records) (sym same) i.starts;
       first = ap₂ (λ (x y : ℕ). x + y) first nodes ∙ next_level s level low;
       next = omega arith;
       few = omega arith;

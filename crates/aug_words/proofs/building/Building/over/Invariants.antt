@@ -1,7 +1,7 @@
 use Rattle.std.proofs.Common.{◌≡◌, ◌≤◌, ◌+◌, ◌*◌, ◌^◌, suc}
 use Rattle.aug_core.specs.Places.{level_start}
 use Rattle.aug_core.specs.Faces.{face}
-use Rattle.aug_words.specs.inside.Builds.{HasParts, next_own, IsBuilt}
+use Rattle.aug_words.specs.inside.Builds.{HasStarts, next_own, IsBuilt}
 use Rattle.aug_words.proofs.building.Building.over.Given as goal
 
 abbrev pub invariant-loop-level : goal.invariant-loop-level
@@ -13,7 +13,7 @@ invariant-loop-level g l =
       last : l.level-end ≡ l.building.plan.bits;
       shape : l.building.plan.key.shape ≡ l.fn.layout;
       members : l.building.plan.key.members ≡ l.fn.members;
-      parts : HasParts l.fn.layout l.building.plan.lanes l.building.plan.records;
+      starts : HasStarts l.fn.layout l.building.plan.lanes l.building.plan.records;
       built : IsBuilt (face m.parts n.parts) l.building.plan.key l.level (2 ^ l.building.plan.key.shape.bits) l.building.words.items;
     }
 
@@ -26,7 +26,7 @@ invariant-loop-level-2 g l =
       last : l.level-end ≡ l.building.plan.bits;
       shape : l.building.plan.key.shape ≡ l.fn.layout;
       members : l.building.plan.key.members ≡ l.fn.members;
-      parts : HasParts l.fn.layout l.building.plan.lanes l.building.plan.records;
+      starts : HasStarts l.fn.layout l.building.plan.lanes l.building.plan.records;
       first : l.first ≡ level_start l.building.plan.key.shape (suc l.level);
       next : l.next ≡ next_own l.building.plan.key l.level 0;
       few : l.next ≤ 16 + l.level * 65536;

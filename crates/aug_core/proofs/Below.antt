@@ -1,10 +1,11 @@
 -- The members below a node, and the number of its opening record.
-use Rattle.std.proofs.Common.{◌≡◌, ℕ, zero, suc, ◌+◌, ◌-◌, ◌*◌, ◌^◌, ◌<◌, ◌≤◌, ◌⊎◌, inl, inr, min, Bool, true, false, ◌||◌, ltb, lt-ltb, if◌then◌else◌, [], ◌∷◌, ◌++◌, length, refl, sym, ap, ◌∙◌, subst, ⊎_elim, arith, suc-mul}
+use Rattle.std.proofs.Common.{◌≡◌, ℕ, zero, suc, ◌+◌, ◌-◌, ◌*◌, ◌^◌, ◌<◌, ◌≤◌, ◌⊎◌, inl, inr, min, Bool, true, false, ◌||◌, ltb, lt-ltb, le-leb, if◌then◌else◌, [], ◌∷◌, ◌++◌, length, refl, sym, ap, ◌∙◌, subst, ⊎_elim, arith, suc-mul}
 use Rattle.std.proofs.Math.Nat.{two-pow-succ, add-mul, mul-add, min-eq_left, min-eq_right}
 use Rattle.std.proofs.Math.Pow.{pow_mono}
 use Rattle.std.proofs.lemmas.Bool.{cases_lt, lt-leb, false≢true}
-use Rattle.aug_core.specs.Places.{own_records, opening_count}
+use Rattle.aug_core.specs.Places.{Shape, own_records, opening_count}
 use Rattle.aug_core.specs.Addresses.{IsInner, left_of, right_of}
+use Rattle.aug_core.specs.inside.OwnNumbers.{own_number}
 use Rattle.aug_core.specs.inside.WordPlaces.{IsWord}
 use Rattle.aug_core.specs.Opening.{opening_leaf_word, Opening, has_members, has_room, owns, own_before, number_at, opening_pairs, opening_number}
 use Rattle.aug_model.specs.NodeKeys.{keys_below, pairs_below}
@@ -12,8 +13,8 @@ use Rattle.aug_model.specs.Keys.{is_member, keys_of, pairs_of}
 use Rattle.aug_model.specs.Queries.{range_of, weight_in}
 use Rattle.aug_model.proofs.Pairs.{range-again, pairs_of-append}
 use Rattle.aug_model.proofs.Ranges.{Rises, range_cut, range_of_key, range_le, count_cut}
-use Rattle.aug_core.proofs.Sizes.{own_more}
-use Rattle.aug_core.proofs.Levels.{level_is, leaf_level, above}
+use Rattle.aug_core.proofs.Sizes.{twice, own_none, own_more}
+use Rattle.aug_core.proofs.Levels.{level_is, leaf_level, room_above, above}
 
 -- ---- who has a record of its own
 
@@ -143,3 +144,25 @@ module _ (o : Opening) where
 
   pub number_below : Rises (keys_of o.members) → length (keys_of o.members) ≤ o.shape.members → (q : ℕ) → IsInner o.shape q → opening_number o q < opening_count o.shape
   number_below rises few q inner = let t = above o.shape q inner in subst (λ (z : ℕ). z < opening_count o.shape) (sym (number_is q (suc t.level) t.place t.here)) (number_low o rises few t.level t.place t.here.level_fits t.here.place_fits)
+
+-- ---- the numbers of the nodes' own records
+
+pub own_full : (b m l : ℕ) → 2 ^ b ≤ m → l ≤ b → own_records b m l + 2 ^ (b - l) ≡ 2 ^ b
+own_full b m zero room low = let e : b - 0 ≡ b = omega arith in let p : 2 ^ (b - 0) ≡ 2 ^ b = ap (λ (z : ℕ). 2 ^ z) e in let none = own_none b m in omega arith
+own_full b m (suc l) room low =
+    let h = own_full b m l room (omega arith) in let more = own_more b m l in let e : b - l ≡ suc (b - suc l) = omega arith in let half : 2 ^ (b - l) ≡ 2 ^ (b - suc l) + 2 ^ (b - suc l) = ap (λ (z : ℕ). 2 ^ z) e ∙ two-pow-succ (b - suc l) in
+    let fewer : 2 ^ (b - suc l) ≤ 2 ^ b = pow_mono {i = b - suc l} {j = b} (omega arith) in let all = min-eq_left {n = 2 ^ (b - suc l)} {m = m} (omega arith) in omega arith
+
+-- the record lies in the table
+pub own_low : (s : Shape) (q : ℕ) → 2 ^ s.bits ≤ s.members → IsInner s q → own_number s q < opening_count s
+own_low s q room inner = let all = own_full s.bits s.members s.bits room (omega arith) in let none : s.bits - s.bits ≡ 0 = omega arith in let one : 2 ^ (s.bits - s.bits) ≡ 1 = ap (λ (z : ℕ). 2 ^ z) none in
+    let t = twice s.bits in let past = inner.past_leaves in let inside = inner.inside in omega arith
+
+module _ (o : Opening) (room : 2 ^ o.shape.bits ≤ o.shape.members) where
+  pub roomy : has_room o ≡ true
+  roomy = le-leb (2 ^ o.shape.bits) o.shape.members room
+
+  pub room_number : (q : ℕ) → IsInner o.shape q → opening_number o q ≡ own_number o.shape q
+  room_number q inner = let t = above o.shape q inner in let all = own_full o.shape.bits o.shape.members t.level room (let low = t.here.level_fits in omega arith) in
+      let before = own_is_place o (suc t.level) t.place roomy in let r = room_above o.shape t.level t.here.level_fits in let r0 = r.0 in let is = t.here.is in let r3 = r.3 in
+      number_is o q (suc t.level) t.place t.here ∙ number_own o t.level t.place (owns_all o (suc t.level) t.place roomy) ∙ omega arith

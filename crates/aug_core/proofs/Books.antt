@@ -122,6 +122,8 @@ module _ (book : Book) (q : ℕ) (in_book : q < length book) (e : Entry) where
       right_shown = o.right_shown;
       pairs_of_both = o.pairs_of_both;
       words_say = o.words_say;
+      left_born = o.left_born;
+      right_born = o.right_born;
     }
 
     abbrev Floors : Book → ℕ → Entry → Type 0

@@ -1,15 +1,18 @@
 -- The steps of a seat that is at work, under the rule of all eras.
-use Rattle.std.proofs.Common.{true, ◌≡◌, ℕ, ◌+◌, ◌^◌, ◌<◌, List, [], eqb}
+use Rattle.std.proofs.Common.{true, ◌≡◌, refl, ℕ, ◌+◌, ◌^◌, ◌<◌, ◌≤◌, List, [], eqb}
 use mathlib.Core.Option.{none}
 use prog.Atomic.{either}
 use Rattle.atomic_table.specs.Table.{step, Allows}
-use Rattle.aug_core.specs.Places.{Shape, record_start, record_words, word_count}
+use Rattle.aug_core.specs.Places.{Shape, record_start, record_words, word_count, era_place, reservation_place}
 use Rattle.aug_core.specs.Addresses.{IsInner}
 use Rattle.aug_core.specs.Lanes.{word_of_state}
 use Rattle.aug_core.specs.Eras.{IsAtWork, Ruled}
-use Rattle.aug_core.specs.Effects.{Sat, in_part, read_record, MayStore, stored_record, own_lane_place, took_lane, finished_lane, loaded_leaf, began_at_leaf, MayChange, old_word, new_word, IsAdvance, KnowsSerial, tried_leaf, loaded_node, IsFilled, tried_node}
+use Rattle.aug_core.specs.Reclaiming.{loaded_era, turned_era, reserved_era, released_era, retired, scanned}
+use Rattle.aug_core.specs.inside.Reclaims.{MayReserve, own_reservation, ShowsLater}
+use Rattle.aug_core.specs.Effects.{Sat, HoldsOnly, in_part, read_record, MayStore, stored_record, own_lane_place, took_lane, finished_lane, loaded_leaf, began_at_leaf, MayChange, old_word, new_word, IsAdvance, KnowsSerial, tried_leaf, loaded_node, IsFilled, tried_node}
 use Rattle.aug_core.specs.inside.LaneStates.{MayTake, HasTakenLane}
 use Rattle.aug_core.specs.declared.view.Advance.{Advance}
+use Rattle.aug_core.specs.declared.view.Held.{Held}
 use Rattle.aug_core.specs.declared.view.LaneState.TheVariants.{Free, Taken, Ended}
 use Rattle.aug_core.specs.Learning.{loaded_after_note}
 use Rattle.aug_core.proofs.Eras.{holds_lane, in_its_era, hears_in_its_era}
@@ -18,6 +21,9 @@ use Rattle.aug_core.proofs.Stores as store
 use Rattle.aug_core.proofs.States as state
 use Rattle.aug_core.proofs.Leaves as leaf
 use Rattle.aug_core.proofs.Nodes as node
+use Rattle.aug_core.proofs.Reserving as reserve
+use Rattle.aug_core.proofs.Retiring as retire
+use Rattle.aug_core.proofs.Scanning as scan
 
 module _ (face : ℕ → ℕ → List (ℕ × ℕ) → List ℕ) (shape : Shape) (n id : ℕ) where
   pub loads_record_word : (place i : ℕ) (me : Sat) → IsAtWork me.0 → me.0.live ≡ true → me.1 ≡ [] → place < word_count me.0.shape → i ≡ me.0.base + place → Allows (Ruled face shape) n id me i (λ x. x) (in_part read_record (step n i 0 0 none) me)
@@ -59,3 +65,33 @@ module _ (face : ℕ → ℕ → List (ℕ × ℕ) → List ℕ) (shape : Shape)
       → Allows (Ruled face shape) n id me i (λ x. either (eqb x old) number x) (in_part (tried_node face) (step n i old number none) me)
   tries_node q i old number me live empty inside at inner has may c = in_its_era face shape n id q i me (λ x. either (eqb x old) number x) (λ w. tried_node face (step n w old number none) me)
       (holds_lane me.0 has.lane has.only) live inside at (λ o. node.tries_node face o n id q old number me live empty inner has may c)
+
+  -- where records are used again
+
+  pub loads_era : (place i : ℕ) (me : Sat) → IsAtWork me.0 → me.0.live ≡ true → me.1 ≡ [] → place < word_count me.0.shape → i ≡ me.0.base + place → place ≡ era_place me.0.shape → Allows (Ruled face shape) n id me i (λ x. x) (in_part loaded_era (step n i 0 0 none) me)
+  loads_era place i me work live empty inside at is = in_its_era face shape n id place i me (λ x. x) (λ w. loaded_era (step n w 0 0 none) me) work live inside at (λ o. reserve.loads_era face o n id place me live empty is)
+
+  pub turns_era : (place i era : ℕ) (me : Sat) → IsAtWork me.0 → me.0.live ≡ true → me.1 ≡ [] → place < word_count me.0.shape → i ≡ me.0.base + place → 0 < me.0.shape.reservations → place ≡ era_place me.0.shape
+      → Allows (Ruled face shape) n id me i (λ x. either (eqb x era) (era + 1) x) (in_part turned_era (step n i era (era + 1) none) me)
+  turns_era place i era me work live empty inside at used is = in_its_era face shape n id place i me (λ x. either (eqb x era) (era + 1) x) (λ w. turned_era (step n w era (era + 1) none) me) work live inside at
+      (λ o. reserve.turns_era face o n id place era me live empty used is)
+
+  pub reserves_era : (place i era : ℕ) (me : Sat) → me.0.live ≡ true → me.1 ≡ [] → place < word_count me.0.shape → i ≡ me.0.base + place → MayReserve me.0 → place ≡ own_reservation me.0 → 0 < era → era ≤ me.0.reached
+      → Allows (Ruled face shape) n id me i (λ _. era) (λ _. in_part reserved_era (step n i era 0 none) me era)
+  reserves_era place i era me live empty inside at may is some_era known = in_its_era face shape n id place i me (λ _. era) (λ w _ m. reserved_era (step n w era 0 none) me era m) (holds_lane me.0 may.lane may.only) live inside at
+      (λ o. reserve.reserves_era face o n id place era me live empty may is some_era known)
+
+  pub releases_era : (place i : ℕ) (me : Sat) → me.0.live ≡ true → me.1 ≡ [] → place < word_count me.0.shape → i ≡ me.0.base + place → MayReserve me.0 → place ≡ own_reservation me.0
+      → Allows (Ruled face shape) n id me i (λ _. 0) (λ _. in_part released_era (step n i 0 0 none) me 0)
+  releases_era place i me live empty inside at may is = in_its_era face shape n id place i me (λ _. 0) (λ w _ m. released_era (step n w 0 0 none) me 0 m) (holds_lane me.0 may.lane may.only) live inside at
+      (λ o. reserve.releases_era face o n id place 0 me live empty may is refl)
+
+  pub retires : (place i : ℕ) (me : Sat) (h : Held) → me.0.live ≡ true → me.1 ≡ [] → place < word_count me.0.shape → i ≡ me.0.base + place → HoldsOnly me.0 h → 0 < me.0.shape.reservations → ShowsLater me.0 h → place ≡ era_place me.0.shape
+      → Allows (Ruled face shape) n id me i (λ x. x) (in_part retired (step n i 0 0 none) me)
+  retires place i me h live empty inside at only used later is = in_its_era face shape n id place i me (λ x. x) (λ w. retired (step n w 0 0 none) me) (holds_lane me.0 h only) live inside at
+      (λ o. retire.retires face o n id place me h live empty only used later is)
+
+  pub scans : (place i slot : ℕ) (me : Sat) (h : Held) → me.0.live ≡ true → me.1 ≡ [] → place < word_count me.0.shape → i ≡ me.0.base + place → HoldsOnly me.0 h → place ≡ reservation_place me.0.shape slot
+      → Allows (Ruled face shape) n id me i (λ x. x) (in_part scanned (step n i 0 0 none) me)
+  scans place i slot me h live empty inside at only is = in_its_era face shape n id place i me (λ x. x) (λ w. scanned (step n w 0 0 none) me) (holds_lane me.0 h only) live inside at
+      (λ o. scan.scans face o n id place slot me h live empty only is)

@@ -11,7 +11,8 @@ use Rattle.atomic_table.specs.Table.{homes_after, carried_after, Allows, Splits,
 use Rattle.atomic_table.proofs.Lists.{at_set, at_map, at_snoc, at_longer}
 use Rattle.aug_core.specs.Places.{Shape, record_start, word_count}
 use Rattle.aug_core.specs.Opening.{Opening}
-use Rattle.aug_core.specs.Rule.{Lists, Kept}
+use Rattle.aug_core.specs.Rule.{Kept}
+use Rattle.aug_core.specs.Records.{Lists}
 use Rattle.aug_core.specs.Effects.{Sat, spent, handing_out, handed_out, taking_back}
 use Rattle.aug_core.specs.Readers.{times_in, FindsRecords, ReadsOn}
 use Rattle.aug_core.specs.Pasts.{IsLearnt}
@@ -123,11 +124,11 @@ module _ (face : ℕ → ℕ → List (ℕ × ℕ) → List ℕ) (shape : Shape)
     stands_now = at_map (seen_in w.era) s.views id v at ∙ ap (λ (z : SeatView). some z) (seen_now w.era v present)
 
     -- in the part at work are the records that it has seen
-    pub finds_now : v.base ≡ w.base → FindsRecords shape s.words v
-    finds_now here q i k e inner seen small =
+    pub finds_now : shape.reservations ≡ 0 → v.base ≡ w.base → FindsRecords shape s.words v
+    finds_now off here q i k e inner seen small =
         let at' : At w.kept.book q i e = entry_stays (w.kept.each_view id v stands_now).saw q i e seen in
         let few = w.kept.tree.is_book.below q i e inner at' in let inside : record_start shape e.number + k < word_count shape = omega arith in
-        (inside, ap (λ (z : ℕ). get_or s.words (z + (record_start shape e.number + k)) 0) here ∙ sym (part_get w.base (word_count shape) (record_start shape e.number + k) s.words inside) ∙ w.kept.tree.written q i e inner at' k small)
+        (inside, ap (λ (z : ℕ). get_or s.words (z + (record_start shape e.number + k)) 0) here ∙ sym (part_get w.base (word_count shape) (record_start shape e.number + k) s.words inside) ∙ (w.kept.records.there q i e inner at' (let zero = w.kept.records.none_gone off q in omega arith)).words_are k small)
 
     -- after a step which leaves its era the views of the era are those that were, with its new one
     module _ (u : SeatView) (era : u.era ≡ v.era) where

@@ -11,13 +11,14 @@ use Rattle.aug_core.specs.Counts.{AreTallied}
 use Rattle.aug_model.specs.Keys.{IsKeySet}
 use Rattle.aug_core.specs.Layout.{IsLayout}
 use Rattle.aug_core.specs.Opening.{opening_book}
-use Rattle.aug_core.specs.Rule.{Fate, at_opening, standing, HaveFates}
+use Rattle.aug_core.specs.Records.{Fate, StandsAs, KeepsRecords}
 use Rattle.aug_core.specs.Effects.{KnowsTable, Sees, taking, handed_out}
 use Rattle.aug_core.specs.declared.step.StepTaken.{StepTaken}
 use Rattle.aug_core.specs.declared.view.Beginning.{Beginning}
 use Rattle.aug_core.specs.declared.view.Held.{Held}
 use Rattle.aug_core.specs.declared.view.Learnt.{Learnt}
 use Rattle.aug_core.specs.declared.view.SeatView.{SeatView}
+use Rattle.aug_core.proofs.Keeping.{one_standing}
 use Rattle.aug_core.proofs.PrefixLemmas.{book_trans}
 
 pub at_most_one : (b : Bool) → (if b then 1 else 0) ≤ 1
@@ -42,26 +43,21 @@ few_serials s book laid fits = record {
   few = λ key low. let l = fits.few key low in let w = laid.workers.1 in let u = laid.updates.1 in let m : s.workers * (2 * s.updates) ≤ 64 * (2 * s.updates) = mul-le-mul_right (2 * s.updates) w in omega arith;
 }
 
--- where each record has one fate, a node names it once
-pub named_once : (s : Shape) (fate : ℕ → Fate) (book : Book) → HaveFates s fate book → NamesOnce s book
-named_once s fate book f = record {
-  once = λ q i j e g inner p p' same. let named : fate e.number ≡ fate g.number = ap fate same in ⊎_elim
-      (λ (x : fate e.number ≡ standing q i). ⊎_elim
-      (λ (y : fate g.number ≡ standing q j). let is : standing q i ≡ standing q j = sym x ∙ named ∙ y in cc is)
-      (λ y. let clash : standing q i ≡ at_opening = sym x ∙ named ∙ y.0 in cc) (f.entries q j g inner p'))
-      (λ x. ⊎_elim
-      (λ (y : fate g.number ≡ standing q j). let clash : at_opening ≡ standing q j = sym x.0 ∙ named ∙ y in cc)
-      (λ y. x.1 ∙ sym y.1) (f.entries q j g inner p')) (f.entries q i e inner p);
+-- where no record is used again, a node names it once
+pub named_once : (s : Shape) (words : List ℕ) (fate : ℕ → Fate) (gone : ℕ → ℕ) (book : Book) → KeepsRecords s words fate gone book → s.reservations ≡ 0 → NamesOnce s book
+named_once s words fate gone book k off = record {
+  once = λ q i j e g inner p p' same. let zero = k.none_gone off q in
+      one_standing s (fate g.number) q i j (subst (λ (z : ℕ). StandsAs s (fate z) q i) same (k.there q i e inner p (omega arith)).stands) (k.there q j g inner p' (omega arith)).stands;
 }
 
 module _ (face : ℕ → ℕ → List (ℕ × ℕ) → List ℕ) where
-  pub sees_after : (v w : SeatView) (s : Shape) → v.shape ≡ s → ArePrefixes v.seen w.seen → ArePrefixes v.also w.seen → IsFresh s w.seen v.seen → IsBook face s w.seen → NamesOnce s w.seen → SerialsFit s w.seen → Sees face v w
+  pub sees_after : (v w : SeatView) (s : Shape) → v.shape ≡ s → ArePrefixes v.seen w.seen → ArePrefixes v.also w.seen → IsFresh s w.seen v.seen → IsBook face s w.seen → (s.reservations ≡ 0 → NamesOnce s w.seen) → SerialsFit s w.seen → Sees face v w
   sees_after v w s shaped later also fresh book named fits = record {
     later = later;
     also_later = also;
     fresh = subst (λ (z : Shape). IsFresh z w.seen v.seen) (sym shaped) fresh;
     book = subst (λ (z : Shape). IsBook face z w.seen) (sym shaped) book;
-    named = subst (λ (z : Shape). NamesOnce z w.seen) (sym shaped) named;
+    named = subst (λ (z : Shape). z.reservations ≡ 0 → NamesOnce z w.seen) (sym shaped) named;
     fits = subst (λ (z : Shape). SerialsFit z w.seen) (sym shaped) fits;
   }
 
@@ -73,7 +69,7 @@ module _ (face : ℕ → ℕ → List (ℕ × ℕ) → List ℕ) where
     members_fit = subst (All FitsPair) (sym same) kn.members_fit;
     few_members = subst (λ (z : ℕ × List (ℕ × ℕ)). length z.1 ≤ z.0) (λ i. ((sym shaped i).members, sym same i)) kn.few_members;
     book = subst (λ (z : Shape). IsBook face z w.seen) (sym shaped) sees.book;
-    named = subst (λ (z : Shape). NamesOnce z w.seen) (sym shaped) sees.named;
+    named = subst (λ (z : Shape). NamesOnce z w.seen) (sym shaped) (sees.named kn.laid_out.keeps_records);
     opened = subst (λ (z : Opening). ArePrefixes (opening_book face z) w.seen) (λ i. record { shape = sym shaped i; members = sym same i }) (book_trans kn.opened sees.later);
     fits = subst (λ (z : Shape). SerialsFit z w.seen) (sym shaped) sees.fits;
   }

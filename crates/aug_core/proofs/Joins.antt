@@ -6,13 +6,15 @@ use Rattle.atomic_table.specs.Table.{Joins}
 use Rattle.atomic_table.proofs.Lists.{at_set}
 use Rattle.aug_core.specs.Book.{Book, ArePrefixes}
 use Rattle.aug_core.specs.Opening.{Opening}
-use Rattle.aug_core.specs.Rule.{Fate, Knows, Kept}
+use Rattle.aug_core.specs.Rule.{Knows, Kept}
+use Rattle.aug_core.specs.Records.{Fate}
 use Rattle.aug_core.specs.Effects.{spent}
 use Rattle.aug_core.specs.declared.view.Entry.{Entry}
 use Rattle.aug_core.specs.declared.view.Held.{Held}
 use Rattle.aug_core.specs.declared.view.Learnt.{Learnt}
 use Rattle.aug_core.specs.declared.view.SeatView.{SeatView}
 use Rattle.aug_core.proofs.Views.{apart_on}
+use Rattle.aug_core.proofs.Keeping.{keeps_none}
 use Rattle.aug_core.proofs.Moves.{St}
 use Rattle.aug_core.specs.Counts.{StandsAt, Stands}
 use Rattle.aug_core.specs.declared.view.Change.{Change}
@@ -34,8 +36,8 @@ module _ {A : Type 0} where
   at_right (x ∷ xs) m a j e = let is : suc (length xs + j) ≡ length (x ∷ xs) + j = omega arith in subst (λ (z : ℕ). get_elem? (x ∷ (xs ++ m)) z ≡ some a) is (at_right xs m a j e)
 
 -- the view of a seat that was joined knows nothing
-pub spent_knows : (o : Opening) (words : List ℕ) (fate : ℕ → Fate) (book : List (List Entry)) → Knows o words fate book spent
-spent_knows o words fate book = record {
+pub spent_knows : (o : Opening) (words : List ℕ) (fate : ℕ → Fate) (gone : ℕ → ℕ) (book : List (List Entry)) → Knows o words fate gone book spent
+spent_knows o words fate gone book = record {
   shaped = λ l. let clash : false ≡ true = l in cc;
   same_members = λ l. let clash : false ≡ true = l in cc;
   saw = book_none book;
@@ -43,6 +45,7 @@ spent_knows o words fate book = record {
   fresh = record { covers = λ q i e inner past p. record { left = omega arith; right = omega arith } };
   holds = λ a h p. absurd (some-ne-none h (sym p));
   spares = λ n lane e le low. let clash : None ≡ Some n = e in cc;
+  records = keeps_none o.shape words fate gone book spent refl (omega arith) (λ a h c p l. some-ne-none h (sym p));
 }
 
 module _ (face : ℕ → ℕ → List (ℕ × ℕ) → List ℕ) (o : Opening) (s : St) (r : Kept face o s) (id : ℕ) (v : SeatView) (at : get_elem? s.views id ≡ some v) (other : ℕ) (w : SeatView) (ne : other ≢ id) (at' : get_elem? s.views other ≡ some w) (also : Book) (known : ArePrefixes also r.book) (told : Option Learnt) (lent : List ℕ) where
@@ -118,12 +121,13 @@ module _ (face : ℕ → ℕ → List (ℕ × ℕ) → List ℕ) (o : Opening) (
     book = r.book;
     tree = r.tree;
     fate = r.fate;
-    fates = r.fates;
+    gone = r.gone;
+    records = r.records;
     states = r.states;
     each_view = λ j u p. ⊎_elim
-        (λ t. subst (Knows o s.words r.fate r.book) t (spent_knows o s.words r.fate r.book))
+        (λ t. subst (Knows o s.words r.fate r.gone r.book) t (spent_knows o s.words r.fate r.gone r.book))
         (λ t. ⊎_elim
-        (λ t'. subst (Knows o s.words r.fate r.book) t'.1 record {
+        (λ t'. subst (Knows o s.words r.fate r.gone r.book) t'.1 record {
           shaped = kn.shaped;
           same_members = kn.same_members;
           saw = kn.saw;
@@ -131,6 +135,11 @@ module _ (face : ℕ → ℕ → List (ℕ × ℕ) → List ℕ) (o : Opening) (
           fresh = kn.fresh;
           holds = λ a h q. ⊎_elim (λ old. kn.holds a h old) (λ new. kw.holds new.0 h new.2) (append_at v.held w.held h a q);
           spares = kn.spares;
+          records = record {
+            reserved = λ x e. let t = kn.records.reserved x e in let own = t.0 in (record { index = own.index; held = own.held; at = at_longer v.held w.held own.index own.held own.at; is = own.is }, t.1);
+            reached = kn.records.reached;
+            replaced = λ a h c q l. ⊎_elim (λ old. kn.records.replaced a h c old l) (λ new. kw.records.replaced new.0 h c new.2 l) (append_at v.held w.held h a q);
+          };
         }) (λ t'. r.each_view j u t'.1) t) (came j u p);
     apart = apart_on s.views views From (λ i a h. ⊥) r.apart record {
       came = λ i a x h p q. ⊎_elim

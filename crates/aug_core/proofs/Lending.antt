@@ -10,7 +10,8 @@ use Rattle.aug_core.specs.Places.{Shape, record_start, word_count}
 use Rattle.aug_core.specs.Addresses.{IsInner}
 use Rattle.aug_core.specs.Book.{Book}
 use Rattle.aug_core.specs.Opening.{Opening}
-use Rattle.aug_core.specs.Rule.{Fate, Knows, Kept}
+use Rattle.aug_core.specs.Rule.{Knows, Kept}
+use Rattle.aug_core.specs.Records.{Fate}
 use Rattle.aug_core.specs.Kinds.{load_record_word}
 use Rattle.aug_core.specs.Effects.{Sat, in_part, stepping, ReadsRecord, read_record, spent}
 use Rattle.aug_core.specs.Readers.{times_in, reads_at, FindsRecords, ReadsOn, lending, reader_of, taking_reader}
@@ -19,6 +20,7 @@ use Rattle.aug_core.specs.inside.EraSteps.{Remains}
 use Rattle.aug_core.specs.declared.view.Held.{Held}
 use Rattle.aug_core.specs.declared.view.PastEra.{PastEra}
 use Rattle.aug_core.specs.declared.view.SeatView.{SeatView}
+use Rattle.aug_core.proofs.Keeping.{reserves_same, keeps_as}
 use Rattle.aug_core.proofs.Moves.{St, rests, moves_on, stands}
 use Rattle.aug_core.proofs.Views.{now_there}
 use Rattle.aug_core.proofs.Joins.{frees_seat}
@@ -30,8 +32,8 @@ module _ (face : ℕ → ℕ → List (ℕ × ℕ) → List ℕ) (o : Opening) w
   -- for whom a view answers is no matter of an era's own rule
   lends_as : (s : St) (r : Kept face o s) (id : ℕ) (v : SeatView) → get_elem? s.views id ≡ some v → (lent : List ℕ) → Kept face o record { words = s.words; homes = s.homes; views = set s.views id record v { lent = lent } }
   lends_as s r id v at lent = let kn = r.each_view id v at in
-      moves_on face o s r id v s.words r.book r.fate (rests face o s r id v at) at record v { lent = lent } record { back = λ a h p. (h, p, refl, refl); forth = λ a h p. (h, p, refl, refl); spare = refl }
-      record { shaped = kn.shaped; same_members = kn.same_members; saw = kn.saw; also_saw = kn.also_saw; fresh = kn.fresh; holds = kn.holds; spares = kn.spares } (λ key low. refl)
+      moves_on face o s r id v s.words r.book r.fate r.gone (rests face o s r id v at) at record v { lent = lent } record { back = λ a h p. (h, p, refl, refl); forth = λ a h p. (h, p, refl, refl); spare = refl }
+      record { shaped = kn.shaped; same_members = kn.same_members; saw = kn.saw; also_saw = kn.also_saw; fresh = kn.fresh; holds = kn.holds; spares = kn.spares; records = keeps_as o.shape s.words r.fate r.gone r.book v record v { lent = lent } (reserves_same v record v { lent = lent } refl refl refl) kn.records } (λ key low. refl)
 
   lends_seat : (id : ℕ) (v : SeatView) → Splits (Kept face o) id v (lending v) (reader_of v)
   lends_seat id v s r at =
@@ -125,8 +127,8 @@ module _ (face : ℕ → ℕ → List (ℕ × ℕ) → List ℕ) (shape : Shape)
   -- ---- a reader loads
 
   -- a view with more steps knows the same
-  stepped_knows : (o : Opening) (words : List ℕ) (fate : ℕ → Fate) (book : Book) (v : SeatView) (place found : ℕ) → Knows o words fate book v → Knows o words fate book (stepping v (load_record_word place found))
-  stepped_knows o words fate book v place found k = record { shaped = k.shaped; same_members = k.same_members; saw = k.saw; also_saw = k.also_saw; fresh = k.fresh; holds = k.holds; spares = k.spares }
+  stepped_knows : (o : Opening) (words : List ℕ) (fate : ℕ → Fate) (gone : ℕ → ℕ) (book : Book) (v : SeatView) (place found : ℕ) → Knows o words fate gone book v → Knows o words fate gone book (stepping v (load_record_word place found))
+  stepped_knows o words fate gone book v place found k = let w : SeatView = stepping v (load_record_word place found) in record { shaped = k.shaped; same_members = k.same_members; saw = k.saw; also_saw = k.also_saw; fresh = k.fresh; holds = k.holds; spares = k.spares; records = keeps_as o.shape words fate gone book v w (reserves_same v w refl refl refl) k.records }
 
   stepped_remembers : (era : ℕ) (past : List PastEra) (v : SeatView) (place found : ℕ) → Remembers shape era past v → Remembers shape era past (stepping v (load_record_word place found))
   stepped_remembers era past v place found r = record { shaped = r.shaped; present = r.present; learnt = r.learnt; earlier = r.earlier }
@@ -152,7 +154,7 @@ module _ (face : ℕ → ℕ → List (ℕ × ℕ) → List ℕ) (shape : Shape)
     kept_on : (w : Ruled face shape s) → Kept face (opening_with shape w.members) (table_in w.era w.base (word_count shape) record { words = s.words; homes = s.homes; views = after })
     kept_on w = let o : Opening = opening_with shape w.members in let t : St = table_in w.era w.base (word_count shape) s in ⊎_elim
         (λ (present : v.era ≡ w.era). let here = stands_now face shape s id v at w present in
-        let kept = stands face o t w.kept id v here u (record { back = λ a h p. (h, p, refl, refl); forth = λ a h p. (h, p, refl, refl); spare = refl }) (stepped_knows o t.words w.kept.fate w.kept.book v place found (w.kept.each_view id v here)) 0 in
+        let kept = stands face o t w.kept id v here u (record { back = λ a h p. (h, p, refl, refl); forth = λ a h p. (h, p, refl, refl); spare = refl }) (stepped_knows o t.words w.kept.fate w.kept.gone w.kept.book v place found (w.kept.each_view id v here)) 0 in
         subst (λ (z : List ℕ × List SeatView). Kept face o record { words = z.0; homes = s.homes; views = z.1 }) (λ j. (set-get_or t.words 0 0 j, views_now face shape s id v at w present u refl j)) kept)
         (λ (ne : v.era ≢ w.era). let seen : SeatView → SeatView = seen_in w.era in
         let here : get_elem? (map seen s.views) id ≡ some spent = at_map seen s.views id v at ∙ ap (λ (z : SeatView). some z) (seen_past w.era v ne) in
@@ -179,13 +181,13 @@ module _ (face : ℕ → ℕ → List (ℕ × ℕ) → List ℕ) (shape : Shape)
     }
 
   -- a reader loads a word of a record that it has seen, in whatever era the table is
-  pub reads_record_word : (n id place i : ℕ) (me : Sat) → me.0.reads ≡ true → me.0.live ≡ true → me.0.held ≡ [] → me.1 ≡ [] → i ≡ me.0.base + place → Allows (Ruled face shape) n id me i (λ x. x) (in_part read_record (step n i 0 0 none) me)
-  reads_record_word n id place i me does live no_lane empty is s rule _ at _ =
+  pub reads_record_word : (n id place i : ℕ) (me : Sat) → me.0.shape.reservations ≡ 0 → me.0.reads ≡ true → me.0.live ≡ true → me.0.held ≡ [] → me.1 ≡ [] → i ≡ me.0.base + place → Allows (Ruled face shape) n id me i (λ x. x) (in_part read_record (step n i 0 0 none) me)
+  reads_record_word n id place i me off does live no_lane empty is s rule _ at _ =
       let v : SeatView = me.0 in let found : ℕ = get_or s.words i 0 in let next : SeatView = stepping v (load_record_word place found) in
       let now : (v.shape ≡ shape) × FindsRecords shape s.words v × Ruled face shape record { words = s.words; homes = s.homes; views = set s.views id next } = let w : Ruled face shape s = rule in
       let r = w.reads id v at does in let le = w.none_later id v at in (
         (w.remembers id v at live).shaped,
-        ⊎_elim (λ (e : v.era ≡ w.era). finds_now face shape s id v at w e (r.now e)) (λ ne. (r.before (omega (arith, ne))).1) (cases_eq v.era w.era),
+        ⊎_elim (λ (e : v.era ≡ w.era). finds_now face shape s id v at w e (ap (λ (z : Shape). z.reservations) (sym (w.remembers id v at live).shaped) ∙ off) (r.now e)) (λ ne. (r.before (omega (arith, ne))).1) (cases_eq v.era w.era),
         steps_on s id v at place found w,
       ) in (
         next,

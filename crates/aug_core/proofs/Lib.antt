@@ -7,6 +7,7 @@ pub mod PrefixLemmas
 pub mod Books
 pub mod Owning
 pub mod Views
+pub mod Keeping
 pub mod Moves
 pub mod Fits
 pub mod Loads
@@ -14,10 +15,13 @@ pub mod ReaderCounts
 pub mod Stores
 pub mod States
 pub mod Nodes
+pub mod Reserving
+pub mod Scanning
 pub mod Openings
 pub mod Leaves
 pub mod Splits
 pub mod Joins
+pub mod Retiring
 pub mod Eras
 pub mod EraSteps
 pub mod Notes

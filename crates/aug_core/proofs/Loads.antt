@@ -1,5 +1,5 @@
 -- Loads keep the rule. One of a word of a record tells what the book or the seat's own lanes say of it, and one of a leaf or a node shows the whole book.
-use Rattle.std.proofs.Common.{true, ◌≡◌, ℕ, ◌+◌, ◌<◌, List, [], ◌∷◌, ◌++◌, ◌^◌, get_or, arith, sym, refl, ap, ◌∙◌, subst}
+use Rattle.std.proofs.Common.{true, ◌≡◌, ◌⊎◌, inl, inr, ⊎_elim, Some, ℕ, ◌≤◌, ◌+◌, ◌<◌, List, [], ◌∷◌, ◌++◌, ◌^◌, get_or, arith, sym, refl, ap, ◌∙◌, subst}
 use mathlib.Core.Option.{none, some}
 use lib.ListN.{get_elem?}
 use Rattle.atomic_table.specs.Table.{step, keeps, Allows}
@@ -8,21 +8,32 @@ use Rattle.aug_core.specs.Addresses.{IsInner}
 use Rattle.aug_core.specs.Book.{ArePrefixes, IsFresh, IsNewest, NamesOnce, SerialsFit, IsBook}
 use Rattle.aug_core.specs.Opening.{Opening}
 use Rattle.aug_core.specs.Rule.{Knows, Kept}
+use Rattle.aug_core.specs.Records.{HasWords, StandsAs, IsClosed, floor_of, Waits}
 use Rattle.aug_core.specs.Kinds.{load_leaf, load_node, load_record_word}
-use Rattle.aug_core.specs.Effects.{Sat, stepping, Says, SaysOwn, read_record, seeing, beginning, Sees, LeafLoaded, LoadsNode, loaded_leaf, began_at_leaf, loaded_node}
+use Rattle.aug_core.specs.Effects.{Sat, stepping, Guards, Says, SaysOwn, read_record, seeing, beginning, Sees, LeafLoaded, LoadsNode, loaded_leaf, began_at_leaf, loaded_node}
 use Rattle.aug_core.specs.inside.EraSteps.{WithEra}
+use Rattle.aug_core.specs.declared.view.Entry.{Entry}
+use Rattle.aug_core.specs.declared.view.Reserved.{Reserved}
 use Rattle.aug_core.specs.declared.view.SeatView.{SeatView}
+use Rattle.aug_core.proofs.Keeping.{reserves_same, keeps_as}
 use Rattle.aug_core.proofs.Moves.{St, knows_keeping, rests, stands, watches}
 use Rattle.aug_core.proofs.Fits.{fits_book, named_once, sees_after}
 use Rattle.aug_core.proofs.Sizes.{twice}
 use Rattle.aug_core.proofs.PrefixLemmas.{entry_stays}
 
 module _ (face : ℕ → ℕ → List (ℕ × ℕ) → List ℕ) (o : Opening) where
-  module _ (s : St) (r : Kept face o s) (v : SeatView) (kn : Knows o s.words r.fate r.book v) (shaped : v.shape ≡ o.shape) (place : ℕ) where
+  module _ (s : St) (r : Kept face o s) (v : SeatView) (kn : Knows o s.words r.fate r.gone r.book v) (shaped : v.shape ≡ o.shape) where
+    -- the table has the words of what the view guards, which stands, or is held by the view's reservation
+    pub guarded : (q i : ℕ) (e : Entry) → Guards v q i e → HasWords o.shape s.words e.number e.words × (StandsAs o.shape (r.fate e.number) q i ⊎ ((x : Reserved) × (x.slot < o.shape.reservations) × Waits r.fate x e.number))
+    guarded q i e g = let inner = subst (λ (z : Shape). IsInner z q) shaped g.inner in let at' = entry_stays kn.saw q i e g.at in ⊎_elim
+        (λ off. let zero = r.records.none_gone (ap (λ (z : Shape). z.reservations) (sym shaped) ∙ off) q in let t = r.records.there q i e inner at' (omega arith) in (t.words_are, inl t.stands))
+        (λ c. let p = (kn.records.reserved c.0 c.1).1 in let t = p.holds q i e inner at' c.2 c.3 in (t.0, ⊎_elim (λ x. inl x) (λ w. inr (c.0, p.exists, w)) t.1)) g.covers
+
+  module _ (s : St) (r : Kept face o s) (v : SeatView) (kn : Knows o s.words r.fate r.gone r.book v) (shaped : v.shape ≡ o.shape) (place : ℕ) where
     -- the table has the words of what the view guards
     of_entry : (number field : ℕ) → field < record_words → place ≡ record_start v.shape number + field → Says v number field (get_or s.words place 0)
     of_entry number field small is q i e guards numbered = ap (λ (z : ℕ). get_or s.words z 0) (is ∙ (λ j. record_start (shaped j) (sym numbered j) + field))
-        ∙ r.tree.written q i e (subst (λ (z : Shape). IsInner z q) shaped guards.inner) (entry_stays kn.saw q i e guards.at) field small
+        ∙ (guarded s r v kn shaped q i e guards).0 field small
 
     -- and of what it owns
     of_own : (number field : ℕ) → field < record_words → place ≡ record_start v.shape number + field → SaysOwn v number field (get_or s.words place 0)
@@ -35,7 +46,8 @@ module _ (face : ℕ → ℕ → List (ℕ × ℕ) → List ℕ) (o : Opening) w
         w,
         keeps,
         tt,
-        stands face o s r id v at w record { back = λ a h p. (h, p, refl, refl); forth = λ a h p. (h, p, refl, refl); spare = refl } (knows_keeping face o s r id v s.words r.book r.fate (rests face o s r id v at) at v.held (v.steps ++ load_record_word place found ∷ []) kn.holds) place,
+        stands face o s r id v at w record { back = λ a h p. (h, p, refl, refl); forth = λ a h p. (h, p, refl, refl); spare = refl } (knows_keeping face o s r id v s.words r.book r.fate r.gone (rests face o s r id v at) at v.held v.reserved v.reached (v.steps ++ load_record_word place found ∷ []) kn.holds
+            (keeps_as o.shape s.words r.fate r.gone r.book v w (reserves_same v w refl refl refl) kn.records)) place,
         (
           (
             empty,
@@ -51,7 +63,7 @@ module _ (face : ℕ → ℕ → List (ℕ × ℕ) → List ℕ) (o : Opening) w
     pub sees_it : (w : SeatView) → w.seen ≡ r.book → Sees face v w
     sees_it w is = let kn = r.each_view id v at in sees_after face v w o.shape (kn.shaped live)
         (subst (ArePrefixes v.seen) (sym is) kn.saw) (subst (ArePrefixes v.also) (sym is) kn.also_saw)
-        (subst (λ z. IsFresh o.shape z v.seen) (sym is) kn.fresh) (subst (λ z. IsBook face o.shape z) (sym is) r.tree.is_book) (subst (λ z. NamesOnce o.shape z) (sym is) (named_once o.shape r.fate r.book r.fates))
+        (subst (λ z. IsFresh o.shape z v.seen) (sym is) kn.fresh) (subst (λ z. IsBook face o.shape z) (sym is) r.tree.is_book) (λ off. subst (λ z. NamesOnce o.shape z) (sym is) (named_once o.shape s.words r.fate r.gone r.book r.records off))
         (subst (λ z. SerialsFit o.shape z) (sym is) (fits_book o s.words r.book s.views r.changes.tally r.changes.tallied))
 
     -- a leaf's word is that of its newest entry
@@ -112,6 +124,8 @@ module _ (face : ℕ → ℕ → List (ℕ × ℕ) → List ℕ) (o : Opening) w
     newest = t.newest;
     found = t.word ∙ r.tree.is_book.named place t.index t.entry inner' t.newest.at;
     shown = t.shown;
+    held = λ x e. let p = ((r.each_view id v at).records.reserved x e).1 in let low = p.in_use place in let top = r.records.newest place inner'.inside in let long = t.newest.last in
+        (omega arith, subst (λ (z : Shape). IsClosed z r.book (floor_of x)) (sym ((r.each_view id v at).shaped live)) p.closed);
   }
 
   pub loads_node : (n id place : ℕ) (me : Sat) → me.0.live ≡ true → me.1 ≡ [] → Allows (Kept face o) n id me place (λ x. x) (WithEra me (loaded_node face (step n place 0 0 none) me))

@@ -1,5 +1,5 @@
 -- A node's word goes to a record of the seat's own lane, which is its newest entry then.
-use Rattle.std.proofs.Common.{true, false, Bool, not, if◌then◌else◌, ◌≡◌, ◌≢◌, ℕ, ◌+◌, ◌^◌, ◌<◌, ◌≤◌, inl, List, [], ◌∷◌, ◌++◌, length, get_or, set, eqb, eq-eqb, ne_eqb, sym, refl, ap, ◌∙◌, subst, ⊎_elim, arith}
+use Rattle.std.proofs.Common.{◌⊎◌, ◌-◌, true, false, Bool, not, if◌then◌else◌, ◌≡◌, ◌≢◌, ℕ, ◌+◌, ◌^◌, ◌<◌, ◌≤◌, inl, List, [], ◌∷◌, ◌++◌, length, get_or, set, eqb, eq-eqb, ne_eqb, sym, refl, ap, ◌∙◌, subst, ⊎_elim, arith}
 use Rattle.std.specs.Prelude.{◌==◌}
 use mathlib.Core.Bool.{true≢false}
 use mathlib.Core.Option.{none, some}
@@ -11,25 +11,31 @@ use Rattle.aug_core.specs.Places.{Shape, record_start, record_count, record_word
 use Rattle.aug_core.specs.Addresses.{IsInner, left_of, right_of}
 use Rattle.aug_core.specs.Book.{Book, history_of, At, IsNewest, ArePrefixes, FloorsCover, IsFresh, NamesOnce, SerialsFit, IsBook}
 use Rattle.aug_core.specs.Opening.{Opening}
-use Rattle.aug_core.specs.Rule.{Lists, Fate, at_opening, standing, owned_by, StandsAs, HaveFates, NamesNewest, HasWords, OwnsRecord, HoldsLane, Kept}
+use Rattle.aug_core.specs.Rule.{NamesNewest, HoldsLane, Kept}
+use Rattle.aug_core.specs.Records.{Lists, Fate, at_opening, standing, owned_by, StandsAs, HasWords, IsThere, Waits, IsReplaced, KeepsView, OwnsRecord}
 use Rattle.aug_core.specs.Kinds.{try_node}
-use Rattle.aug_core.specs.Effects.{Sat, HoldsOnly, Owns, MayStore, on_first, publishing_from, seeing, publishing, IsFilled, tried_node}
+use Rattle.aug_core.specs.Effects.{Sat, HoldsOnly, Owns, MayStore, birth_of, IsNoYounger, on_first, last_replaced, publishing_from, seeing, publishing, IsFilled, tried_node}
 use Rattle.aug_core.specs.inside.EraSteps.{WithEra}
 use Rattle.aug_core.specs.inside.LaneStates.{HasTakenLane}
 use Rattle.aug_core.specs.declared.step.StepTaken.{StepTaken}
 use Rattle.aug_core.specs.declared.view.Entry.{Entry}
 use Rattle.aug_core.specs.declared.view.Held.{Held}
 use Rattle.aug_core.specs.declared.view.LaneState.TheVariants.{Taken}
+use Rattle.aug_core.specs.declared.view.Life.{Life}
+use Rattle.aug_core.specs.declared.view.Replaced.{Replaced}
+use Rattle.aug_core.specs.declared.view.Reserved.{Reserved}
 use Rattle.aug_core.specs.declared.view.SeatView.{SeatView}
 use Rattle.aug_core.specs.declared.view.Owned.{Owned}
 use Rattle.aug_core.proofs.Sizes.{twice}
 use Rattle.aug_core.proofs.Owning.{listed_filter}
-use Rattle.aug_core.proofs.Books.{grown, no_shorter, one_entry, at_grown, newest_here, there, grows}
-use Rattle.aug_core.proofs.Moves.{St, MayMove, moves_on, holds_on, knows_seeing, in_book, book', after, not_owned, tree_moves, watches}
+use Rattle.aug_core.proofs.EntryCuts.{entry_is}
+use Rattle.aug_core.proofs.Books.{grown, snoc_at, longer, no_shorter, one_entry, at_grown, newest_here, there, grows}
+use Rattle.aug_core.proofs.Keeping.{one_standing, stands_unowned, holds_lane_on, view_on}
+use Rattle.aug_core.proofs.Moves.{St, MayMove, moves_on, holds_on, knows_seeing, in_book, book', after, Publishes, tree_leaves, tree_slots, tree_moves, watches}
 use Rattle.aug_core.proofs.Stores.{alone, one_lane, is_taken}
 use Rattle.aug_core.proofs.States.{Did}
 use Rattle.aug_core.proofs.Fits.{fits_book, named_once, sees_after}
-use Rattle.aug_core.proofs.Loads.{sees_it}
+use Rattle.aug_core.proofs.Loads.{guarded, sees_it}
 use Rattle.aug_core.proofs.PrefixLemmas.{book_trans, entry_stays}
 use Rattle.aug_core.proofs.ReaderCounts.{still_works}
 
@@ -39,7 +45,7 @@ placed_at fate number q i n = if n == number then standing q i else fate n
 
 module _ (face : ℕ → ℕ → List (ℕ × ℕ) → List ℕ) (o : Opening) where
   module _ (s : St) (r : Kept face o s) (id : ℕ) (v : SeatView) (at : get_elem? s.views id ≡ some v) (shaped : v.shape ≡ o.shape) (h : Held) (only : HoldsOnly v h) (taken : h.state ≡ Taken) (number : ℕ)
-      (q : ℕ) (inner : IsInner o.shape q) (old : ℕ) (c : IsFilled face v q old number) where
+      (q : ℕ) (inner : IsInner o.shape q) (old : ℕ) (c : IsFilled face v q old number) (free : c.own.life.scanned ≡ o.shape.reservations) where
     held : get_elem? v.held 0 ≡ some h
     held = subst (λ (z : List Held). get_elem? z 0 ≡ some h) (sym only) refl
 
@@ -69,7 +75,7 @@ module _ (face : ℕ → ℕ → List (ℕ × ℕ) → List ℕ) (o : Opening) w
     pairs = c.is_loaded.left.pairs ++ c.is_loaded.right.pairs
 
     abbrev pub entry : Entry
-    entry = record { number = number; word = number; left = c.is_loaded.left_index; right = c.is_loaded.right_index; left_floor = left_newest.index; right_floor = right_newest.index; weight = 0; passed = false; pairs = pairs; words = face c.is_loaded.left.word c.is_loaded.right.word pairs }
+    entry = record { number = number; word = number; left = c.is_loaded.left_index; right = c.is_loaded.right_index; left_floor = left_newest.index; right_floor = right_newest.index; weight = 0; passed = false; birth = birth_of v; maker = h.lane; pairs = pairs; words = face c.is_loaded.left.word c.is_loaded.right.word pairs }
 
     abbrev pub longer_book : Book
     longer_book = book' face o s r id v at q inner.inside entry
@@ -87,7 +93,7 @@ module _ (face : ℕ → ℕ → List (ℕ × ℕ) → List ℕ) (o : Opening) w
     owned : OwnsRecord o.shape s.words r.fate h.lane c.own
     owned = mine.owns c.own (subst (λ (z : Held). Lists z.owned c.own) owner c.owns.listed)
 
-    fate_was : r.fate number ≡ owned_by h.lane
+    fate_was : r.fate number ≡ owned_by h.lane c.own.life
     fate_was = ap r.fate (sym c.owns.numbered) ∙ owned.fate_is
 
     -- what the table has of the record
@@ -103,22 +109,38 @@ module _ (face : ℕ → ℕ → List (ℕ × ℕ) → List ℕ) (o : Opening) w
     fate_there : (n : ℕ) → n ≢ number → fate' n ≡ r.fate n
     fate_there n ne = ap (λ (b : Bool). if b then standing q (length (history_of r.book q)) else r.fate n) (ne_eqb n number ne)
 
-    fates : HaveFates o.shape fate' longer_book
-    fates = record {
-      opened = λ n low. fate_there n (λ is. let clash : at_opening ≡ owned_by h.lane = sym (r.fates.opened n low) ∙ ap r.fate is ∙ fate_was in cc) ∙ r.fates.opened n low;
-      entries = λ p i e low t. ⊎_elim
-          (λ old. subst (λ (z : Fate). StandsAs z p i) (sym (fate_there e.number (λ is. not_owned face o s r id v at p i h.lane e low old (ap r.fate is ∙ fate_was)))) (r.fates.entries p i e low old))
-          (λ new. inl (fate_here e.number (ap (λ (z : Entry). z.number) (sym new.2)) ∙ (λ j. standing (sym new.0 j) (sym new.1 j)))) (at_grown r.book q ib entry p i e t);
-    }
+    -- what was loaded of the node the table has as it was seen
+    from_there : HasWords o.shape s.words c.is_loaded.from.number c.is_loaded.from.words × (StandsAs o.shape (r.fate c.is_loaded.from.number) q c.is_loaded.index ⊎ ((x : Reserved) × (x.slot < o.shape.reservations) × Waits r.fate x c.is_loaded.from.number))
+    from_there = guarded face o s r v (r.each_view id v at) shaped q c.is_loaded.index c.is_loaded.from record { inner = subst (λ (z : Shape). IsInner z q) (sym shaped) inner; at = c.is_loaded.loaded; covers = c.covers }
 
-    -- where the word is the one that was loaded, the newest entry is the one that was loaded
+    top_there : IsThere o.shape s.words r.fate q node_newest.index node_newest.entry
+    top_there = let low = r.records.newest q inner.inside in let long = node_newest.newest.last in r.records.there q node_newest.index node_newest.entry inner node_newest.newest.at (omega arith)
+
+    -- where the word is the one that was loaded, the newest entry is the one that was loaded: no other was published since whose record had that number
     top_is : get_or s.words q 0 ≡ old → node_newest.entry ≡ c.is_loaded.from
-    top_is hit = let t = node_newest in let one = (named_once o.shape r.fate r.book r.fates).once q t.index c.is_loaded.index t.entry c.is_loaded.from inner t.newest.at (entry_stays know q c.is_loaded.index c.is_loaded.from c.is_loaded.loaded) (sym (r.tree.is_book.named q t.index t.entry inner t.newest.at) ∙ sym t.word ∙ hit ∙ c.is_loaded.numbered) in
+    top_is hit = let t = node_newest in let same : t.entry.number ≡ c.is_loaded.from.number = sym (r.tree.is_book.named q t.index t.entry inner t.newest.at) ∙ sym t.word ∙ hit ∙ c.is_loaded.numbered in
+        let stands : StandsAs o.shape (r.fate c.is_loaded.from.number) q t.index = subst (λ (z : ℕ). StandsAs o.shape (r.fate z) q t.index) same top_there.stands in
+        let one : t.index ≡ c.is_loaded.index = ⊎_elim (λ as_was. one_standing o.shape (r.fate c.is_loaded.from.number) q t.index c.is_loaded.index stands as_was)
+        (λ w. absurd (stands_unowned o.shape (r.fate c.is_loaded.from.number) q t.index w.2.lane w.2.life stands w.2.fate_is)) from_there.1 in
         one_entry r.book q c.is_loaded.index t.entry c.is_loaded.from (subst (λ (z : ℕ). At r.book q z t.entry) one t.newest.at) (entry_stays know q c.is_loaded.index c.is_loaded.from c.is_loaded.loaded)
+
+    -- the new entry stands over entries in use
+    in_use : get_or s.words q 0 ≡ old → (r.gone (left_of o.shape q) ≤ c.is_loaded.left_index) × (r.gone (right_of o.shape q) ≤ c.is_loaded.right_index)
+    in_use hit = let t = node_newest in let low = r.records.newest q inner.inside in let long = t.newest.last in let b = r.records.closed.below q t.index t.entry inner t.newest.at (omega arith) in
+        let l : t.entry.left ≤ c.is_loaded.left_index = subst (λ (z : Entry). z.left ≤ c.is_loaded.left_index) (sym (top_is hit)) c.is_loaded.left_later in
+        let m : t.entry.right ≤ c.is_loaded.right_index = subst (λ (z : Entry). z.right ≤ c.is_loaded.right_index) (sym (top_is hit)) c.is_loaded.right_later in
+        let b0 = b.0 in let b1 = b.1 in (omega arith, omega arith)
+
+    pub published : get_or s.words q 0 ≡ old → Publishes face o s r id v at q inner.inside entry fate' h.lane c.own.life free
+    published hit = record { was = fate_was; stands_now = fate_here number refl; others_as = fate_there; full = has; left_in_use = (in_use hit).0; right_in_use = (in_use hit).1 }
+
+    -- what the new record names was made no later
+    no_younger : (e : Entry) → IsNoYounger v e → 0 < o.shape.reservations → e.birth ≤ birth_of v
+    no_younger e known used = ⊎_elim (λ off. let same = ap (λ (z : Shape). z.reservations) shaped in absurd (omega arith)) (λ le. le) known
 
     pub is_book' : get_or s.words q 0 ≡ old → IsBook face o.shape longer_book
     is_book' hit = let e = sym (top_is hit) in let t = node_newest in grows r.book q ib entry face o.shape r.tree.is_book inner t.index t.entry t.newest refl (subst (λ (z : ℕ). z < record_count o.shape) c.owns.numbered owned.exists)
-        record { left_child = c.is_loaded.left; right_child = c.is_loaded.right; left_at = left_at; right_at = right_at; left_shown = c.is_loaded.left_shown; right_shown = c.is_loaded.right_shown; pairs_of_both = refl; words_say = refl }
+        record { left_child = c.is_loaded.left; right_child = c.is_loaded.right; left_at = left_at; right_at = right_at; left_shown = c.is_loaded.left_shown; right_shown = c.is_loaded.right_shown; pairs_of_both = refl; words_say = refl; left_born = no_younger c.is_loaded.left c.left_no_younger; right_born = no_younger c.is_loaded.right c.right_no_younger }
         (subst (λ (z : Entry). z.left ≤ c.is_loaded.left_index) e c.is_loaded.left_later) (subst (λ (z : Entry). z.right ≤ c.is_loaded.right_index) e c.is_loaded.right_later)
         (subst (λ (z : Entry). z.left_floor ≤ c.is_loaded.left_index) e c.is_loaded.left_known) (subst (λ (z : Entry). z.right_floor ≤ c.is_loaded.right_index) e c.is_loaded.right_known)
         ((left_newest.entry, left_newest.newest.at), (right_newest.entry, right_newest.newest.at))
@@ -127,24 +149,56 @@ module _ (face : ℕ → ℕ → List (ℕ × ℕ) → List ℕ) (o : Opening) w
     floors seen saw _ = let a = no_shorter r.book seen saw (left_of o.shape q) in let b = no_shorter r.book seen saw (right_of o.shape q) in let x = left_newest.newest.last in let y = right_newest.newest.last in
         record { left = omega arith; right = omega arith }
 
-    pub moved : get_or s.words q 0 ≡ old → MayMove face o s r id v words' longer_book fate'
-    moved hit = tree_moves face o s r id v at q inner.inside entry fate' fates
-        (λ lane x not is. fate_there x.number (λ same. let e : owned_by lane ≡ owned_by h.lane = sym is ∙ ap r.fate same ∙ fate_was in let this : lane ≡ h.lane = cc e in not record { index = 0; held = h; at = held; is = sym this }) ∙ is)
-        (is_book' hit) refl (λ _. has) floors
+    pub moved : get_or s.words q 0 ≡ old → MayMove face o s r id v words' longer_book fate' r.gone
+    moved hit = tree_moves face o s r id v at q inner.inside entry fate' h.lane c.own.life free (published hit)
+        (λ lane x not is. fate_there x.number (λ same. let e : owned_by lane x.life ≡ owned_by h.lane c.own.life = sym is ∙ ap r.fate same ∙ fate_was in let this : lane ≡ h.lane = cc e in not record { index = 0; held = h; at = held; is = sym this }) ∙ is)
+        (is_book' hit) refl floors
 
     abbrev pub lane' : Held
-    lane' = publishing_from number h
+    lane' = publishing_from number (last_replaced longer_book q) h
 
     holds_it : HoldsLane o.shape words' fate' lane'
     holds_it = holds_on face o s r id v at q inner.inside entry fate' h lane'.owned mine
-        (λ x t. let was = listed_filter (λ z. not (z.number == number)) h.owned x t in (was.0, fate_there x.number (λ is. true≢false (sym was.1 ∙ ap not (eq-eqb x.number number is))) ∙ (mine.owns x was.0).fate_is))
+        (λ x t. let was = listed_filter (λ z. not (z.number == number)) h.owned x t in (was.0, fate_there x.number (λ is. true≢false (sym was.1 ∙ ap not (eq-eqb x.number number is))) ∙ (mine.owns x was.0).fate_is)) lane'.replaced
 
     same_leaves : (key : ℕ) → key < 2 ^ o.shape.bits → length (history_of longer_book key) ≡ length (history_of r.book key)
     same_leaves key low = ap length (there r.book q ib entry key (λ is. let past = inner.past_leaves in omega arith))
 
+    -- the entry that was replaced is known to be that
+    replaced_now : get_or s.words q 0 ≡ old → IsReplaced o.shape words' fate' longer_book h.lane (last_replaced longer_book q)
+    replaced_now hit = let t = node_newest in let long = t.newest.last in let more = longer r.book q ib entry in
+        let place : length (history_of longer_book q) - 2 ≡ t.index = omega arith in let after : length (history_of r.book q) ≡ length (history_of longer_book q) - 2 + 1 = omega arith in
+        let was : At longer_book q (length (history_of longer_book q) - 2) t.entry = subst (λ (z : ℕ). At longer_book q z t.entry) (sym place) (entry_stays (grown r.book q ib entry) q t.index t.entry t.newest.at) in
+        let is = entry_is longer_book q (length (history_of longer_book q) - 2) t.entry was in
+        let there = (tree_leaves face o s r id v at q inner.inside entry fate' h.lane c.own.life free (published hit)).there q t.index t.entry inner t.newest.at top_there in record {
+          inner = inner;
+          entry = t.entry;
+          next = entry;
+          at = was;
+          followed = subst (λ (z : ℕ). At longer_book q z entry) after (newest_here r.book q ib entry).at;
+          made_by = refl;
+          numbered = ap (λ (z : Entry). z.number) (sym is);
+          born = ap (λ (z : Entry). z.birth) (sym is);
+          said = ap (λ (z : Entry). z.words) (sym is);
+          there = subst (λ (z : ℕ). IsThere o.shape words' fate' q z t.entry) (sym place) there;
+        }
+
+    keeps_view : get_or s.words q 0 ≡ old → (steps : List StepTaken) → KeepsView o.shape words' fate' r.gone longer_book record v { seen = longer_book; held = lane' ∷ []; steps = steps }
+    keeps_view hit steps = let k = view_on o.shape s.words r.fate r.gone r.book words' fate' longer_book (tree_leaves face o s r id v at q inner.inside entry fate' h.lane c.own.life free (published hit)) (tree_slots face o s r id v at q inner.inside entry fate' h.lane c.own.life free (published hit)) v (r.each_view id v at).records in record {
+      reserved = λ x e. let t = k.reserved x e in (
+        holds_lane_on v record v { seen = longer_book; held = lane' ∷ []; steps = steps } x.slot
+            (λ a g p. let u = alone h g a (subst (λ (z : List Held). get_elem? z a ≡ some g) only p) in (lane', subst (λ (z : ℕ). get_elem? (lane' ∷ []) z ≡ some lane') (sym u.0) refl, ap (λ (z : Held). z.lane) (sym u.1))) t.0,
+        t.1,
+      );
+      reached = k.reached;
+      replaced = λ a g x p l. let u = alone lane' g a p in subst (λ (z : ℕ). IsReplaced o.shape words' fate' longer_book z x) (ap (λ (z : Held). z.lane) u.1)
+          (⊎_elim (λ was. k.replaced 0 h x held (l.0, was)) (λ new. subst (IsReplaced o.shape words' fate' longer_book h.lane) new.1 (replaced_now hit))
+          (snoc_at h.replaced (last_replaced longer_book q) x l.0 (subst (λ (z : Held). get_elem? z.replaced l.0 ≡ some x) (sym u.1) l.1)));
+    }
+
     pub publishes : get_or s.words q 0 ≡ old → (steps : List StepTaken) → Kept face o record { words = words'; homes = s.homes; views = set s.views id record v { seen = longer_book; held = lane' ∷ []; steps = steps } }
-    publishes hit steps = moves_on face o s r id v words' longer_book fate' (moved hit) at record v { seen = longer_book; held = lane' ∷ []; steps = steps } (one_lane v h lane' longer_book steps only refl refl)
-        (knows_seeing face o s r id v words' longer_book fate' (moved hit) at (lane' ∷ []) v.began steps (λ a g p. subst (HoldsLane o.shape words' fate') (alone lane' g a p).1 holds_it)) same_leaves
+    publishes hit steps = moves_on face o s r id v words' longer_book fate' r.gone (moved hit) at record v { seen = longer_book; held = lane' ∷ []; steps = steps } (one_lane v h lane' longer_book steps only refl refl)
+        (knows_seeing face o s r id v words' longer_book fate' r.gone (moved hit) at (lane' ∷ []) v.began steps (λ a g p. subst (HoldsLane o.shape words' fate') (alone lane' g a p).1 holds_it) (keeps_view hit steps)) same_leaves
 
     pub fits : SerialsFit o.shape longer_book
     fits = let f = fits_book o s.words r.book s.views r.changes.tally r.changes.tallied in record { few = λ key low. let e = same_leaves key low in let l = f.few key low in omega arith }
@@ -158,8 +212,8 @@ module _ (face : ℕ → ℕ → List (ℕ × ℕ) → List ℕ) (o : Opening) w
     pub newest_now : IsNewest longer_book q (length (history_of r.book q)) entry
     newest_now = newest_here r.book q ib entry
 
-    pub named : NamesOnce o.shape longer_book
-    named = named_once o.shape fate' longer_book fates
+    pub named : get_or s.words q 0 ≡ old → o.shape.reservations ≡ 0 → NamesOnce o.shape longer_book
+    named hit = named_once o.shape words' fate' r.gone longer_book (moved hit).records
 
     -- whatever the view has of the record the entry has too
     pub says : (x : Owned) → Owns v number x → (k : ℕ) → k < record_words → get_or x.words k 0 ≡ get_or entry.words k 0
@@ -170,37 +224,43 @@ module _ (face : ℕ → ℕ → List (ℕ × ℕ) → List ℕ) (o : Opening) w
   tries_node n id q old number me live empty inner has may c s r _ at _ =
       let v : SeatView = me.0 in let taken0 = is_taken v may.lane may.only has in let h : Held = may.lane in let kn = r.each_view id v at in let shaped : v.shape ≡ o.shape = kn.shaped live in
       let inner' : IsInner o.shape q = subst (λ (z : Shape). IsInner z q) shaped inner in
+      -- the record in question is the one that may be stored
+      let mine : (y : Owned) → Lists h.owned y → OwnsRecord o.shape s.words r.fate h.lane y = (kn.holds 0 h (subst (λ (z : List Held). get_elem? z 0 ≡ some h) (sym may.only) refl)).owns in
+      let owner : h ≡ c.owns.lane = (alone h c.owns.lane c.owns.index (subst (λ (z : List Held). get_elem? z c.owns.index ≡ some c.owns.lane) may.only c.owns.at)).1 in
+      let lives : owned_by h.lane c.own.life ≡ owned_by h.lane may.own.life = sym (mine c.own (subst (λ (z : Held). Lists z.owned c.own) (sym owner) c.owns.listed)).fate_is ∙ ap r.fate (c.owns.numbered ∙ sym may.numbered) ∙ (mine may.own may.listed).fate_is in
+      let life : c.own.life ≡ may.own.life = cc lives in let free : c.own.life.scanned ≡ o.shape.reservations = ap (λ (z : Life). z.scanned) life ∙ may.scanned ∙ ap (λ (z : Shape). z.reservations) shaped in
       let found : ℕ = get_or s.words q 0 in
       let taken : StepTaken = try_node q old number found in let steps : List StepTaken = v.steps ++ taken ∷ [] in
-      let held : on_first (publishing_from number) v.held ≡ publishing_from number h ∷ [] = ap (on_first (publishing_from number)) may.only in
+      let mark : Replaced = last_replaced (longer_book s r id v at shaped h may.only taken0 number q inner' old c free) q in
+      let held : on_first (publishing_from number mark) v.held ≡ publishing_from number mark h ∷ [] = ap (on_first (publishing_from number mark)) may.only in
       exchanged found old number (Did face o s q id me (WithEra me (tried_node face (step n q old number none) me)))
-      (λ hit. let book2 : Book = longer_book s r id v at shaped h may.only taken0 number q inner' old c in
-      let e : Entry = entry s r id v at shaped h may.only taken0 number q inner' old c in
-      let longer = later s r id v at shaped h may.only taken0 number q inner' old c in
+      (λ hit. let book2 : Book = longer_book s r id v at shaped h may.only taken0 number q inner' old c free in
+      let e : Entry = entry s r id v at shaped h may.only taken0 number q inner' old c free in
+      let longer = later s r id v at shaped h may.only taken0 number q inner' old c free in
       let w : SeatView = publishing v book2 number taken in (
         w,
         keeps,
         tt,
         subst (λ (z : List Held). Kept face o record { words = set s.words q number; homes = s.homes; views = set s.views id record v { seen = book2; held = z; steps = steps } }) (sym held)
-            (publishes s r id v at shaped h may.only taken0 number q inner' old c hit steps),
+            (publishes s r id v at shaped h may.only taken0 number q inner' old c free hit steps),
         (
           (
             empty,
             record {
               sees = sees_after face v w o.shape shaped (book_trans kn.saw longer) (book_trans kn.also_saw longer)
-                  (later_fresh s r id v at shaped h may.only taken0 number q inner' old c hit) (is_book' s r id v at shaped h may.only taken0 number q inner' old c hit)
-                  (named s r id v at shaped h may.only taken0 number q inner' old c) (fits s r id v at shaped h may.only taken0 number q inner' old c);
+                  (later_fresh s r id v at shaped h may.only taken0 number q inner' old c free hit) (is_book' s r id v at shaped h may.only taken0 number q inner' old c free hit)
+                  (named s r id v at shaped h may.only taken0 number q inner' old c free hit) (fits s r id v at shaped h may.only taken0 number q inner' old c free);
               shaped = refl;
               stepped = refl;
               index = length (history_of r.book q);
               entry = e;
-              newest = newest_now s r id v at shaped h may.only taken0 number q inner' old c;
-              hit = λ _. (refl, refl, says s r id v at shaped h may.only taken0 number q inner' old c);
+              newest = newest_now s r id v at shaped h may.only taken0 number q inner' old c free;
+              hit = λ _. (refl, refl, says s r id v at shaped h may.only taken0 number q inner' old c free);
               miss = λ miss. absurd (miss hit);
             },
           ),
           record { live = refl; era = refl; past = refl; shape = refl; members = refl; told = refl; base = refl; whole = refl; led = λ m e. (m, e) },
-          record { reads = refl; lent = refl; leads = λ m e. (m, e); works = still_works (publishing_from number) v w refl refl },
+          record { reads = refl; lent = refl; leads = λ m e. (m, e); works = still_works (publishing_from number mark) v w refl refl },
         ),
       ))
       (λ miss. let w : SeatView = seeing v r.book taken in let top = r.tree.newest q inner'.inside in (

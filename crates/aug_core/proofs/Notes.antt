@@ -22,6 +22,7 @@ use Rattle.aug_core.proofs.Books.{snoc_at}
 use Rattle.aug_core.proofs.Eras.{seen_spent, spent_rests, lent_none, rests_none, stands_now, views_now, present_on, placed_on, beside_on, lends_on, reading_on, none_later_on}
 use Rattle.aug_core.proofs.Joins.{joins_seat}
 use Rattle.aug_core.specs.Readers.{times_in, AreLent}
+use Rattle.aug_core.proofs.Keeping.{keeps_none}
 use Rattle.aug_core.proofs.Moves.{St}
 use Rattle.aug_core.proofs.ReaderCounts.{lent_more, lent_joined}
 use Rattle.aug_core.proofs.PrefixLemmas.{book_none}
@@ -54,7 +55,7 @@ module _ (face : ℕ → ℕ → List (ℕ × ℕ) → List ℕ) (o : Opening) (
   stands_on i a k c t = record { view = t.view; lane = t.lane; sits = at_longer s.views (note ∷ []) i t.view t.sits; held = t.held; listed = t.listed }
 
   -- the note knows what was known
-  note_knows : Knows o s.words r.fate r.book note
+  note_knows : Knows o s.words r.fate r.gone r.book note
   note_knows = let kn = r.each_view id v at in record {
     shaped = kn.shaped;
     same_members = kn.same_members;
@@ -63,6 +64,7 @@ module _ (face : ℕ → ℕ → List (ℕ × ℕ) → List ℕ) (o : Opening) (
     fresh = kn.fresh;
     holds = λ a h p. absurd (some-ne-none h (sym p));
     spares = λ n lane e le low. let clash : None ≡ Some n = e in cc;
+    records = keeps_none o.shape s.words r.fate r.gone r.book note refl kn.records.reached (λ a h c p l. some-ne-none h (sym p));
   }
 
   pub makes_note : Kept face o record { words = s.words; homes = s.homes; views = views }
@@ -70,9 +72,10 @@ module _ (face : ℕ → ℕ → List (ℕ × ℕ) → List ℕ) (o : Opening) (
     book = r.book;
     tree = r.tree;
     fate = r.fate;
-    fates = r.fates;
+    gone = r.gone;
+    records = r.records;
     states = r.states;
-    each_view = λ j u p. ⊎_elim (λ old. r.each_view j u old) (λ new. subst (Knows o s.words r.fate r.book) new note_knows) (came j u p);
+    each_view = λ j u p. ⊎_elim (λ old. r.each_view j u old) (λ new. subst (Knows o s.words r.fate r.gone r.book) new note_knows) (came j u p);
     apart = record {
       one_holder = λ i j a b x y h g px py hx hy same. r.apart.one_holder i j a b x y h g (holder i a x h px hx) (holder j b y g py hy) hx hy same;
       one_lead = λ i j n m x y px py ex ey. r.apart.one_lead i j n m x y (lead i n x px ex) (lead j m y py ey) ex ey;

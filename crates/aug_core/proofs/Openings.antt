@@ -1,15 +1,15 @@
 -- The rule holds of a table that was just opened.
-use Rattle.std.proofs.Common.{true, false, ◌≡◌, ℕ, zero, suc, ◌+◌, ◌-◌, ◌*◌, ◌^◌, ◌<◌, ◌≤◌, Bool, le-ltb, lt-ltb, if◌then◌else◌, List, [], ◌∷◌, ◌++◌, length, get_or, replicate, All, sym, refl, ap, ◌∙◌, subst, ⊎_elim, arith, ◌⊎◌, inr, Some, None}
-use Rattle.std.specs.Prelude.{nat_lt, ◌/◌}
+use Rattle.std.proofs.Common.{true, false, ◌≡◌, ℕ, zero, suc, ◌+◌, ◌-◌, ◌*◌, ◌^◌, ◌<◌, ◌≤◌, Bool, le-ltb, lt-ltb, if◌then◌else◌, List, [], ◌∷◌, ◌++◌, length, get_or, replicate, All, sym, refl, ap, ◌∙◌, subst, ⊎_elim, arith, ◌⊎◌, ◌≢◌, inl, inr, eq-eqb, ne_eqb, Some, None}
+use Rattle.std.specs.Prelude.{nat_lt, ◌/◌, ◌==◌}
 use Rattle.std.specs.List.{range_with_len}
-use Rattle.std.proofs.lemmas.Bool.{cases_lt}
+use Rattle.std.proofs.lemmas.Bool.{cases_eq, cases_lt}
 use Rattle.std.proofs.lemmas.Nat.{div-mul-add}
 use Rattle.std.proofs.lemmas.List.FromFn.{length-map-range_with_len, get_or-map-range_with_len}
 use mathlib.Core.Option.{Option, some, some-injective, some-ne-none}
 use lib.ListN.{get_elem?}
 use Rattle.aug_core.specs.Places.{Shape, opening_count, record_start, record_words}
 use Rattle.aug_core.specs.Addresses.{place_count, IsInner, left_of, right_of}
-use Rattle.aug_core.specs.Lanes.{lane_records, first_record, record_in, new_lane}
+use Rattle.aug_core.specs.Lanes.{lane_records, first_record, unborn, record_in, new_lane}
 use Rattle.aug_core.specs.Book.{Book, history_of, At, IsNewest, StandsOver, IsSerial, NamesOnce, SerialsFit, IsBook, word_of_leaf}
 use Rattle.aug_model.specs.Keys.{is_member, keys_of, IsKeySet}
 use Rattle.aug_model.specs.Queries.{weight_in}
@@ -19,7 +19,8 @@ use Rattle.aug_core.specs.Opening.{opening_serial, Opening, opening_pairs, openi
 use Rattle.aug_core.specs.Layout.{IsLayout}
 use Rattle.aug_core.specs.Effects.{KnowsTable, spent}
 use Rattle.aug_core.specs.Renewals.{IsOpened}
-use Rattle.aug_core.specs.Rule.{Lists, Fate, at_opening, owned_by, HaveFates, OwnsRecord, Knows, Kept, no_beginning}
+use Rattle.aug_core.specs.Rule.{Knows, Kept, no_beginning}
+use Rattle.aug_core.specs.Records.{Lists, Fate, at_opening, standing, owned_by, StandsAs, IsThere, OwnsRecord}
 use Rattle.aug_core.specs.declared.view.Entry.{Entry}
 use Rattle.aug_core.specs.declared.view.PastEra.{PastEra}
 use Rattle.aug_core.specs.declared.view.SeatView.{SeatView}
@@ -27,8 +28,9 @@ use Rattle.aug_model.proofs.Ranges.{Rises, rises_from}
 use Rattle.aug_core.specs.declared.view.Owned.{Owned}
 use Rattle.aug_core.proofs.Sizes.{twice, lane_inside}
 use Rattle.aug_core.proofs.Owning.{listed_map, range_listed}
-use Rattle.aug_core.proofs.Below.{pairs_over, pairs_of_leaf, number_of_leaf, number_below}
+use Rattle.aug_core.proofs.Below.{pairs_over, pairs_of_leaf, number_of_leaf, number_below, room_number}
 use Rattle.aug_core.proofs.Stores.{alone}
+use Rattle.aug_core.proofs.Keeping.{keeps_none}
 use Rattle.aug_core.proofs.Joins.{spent_knows}
 use Rattle.aug_core.proofs.Books.{fresh_now, at_below}
 use Rattle.aug_core.proofs.Fits.{at_most_one}
@@ -102,12 +104,17 @@ module _ (face : ℕ → ℕ → List (ℕ × ℕ) → List ℕ) (o : Opening) w
   not_passed true q = refl
   not_passed false q = refl
 
+  not_born : (b : Bool) (q : ℕ) → (newest_of b q).birth ≡ 0
+  not_born true q = refl
+  not_born false q = refl
+
   -- what the newest entry of a leaf or an inner node says
   pub record Newly (q : ℕ) : Type 0 where
     pub entry : Entry
     pub newest : IsNewest book q (opening_index o q) entry
     pub named : entry.word ≡ opening_number o q
     pub shown : entry.passed ≡ false
+    pub unborn : entry.birth ≡ 0
     pub pairs : Rises (keys_of o.members) → entry.pairs ≡ opening_pairs o q
 
   pub newly : (q : ℕ) → q < place_count o.shape → Newly q
@@ -120,6 +127,7 @@ module _ (face : ℕ → ℕ → List (ℕ × ℕ) → List ℕ) (o : Opening) w
         };
         named = word_of_newest b q refl ∙ sym (number_of_leaf o q low);
         shown = not_passed b q;
+        unborn = not_born b q;
         pairs = λ rises. pairs_of_newest b q ∙ sym (pairs_of_leaf o rises q low);
       })
       (λ (past : leaves o ≤ q). let inner : IsInner o.shape q = record { past_leaves = past; inside = inside } in record {
@@ -130,6 +138,7 @@ module _ (face : ℕ → ℕ → List (ℕ × ℕ) → List ℕ) (o : Opening) w
         };
         named = refl;
         shown = refl;
+        unborn = refl;
         pairs = λ _. refl;
       }) (cases_lt q (leaves o))
 
@@ -144,6 +153,8 @@ module _ (face : ℕ → ℕ → List (ℕ × ℕ) → List ℕ) (o : Opening) w
         right_shown = r.shown;
         pairs_of_both = ◌∙◌ {c = l.entry.pairs ++ r.entry.pairs} (pairs_over o rises q inner) (λ i. sym (l.pairs rises) i ++ sym (r.pairs rises) i);
         words_say = λ i. face (sym l.named i) (sym r.named i) (opening_pairs o q);
+        left_born = λ _. let is = l.unborn in omega arith;
+        right_born = λ _. let is = r.unborn in omega arith;
       }
 
   -- its nodes name opening records alone
@@ -164,20 +175,34 @@ module _ (face : ℕ → ℕ → List (ℕ × ℕ) → List ℕ) (o : Opening) w
     serials = λ key i e low p. serial_at pairs_fit (is_member (keys_of o.members) key) key i e (subst (λ (z : List Entry). get_elem? z i ≡ some e) (leaf_history_is key low) p);
   }
 
-  -- what becomes of a record at the opening: those behind the opening records are the lanes', in a row
+  -- what becomes of an opening record: where records are used again it stands as that of the node whose own it is, unless a level shares it
+  abbrev fate_of_opening : ℕ → Fate
+  fate_of_opening n = if o.shape.reservations == 0 then at_opening else if nat_lt n o.shape.bits then at_opening else standing (2 ^ o.shape.bits + (n - o.shape.bits)) 0
+
+  -- and of any record at the opening: those behind the opening records are the lanes', in a row
   abbrev opening_fate : ℕ → Fate
-  opening_fate n = if nat_lt n (opening_count o.shape) then at_opening else owned_by ((n - opening_count o.shape) / lane_records o.shape)
+  opening_fate n = if nat_lt n (opening_count o.shape) then fate_of_opening n else owned_by ((n - opening_count o.shape) / lane_records o.shape) (unborn o.shape)
 
-  is_opening : (n : ℕ) → n < opening_count o.shape → opening_fate n ≡ at_opening
-  is_opening n few = ap (λ (b : Bool). if b then at_opening else owned_by ((n - opening_count o.shape) / lane_records o.shape)) (lt-ltb n (opening_count o.shape) few)
+  of_opening : (n : ℕ) → n < opening_count o.shape → opening_fate n ≡ fate_of_opening n
+  of_opening n few = ap (λ (b : Bool). if b then fate_of_opening n else owned_by ((n - opening_count o.shape) / lane_records o.shape) (unborn o.shape)) (lt-ltb n (opening_count o.shape) few)
 
-  is_owned : (lane k : ℕ) → k < lane_records o.shape → opening_fate (first_record o.shape lane + k) ≡ owned_by lane
+  is_opening : o.shape.reservations ≡ 0 → (n : ℕ) → n < opening_count o.shape → opening_fate n ≡ at_opening
+  is_opening off n few = of_opening n few ∙ ap (λ (b : Bool). if b then at_opening else if nat_lt n o.shape.bits then at_opening else standing (2 ^ o.shape.bits + (n - o.shape.bits)) 0) (eq-eqb o.shape.reservations 0 off)
+
+  stands_opened : o.shape.reservations ≢ 0 → 2 ^ o.shape.bits ≤ o.shape.members → (q : ℕ) → IsInner o.shape q → opening_number o q < opening_count o.shape → opening_fate (opening_number o q) ≡ standing q 0
+  stands_opened used room q inner few = let n : ℕ = opening_number o q in let own = room_number o room q inner in let past = inner.past_leaves in let is : 2 ^ o.shape.bits + (n - o.shape.bits) ≡ q = omega arith in
+      of_opening n few ∙ ap (λ (b : Bool). if b then at_opening else if nat_lt n o.shape.bits then at_opening else standing (2 ^ o.shape.bits + (n - o.shape.bits)) 0) (ne_eqb o.shape.reservations 0 used)
+      ∙ ap (λ (b : Bool). if b then at_opening else standing (2 ^ o.shape.bits + (n - o.shape.bits)) 0) (le-ltb n o.shape.bits (omega arith)) ∙ ap (λ (z : ℕ). standing z 0) is
+
+  stands_at_opening : (o.shape.reservations ≡ 0) ⊎ (2 ^ o.shape.bits ≤ o.shape.members) → (q : ℕ) → IsInner o.shape q → opening_number o q < opening_count o.shape → StandsAs o.shape (opening_fate (opening_number o q)) q 0
+  stands_at_opening room q inner few = ⊎_elim
+      (λ (off : o.shape.reservations ≡ 0). inr (off, is_opening off (opening_number o q) few, refl))
+      (λ used. inl (⊎_elim (λ off. absurd (used off)) (λ all. stands_opened used all q inner few) room)) (cases_eq o.shape.reservations 0)
+
+  is_owned : (lane k : ℕ) → k < lane_records o.shape → opening_fate (first_record o.shape lane + k) ≡ owned_by lane (unborn o.shape)
   is_owned lane k small = let n : ℕ = first_record o.shape lane + k in let is : n - opening_count o.shape ≡ lane * lane_records o.shape + k = omega arith in
-      ap (λ (b : Bool). if b then at_opening else owned_by ((n - opening_count o.shape) / lane_records o.shape)) (le-ltb n (opening_count o.shape) (omega arith))
-      ∙ ap (λ (z : ℕ). owned_by (z / lane_records o.shape)) is ∙ ap owned_by (div-mul-add lane (lane_records o.shape) k small)
-
-  fates_at_opening : Rises (keys_of o.members) → length (keys_of o.members) ≤ o.shape.members → HaveFates o.shape opening_fate book
-  fates_at_opening rises few = record { opened = is_opening; entries = λ q i e inner p. inr (is_opening e.number (low rises few q i e inner p), (inner_at q i e inner p).0) }
+      ap (λ (b : Bool). if b then fate_of_opening n else owned_by ((n - opening_count o.shape) / lane_records o.shape) (unborn o.shape)) (le-ltb n (opening_count o.shape) (omega arith))
+      ∙ ap (λ (z : ℕ). owned_by (z / lane_records o.shape) (unborn o.shape)) is ∙ ap (λ (z : ℕ). owned_by z (unborn o.shape)) (div-mul-add lane (lane_records o.shape) k small)
 
   named_at_opening : NamesOnce o.shape book
   named_at_opening = record { once = λ q i j e f inner p p' same. (inner_at q i e inner p).0 ∙ sym (inner_at q j f inner p').0 }
@@ -208,6 +233,8 @@ module _ (face : ℕ → ℕ → List (ℕ × ℕ) → List ℕ) (o : Opening) w
     lent = lent;
     words = known;
     whole = whole;
+    reserved = None;
+    reached = 0;
     began = no_beginning;
     steps = [];
   }
@@ -250,15 +277,24 @@ module _ (face : ℕ → ℕ → List (ℕ × ℕ) → List ℕ) (o : Opening) w
             is_book = is_book rises opened.members_fit opened.few;
             opened = book_refl book;
             newest = λ q inside. let t = newly q inside in record { index = opening_index o q; entry = t.entry; newest = t.newest; word = opened.named q inside ∙ sym t.named; shown = t.shown };
-            written = λ q i e inner p k small. subst (λ (z : Entry). get_or words (record_start o.shape z.number + k) 0 ≡ get_or z.words k 0) (inner_at q i e inner p).1 (opened.records q k inner small);
-            shared = λ level few k small. opened.shared level k few small;
-            idle = opened.idle;
+            shared = λ off level few k small. opened.shared level k few small;
+            idle = λ off. opened.idle;
           };
           fate = opening_fate;
-          fates = fates_at_opening rises opened.few;
+          gone = λ q. 0;
+          records = record {
+            none_gone = λ off q. refl;
+            opened = is_opening;
+            closed = record { below = λ q i e inner p le. (omega arith, omega arith) };
+            newest = λ q inside. let t = newly q inside in let long = t.newest.last in omega arith;
+            there = λ q i e inner p le. let is = inner_at q i e inner p in subst (λ (z : ℕ × Entry). IsThere o.shape words opening_fate q z.0 z.1) (λ k. (sym is.0 k, is.1 k)) record {
+              stands = stands_at_opening opened.room q inner (number_below o rises opened.few q inner);
+              words_are = λ k small. opened.records q k inner small;
+            };
+          };
           states = λ lane inside. let z = opened.lanes lane inside in omega arith;
           each_view = λ j v p. ⊎_elim
-              (λ t. subst (Knows o words opening_fate book) t.1 record {
+              (λ t. subst (Knows o words opening_fate (λ q. 0) book) t.1 record {
                 shaped = λ _. refl;
                 same_members = λ _. refl;
                 saw = book_refl book;
@@ -266,8 +302,9 @@ module _ (face : ℕ → ℕ → List (ℕ × ℕ) → List ℕ) (o : Opening) w
                 fresh = fresh_now o.shape book;
                 holds = λ a h at. absurd (some-ne-none h (sym at));
                 spares = λ n lane e le inside. record { exists = inside; state = opened.lanes lane inside; owns = λ x t. owns_at_opening words known lane inside same x t };
+                records = keeps_none o.shape words opening_fate (λ q. 0) book (opener past era base lent known whole) refl (omega arith) (λ a h c at l. some-ne-none h (sym at));
               })
-              (λ t. subst (Knows o words opening_fate book) t (spent_knows o words opening_fate book)) (one.each j v p);
+              (λ t. subst (Knows o words opening_fate (λ q. 0) book) t (spent_knows o words opening_fate (λ q. 0) book)) (one.each j v p);
           apart = record {
             one_holder = λ i j a b x y h g px py ph pg same. absurd (holds_none i a x h px ph);
             one_lead = λ i j n m x y px py ex ey. leads i n x px ex ∙ sym (leads j m y py ey);

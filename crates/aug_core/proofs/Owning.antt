@@ -6,7 +6,7 @@ use mathlib.Core.Option.{some, some-injective, some-ne-none}
 use lib.ListN.{get_elem?}
 use Rattle.atomic_table.proofs.Lists.{at_map}
 use Rattle.aug_core.specs.Places.{Shape, record_start, record_count, word_count, record_words}
-use Rattle.aug_core.specs.Rule.{Lists, HasWords}
+use Rattle.aug_core.specs.Records.{Lists, HasWords}
 use Rattle.aug_core.specs.Effects.{with_word}
 use Rattle.aug_core.specs.declared.view.Owned.{Owned}
 

@@ -4,7 +4,7 @@ use Rattle.std.proofs.lemmas.Bool.{cases_eq}
 use mathlib.Core.Option.{some, some-injective, some-ne-none}
 use lib.ListN.{get_elem?}
 use Rattle.atomic_table.proofs.Lists.{set_else}
-use Rattle.aug_core.specs.Rule.{Lists}
+use Rattle.aug_core.specs.Records.{Lists}
 use Rattle.aug_core.specs.Effects.{on_first, spent}
 use Rattle.aug_core.specs.Eras.{IsAtWork}
 use Rattle.aug_core.specs.Readers.{total, times_in, reads_at, AreLent, lending, reader_of, without}

@@ -14,7 +14,8 @@ use Rattle.aug_core.specs.Places.{Shape, opening_count, record_start, word_count
 use Rattle.aug_core.specs.Book.{Book, word_of_leaf}
 use Rattle.aug_core.specs.Addresses.{IsInner, root_place}
 use Rattle.aug_core.specs.Opening.{Opening}
-use Rattle.aug_core.specs.Rule.{Lists, Fate, Knows, Kept, newcomer}
+use Rattle.aug_core.specs.Rule.{Knows, Kept, newcomer}
+use Rattle.aug_core.specs.Records.{Lists, Fate}
 use Rattle.aug_core.specs.Kinds.{load_node}
 use Rattle.aug_core.specs.Effects.{Sat, in_part, opening_of, seeing}
 use Rattle.aug_core.specs.Pasts.{IsEarlier}
@@ -31,6 +32,7 @@ use Rattle.aug_core.proofs.Below.{number_of_leaf}
 use Rattle.aug_core.proofs.Books.{at_below}
 use Rattle.aug_core.proofs.Counting.{hits_all, map_at}
 use Rattle.aug_core.proofs.Missing.{HeldIn, missing}
+use Rattle.aug_core.proofs.Keeping.{reserves_same, keeps_as}
 use Rattle.aug_core.proofs.Moves.{St, stands, watches}
 use Rattle.aug_core.proofs.Loads.{shows_node}
 use Rattle.aug_core.proofs.Stores.{alone}
@@ -212,9 +214,9 @@ module _ (face : ℕ → ℕ → List (ℕ × ℕ) → List ℕ) (shape : Shape)
           }) (cases_eq u.era w.era)
 
       -- who reads finds its records, be it of this era or of an earlier one
-      finds_still : (j : ℕ) (u : SeatView) → get_elem? s.views j ≡ some u → u.reads ≡ true → FindsRecords shape s.words u
-      finds_still j u p does = let r = w.reads j u p does in let le = w.none_later j u p in ⊎_elim
-          (λ (e : u.era ≡ w.era). finds_now face shape s j u p w e (r.now e))
+      finds_still : shape.reservations ≡ 0 → (j : ℕ) (u : SeatView) → get_elem? s.views j ≡ some u → u.reads ≡ true → FindsRecords shape s.words u
+      finds_still off j u p does = let r = w.reads j u p does in let le = w.none_later j u p in ⊎_elim
+          (λ (e : u.era ≡ w.era). finds_now face shape s j u p w e off (r.now e))
           (λ ne. (r.before (omega (arith, ne))).1) (cases_eq u.era w.era)
 
       -- for each reader it answers itself
@@ -248,8 +250,8 @@ module _ (face : ℕ → ℕ → List (ℕ × ℕ) → List ℕ) (shape : Shape)
               (λ q. let past = before j t.0 q.1 in inr (sym (seen_past era t.0 (λ e. absurd (omega arith))) ∙ t.2)) (at_set s.views id j first t.0 t.1);
         }
 
-        pub opens_again : (k : ℕ) → Ruled face shape record { words = set s.words k (get_or s.words k 0); homes = s.homes; views = set s.views id first }
-        opens_again k = let same : s.words ≡ set s.words k (get_or s.words k 0) = sym (set-get_or s.words k 0) in record {
+        pub opens_again : shape.reservations ≡ 0 → (k : ℕ) → Ruled face shape record { words = set s.words k (get_or s.words k 0); homes = s.homes; views = set s.views id first }
+        opens_again off k = let same : s.words ≡ set s.words k (get_or s.words k 0) = sym (set-get_or s.words k 0) in record {
           era = era;
           members = members;
           base = base;
@@ -277,7 +279,7 @@ module _ (face : ℕ → ℕ → List (ℕ × ℕ) → List ℕ) (shape : Shape)
           reads = λ j x p does. ⊎_elim (λ t. let clash : false ≡ true = ap (λ (z : SeatView). z.reads) t.1 ∙ does in cc)
               (λ t. let less = before j x t.1 in record {
                 now = λ e. absurd (omega arith);
-                before = λ _. (subst (λ (z : Shape). IsAside (word_count z) base x.base) shape_is (clear x.base (answers j x t.0 t.1 does)), subst (λ (z : List ℕ). FindsRecords shape z x) same (finds_still j x t.1 does));
+                before = λ _. (subst (λ (z : Shape). IsAside (word_count z) base x.base) shape_is (clear x.base (answers j x t.0 t.1 does)), subst (λ (z : List ℕ). FindsRecords shape z x) same (finds_still off j x t.1 does));
               }) (at_set s.views id j first x p);
         }
 
@@ -297,7 +299,7 @@ module _ (face : ℕ → ℕ → List (ℕ × ℕ) → List ℕ) (shape : Shape)
         first s w id v at live present all top base members clear opened',
         keeps,
         tt,
-        opens_again s w id v at live present all top base members clear opened' base,
+        opens_again s w id v at live present all top base members clear opened' (ap (λ (z : Shape). z.reservations) shaped ∙ laid_out.keeps_records) base,
         (
           empty,
           λ others opened''. subst (λ (z : List (ℕ × ℕ)). Reopens face z base v (first s w id v at live present all top base members clear opened')) (one_set face v.shape (table_part base size v.whole) members others opened opened'') record {
@@ -327,8 +329,8 @@ module _ (face : ℕ → ℕ → List (ℕ × ℕ) → List ℕ) (shape : Shape)
       )
 
   -- a view that knows more of that knows the same of the part
-  more_known : (o : Opening) (words whole : List ℕ) (fate : ℕ → Fate) (book : Book) (v : SeatView) → Knows o words fate book v → Knows o words fate book record v { whole = whole }
-  more_known o words whole fate book v k = record { shaped = k.shaped; same_members = k.same_members; saw = k.saw; also_saw = k.also_saw; fresh = k.fresh; holds = k.holds; spares = k.spares }
+  more_known : (o : Opening) (words whole : List ℕ) (fate : ℕ → Fate) (gone : ℕ → ℕ) (book : Book) (v : SeatView) → Knows o words fate gone book v → Knows o words fate gone book record v { whole = whole }
+  more_known o words whole fate gone book v k = let w : SeatView = record v { whole = whole } in record { shaped = k.shaped; same_members = k.same_members; saw = k.saw; also_saw = k.also_saw; fresh = k.fresh; holds = k.holds; spares = k.spares; records = keeps_as o.shape words fate gone book v w (reserves_same v w refl refl refl) k.records }
 
   -- what is known beside a part follows a store there
   beside_both : (base size i x : ℕ) (known words : List ℕ) → IsBeside base size known words → IsBeside base size (set known i x) (set words i x)
@@ -357,7 +359,7 @@ module _ (face : ℕ → ℕ → List (ℕ × ℕ) → List ℕ) (shape : Shape)
       let present = w.present id v at work in let size : ℕ = word_count shape in let o : Opening = opening_with shape w.members in
       let clear : (i < w.base) ⊎ (w.base + size ≤ i) = subst (λ (z : ℕ × Shape). (i < z.0) ⊎ (z.0 + word_count z.1 ≤ i)) (λ k. (w.placed id v at work k, (w.remembers id v at live).shaped k)) apart in
       let t : St = table_in w.era w.base size s in let here = stands_now face shape s id v at w present in
-      let kept = stands face o t w.kept id v here u (record { back = λ a h p. (h, p, refl, refl); forth = λ a h p. (h, p, refl, refl); spare = refl }) (more_known o t.words (set v.whole i x) w.kept.fate w.kept.book v (w.kept.each_view id v here)) 0 in
+      let kept = stands face o t w.kept id v here u (record { back = λ a h p. (h, p, refl, refl); forth = λ a h p. (h, p, refl, refl); spare = refl }) (more_known o t.words (set v.whole i x) w.kept.fate w.kept.gone w.kept.book v (w.kept.each_view id v here)) 0 in
       let part : set t.words 0 (get_or t.words 0 0) ≡ table_part w.base size (set s.words i x) = set-get_or t.words 0 0 ∙ sym (part_apart w.base size i x s.words clear) in (
         u,
         keeps,

@@ -12,6 +12,7 @@ use Rattle.aug_core.specs.Rule.{HoldsLane, Knows, Kept, no_beginning}
 use Rattle.aug_core.specs.Effects.{handing_out, handed_out}
 use Rattle.aug_core.specs.declared.view.Held.{Held}
 use Rattle.aug_core.specs.declared.view.SeatView.{SeatView}
+use Rattle.aug_core.proofs.Keeping.{reserves_same, keeps_as, keeps_none}
 use Rattle.aug_core.proofs.Moves.{St}
 use Rattle.aug_core.proofs.Books.{snoc_at}
 use Rattle.aug_core.proofs.Views.{now_there, stays_there, apart_on}
@@ -27,7 +28,7 @@ module _ (face : ℕ → ℕ → List (ℕ × ℕ) → List ℕ) (o : Opening) (
   fresh = new_lane o.shape v.words n
 
   abbrev newer : SeatView
-  newer = record { live = v.live; era = v.era; past = v.past; shape = v.shape; base = v.base; members = v.members; seen = v.seen; also = []; told = None; held = fresh ∷ []; spare = None; reads = false; lent = []; words = []; whole = []; began = no_beginning; steps = [] }
+  newer = record { live = v.live; era = v.era; past = v.past; shape = v.shape; base = v.base; members = v.members; seen = v.seen; also = []; told = None; held = fresh ∷ []; spare = None; reads = false; lent = []; words = []; whole = []; reserved = None; reached = v.reached; began = no_beginning; steps = [] }
 
   abbrev views : List SeatView
   views = set s.views id (handing_out v) ++ newer ∷ []
@@ -85,11 +86,12 @@ module _ (face : ℕ → ℕ → List (ℕ × ℕ) → List ℕ) (o : Opening) (
     book = r.book;
     tree = r.tree;
     fate = r.fate;
-    fates = r.fates;
+    gone = r.gone;
+    records = r.records;
     states = r.states;
     each_view = λ j u p. ⊎_elim
         (λ q. ⊎_elim
-        (λ t. subst (Knows o s.words r.fate r.book) t.1 record {
+        (λ t. subst (Knows o s.words r.fate r.gone r.book) t.1 record {
           shaped = kn.shaped;
           same_members = kn.same_members;
           saw = kn.saw;
@@ -97,9 +99,10 @@ module _ (face : ℕ → ℕ → List (ℕ × ℕ) → List ℕ) (o : Opening) (
           fresh = kn.fresh;
           holds = kn.holds;
           spares = λ m lane e le low. let same : Some (n + 1) ≡ Some m = ap (option_map (λ k. k + 1)) (sym spare) ∙ e in let is : n + 1 ≡ m = cc same in kn.spares n lane spare (omega arith) low;
+          records = keeps_as o.shape s.words r.fate r.gone r.book v (handing_out v) (reserves_same v (handing_out v) refl refl refl) kn.records;
         })
         (λ t. r.each_view j u t.1) (at_set s.views id j (handing_out v) u q))
-        (λ t. subst (Knows o s.words r.fate r.book) t.1 record {
+        (λ t. subst (Knows o s.words r.fate r.gone r.book) t.1 record {
           shaped = kn.shaped;
           same_members = kn.same_members;
           saw = kn.saw;
@@ -107,6 +110,7 @@ module _ (face : ℕ → ℕ → List (ℕ × ℕ) → List ℕ) (o : Opening) (
           fresh = kn.fresh;
           holds = λ a h q. subst (HoldsLane o.shape s.words r.fate) (alone fresh h a q).1 holds_new;
           spares = λ m lane e le low. let clash : None ≡ Some m = e in cc;
+          records = keeps_none o.shape s.words r.fate r.gone r.book newer refl kn.records.reached (λ a h c p l. some-ne-none c (sym (subst (λ (z : Held). get_elem? z.replaced l.0 ≡ some c) (sym (alone fresh h a p).1) l.1)));
         }) (snoc_at (set s.views id (handing_out v)) newer u j p);
     apart = apart_on s.views views (λ i a j b. (i ≡ j) × (a ≡ b)) (λ i a h. (i ≡ last) × (a ≡ 0) × (n ≡ h.lane)) r.apart record {
       came = λ i a x h p q. ⊎_elim
@@ -140,6 +144,6 @@ module _ (face : ℕ → ℕ → List (ℕ × ℕ) → List ℕ) (o : Opening) w
   pub splits_seat : (id n : ℕ) (v : SeatView) → v.live ≡ true → v.spare ≡ Some n → n < v.shape.workers → Splits (Kept face o) id v (handing_out v) (handed_out v)
   splits_seat id n v live spare room s r at =
       let shaped : v.shape ≡ o.shape = (r.each_view id v at).shaped live in
-      subst (λ (z : Held). Kept face o record { words = s.words; homes = s.homes; views = set s.views id (handing_out v) ++ record { live = v.live; era = v.era; past = v.past; shape = v.shape; base = v.base; members = v.members; seen = v.seen; also = []; told = None; held = z ∷ []; spare = None; reads = false; lent = []; words = []; whole = []; began = no_beginning; steps = [] } ∷ [] })
+      subst (λ (z : Held). Kept face o record { words = s.words; homes = s.homes; views = set s.views id (handing_out v) ++ record { live = v.live; era = v.era; past = v.past; shape = v.shape; base = v.base; members = v.members; seen = v.seen; also = []; told = None; held = z ∷ []; spare = None; reads = false; lent = []; words = []; whole = []; reserved = None; reached = v.reached; began = no_beginning; steps = [] } ∷ [] })
       (λ i. new_lane (sym shaped i) v.words (unwrap_or (sym spare i) 0))
       (hands_out face o s r id v at live n spare (subst (λ (z : Shape). n < z.workers) shaped room))

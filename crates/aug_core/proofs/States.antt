@@ -6,7 +6,7 @@ use prog.Atomic.{either}
 use Rattle.atomic_table.specs.Table.{Act, Valid, carried_after, step, keeps, stepped, Allows}
 use Rattle.atomic_table.proofs.Lists.{exchanged}
 use Rattle.aug_core.specs.Places.{Shape, lane_place, record_start}
-use Rattle.aug_core.specs.Lanes.{word_of_state}
+use Rattle.aug_core.specs.Lanes.{unborn, word_of_state}
 use Rattle.aug_core.specs.Opening.{Opening}
 use Rattle.aug_core.specs.Rule.{HoldsLane, Kept}
 use Rattle.aug_core.specs.Kinds.{take_lane, finish_lane}
@@ -18,8 +18,9 @@ use Rattle.aug_core.specs.declared.view.Held.{Held}
 use Rattle.aug_core.specs.declared.view.LaneState.{LaneState}
 use Rattle.aug_core.specs.declared.view.LaneState.TheVariants.{Taken, Ended, Free}
 use Rattle.aug_core.specs.declared.view.SeatView.{SeatView}
-use Rattle.aug_core.proofs.Moves.{St, IsOwnWord, own_moves, moves_on, knows_keeping}
-use Rattle.aug_core.proofs.Stores.{alone, one_lane}
+use Rattle.aug_core.proofs.Keeping.{keeps_as, view_on}
+use Rattle.aug_core.proofs.Moves.{St, IsOwnWord, own_leaves, own_slots, own_moves, moves_on, knows_keeping}
+use Rattle.aug_core.proofs.Stores.{alone, one_lane, one_reserves}
 use Rattle.aug_core.proofs.ReaderCounts.{still_works}
 
 module _ (face : ℕ → ℕ → List (ℕ × ℕ) → List ℕ) (o : Opening) where
@@ -42,8 +43,8 @@ module _ (face : ℕ → ℕ → List (ℕ × ℕ) → List ℕ) (o : Opening) w
     pub found_state : get_or s.words place 0 ≡ word_of_state h.state
     found_state = mine.state
 
-    own : IsOwnWord face o s r id v at 0 h held place (word_of_state state)
-    own = let low = mine.exists in record { past_nodes = λ q low is. omega arith; past_lanes = λ m low other is. other (omega arith); past_records = λ number k small other is. omega arith }
+    own : IsOwnWord face o s r id v at 0 h held (unborn o.shape) refl place (word_of_state state)
+    own = let low = mine.exists in record { past_nodes = λ q low is. omega arith; past_lanes = λ m low other is. other (omega arith); past_records = λ number k small other is. omega arith; before_era = omega arith }
 
     stays : (j : ℕ) → j ≢ place → get_or after j 0 ≡ get_or s.words j 0
     stays j ne = get_or-set_other s.words place j (word_of_state state) 0 ne
@@ -52,13 +53,15 @@ module _ (face : ℕ → ℕ → List (ℕ × ℕ) → List ℕ) (o : Opening) w
     now = let low = mine.exists in let wide = r.tree.wide in get_or-set_same s.words place (word_of_state state) 0 (omega arith)
 
     pub restates : Kept face o record { words = after; homes = s.homes; views = set s.views id record v { held = lane' ∷ []; steps = steps } }
-    restates = let low = mine.exists in let moved = own_moves face o s r id v at 0 h held place (word_of_state state) own (word_of_state state) now some_state last_state in
-        moves_on face o s r id v after r.book r.fate moved at record v { held = lane' ∷ []; steps = steps } (one_lane v h lane' v.seen steps only refl refl)
-        (knows_keeping face o s r id v after r.book r.fate moved at (lane' ∷ []) steps (λ a g p. subst (HoldsLane o.shape after r.fate) (alone lane' g a p).1 record {
+    restates = let low = mine.exists in let moved = own_moves face o s r id v at 0 h held (unborn o.shape) refl place (word_of_state state) own (word_of_state state) now some_state last_state in
+        moves_on face o s r id v after r.book r.fate r.gone moved at record v { held = lane' ∷ []; steps = steps } (one_lane v h lane' v.seen steps only refl refl)
+        (knows_keeping face o s r id v after r.book r.fate r.gone moved at (lane' ∷ []) v.reserved v.reached steps (λ a g p. subst (HoldsLane o.shape after r.fate) (alone lane' g a p).1 record {
           exists = mine.exists;
           state = now;
           owns = λ x t. let old = mine.owns x t in record { exists = old.exists; long = old.long; exact = λ k small. stays (record_start o.shape x.number + k) (λ is. omega arith) ∙ old.exact k small; fate_is = old.fate_is };
-        })) (λ key low'. refl)
+        })
+        (keeps_as o.shape after r.fate r.gone r.book v record v { held = lane' ∷ []; steps = steps } (one_reserves v h lane' v.seen steps only refl refl)
+        (view_on o.shape s.words r.fate r.gone r.book after r.fate r.book (own_leaves face o s r id v at 0 h held (unborn o.shape) refl place (word_of_state state) own) (own_slots face o s r id v at 0 h held (unborn o.shape) refl place (word_of_state state) own) v (r.each_view id v at).records))) (λ key low'. refl)
 
   -- what a seat does where it found a word i, which becomes x
   abbrev pub Did : St → ℕ → ℕ → Sat → (ℕ → Sat → Type 0) → ℕ → Type 0

@@ -8,7 +8,8 @@ use lib.ListN.{get_elem?}
 use Rattle.atomic_table.specs.Table.{State}
 use Rattle.aug_core.specs.Places.{Shape, word_count}
 use Rattle.aug_core.specs.Opening.{Opening}
-use Rattle.aug_core.specs.Rule.{Lists, Kept}
+use Rattle.aug_core.specs.Rule.{Kept}
+use Rattle.aug_core.specs.Records.{Lists}
 use Rattle.aug_core.specs.Effects.{spent}
 use Rattle.aug_core.specs.Readers.{AreLent, ReadsOn}
 use Rattle.aug_core.specs.Pasts.{IsEarlier, IsLearnt}

@@ -10,8 +10,10 @@ pub mod Book
 pub mod Opening
 pub mod Kinds
 pub mod Counts
+pub mod Records
 pub mod Rule
 pub mod Effects
+pub mod Reclaiming
 pub mod Readers
 pub mod Pasts
 pub mod Eras

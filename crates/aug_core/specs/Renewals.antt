@@ -1,7 +1,7 @@
 -- What the steps show by which a table is renewed, and what the view is after them. A lead stores and loads any words beside the part at work (`rewrote`,
 -- `reread`). If it holds all lanes which it handed out (`HoldsAll`), and the words of another part are those of an opening (`IsOpened`), a load opens the
 -- table there, over the members of that opening, and shows the era's last book (`reopened`). A survey shows what a table comes to that stays at work.
-use Rattle.std.specs.Prelude.{◌≡◌, ℕ, ◌+◌, ◌<◌, ◌≤◌, true, false, List, [], ◌∷◌, ◌++◌, length, slice_index, slice_set, All, Some, None}
+use Rattle.std.specs.Prelude.{◌≡◌, ◌⊎◌, ℕ, ◌^◌, ◌+◌, ◌<◌, ◌≤◌, true, false, List, [], ◌∷◌, ◌++◌, length, slice_index, slice_set, All, Some, None}
 use mathlib.Core.Option.{some}
 use lib.ListN.{get_elem?}
 use Rattle.atomic_table.specs.Table.{State, Step}
@@ -35,6 +35,8 @@ renewing v whole = record v {
   spare = None;
   reads = false;
   whole = whole;
+  reserved = None;
+  reached = 0;
   began = no_beginning;
   steps = [];
 }
@@ -75,6 +77,8 @@ module _ (face : ℕ → ℕ → List (ℕ × ℕ) → List ℕ) where
     pub key_set : IsKeySet o.shape.bits (keys_of o.members)
     pub members_fit : All FitsPair o.members
     pub few : length (keys_of o.members) ≤ o.shape.members
+    -- where records are used again, each node has one of its own
+    pub room : (o.shape.reservations ≡ 0) ⊎ (2 ^ o.shape.bits ≤ o.shape.members)
     pub wide : length words ≡ word_count o.shape
     pub named : (q : ℕ) → q < place_count o.shape → slice_index words q ≡ opening_number o q
     pub records : (q k : ℕ) → IsInner o.shape q → k < record_words → slice_index words (record_start o.shape (opening_number o q) + k) ≡ slice_index (opening_words face o q) k
@@ -100,6 +104,8 @@ module _ (face : ℕ → ℕ → List (ℕ × ℕ) → List ℕ) where
     lent = v.lent;
     words = table_part base (word_count v.shape) v.whole;
     whole = v.whole;
+    reserved = None;
+    reached = 0;
     began = no_beginning;
     steps = [];
   }

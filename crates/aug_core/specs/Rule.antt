@@ -16,30 +16,10 @@ use Rattle.aug_core.specs.declared.view.Beginning.{Beginning}
 use Rattle.aug_core.specs.declared.view.Entry.{Entry}
 use Rattle.aug_core.specs.declared.view.Held.{Held}
 use Rattle.aug_core.specs.declared.view.LaneState.TheVariants.{Ended}
+use Rattle.aug_core.specs.Records.{Lists, HasWords, Fate, OwnsRecord, KeepsView, KeepsRecords}
 use Rattle.aug_core.specs.declared.view.Owned.{Owned}
 use Rattle.aug_core.specs.declared.opening.TableKey.{TableKey}
 use Rattle.aug_core.specs.declared.view.SeatView.{SeatView}
-
--- it stands in the list
-abbrev pub Lists : {A : Type 0} → List A → A → Type 0
-Lists {A} list x = (i : ℕ) × (get_elem? list i ≡ some x)
-
--- what became of a record: it is an opening record; it stands in the history of a node, at an index; or a lane owns it
-pub data Fate : Type 0 where
-  at_opening : Fate
-  standing : ℕ → ℕ → Fate
-  owned_by : ℕ → Fate
-
--- a record of this fate stands in the history of the word q at the index i. An opening record does so as the first entry of any node
-abbrev pub StandsAs : Fate → ℕ → ℕ → Type 0
-StandsAs f q i = (f ≡ standing q i) ⊎ ((f ≡ at_opening) × (i ≡ 0))
-
--- each record has one fate
-pub record HaveFates (s : Shape) (fate : ℕ → Fate) (book : Book) : Type 0 where
-  -- the opening records are those with the lowest numbers
-  pub opened : (number : ℕ) → number < opening_count s → fate number ≡ at_opening
-  -- what the book says of an inner node stands there
-  pub entries : (q i : ℕ) (e : Entry) → IsInner s q → At book q i e → StandsAs (fate e.number) q i
 
 -- the word of a leaf or a node is the one that names its newest entry, which is not passed over
 pub record NamesNewest (words : List ℕ) (book : Book) (q : ℕ) : Type 0 where
@@ -48,17 +28,6 @@ pub record NamesNewest (words : List ℕ) (book : Book) (q : ℕ) : Type 0 where
   pub newest : IsNewest book q index entry
   pub word : slice_index words q ≡ entry.word
   pub shown : entry.passed ≡ false
-
--- the words of a record
-abbrev pub HasWords : Shape → List ℕ → ℕ → List ℕ → Type 0
-HasWords s words number of = (k : ℕ) → k < record_words → slice_index words (record_start s number + k) ≡ slice_index of k
-
--- what holds for a record that a lane owns: the table has it, with these words, and it is that lane's alone
-pub record OwnsRecord (s : Shape) (words : List ℕ) (fate : ℕ → Fate) (lane : ℕ) (x : Owned) : Type 0 where
-  pub exists : x.number < record_count s
-  pub long : length x.words ≡ record_words
-  pub exact : HasWords s words x.number x.words
-  pub fate_is : fate x.number ≡ owned_by lane
 
 -- what holds for a lane that a view holds
 pub record HoldsLane (s : Shape) (words : List ℕ) (fate : ℕ → Fate) (h : Held) : Type 0 where
@@ -70,7 +39,7 @@ pub record HoldsLane (s : Shape) (words : List ℕ) (fate : ℕ → Fate) (h : H
   pub owns : (x : Owned) → Lists h.owned x → OwnsRecord s words fate h.lane x
 
 -- what holds for each view
-pub record Knows (o : Opening) (words : List ℕ) (fate : ℕ → Fate) (book : Book) (v : SeatView) : Type 0 where
+pub record Knows (o : Opening) (words : List ℕ) (fate : ℕ → Fate) (gone : ℕ → ℕ) (book : Book) (v : SeatView) : Type 0 where
   -- a view of a seat that was not joined knows how the table is laid out
   pub shaped : v.live ≡ true → v.shape ≡ o.shape
   -- and which keys it opened with
@@ -85,8 +54,10 @@ pub record Knows (o : Opening) (words : List ℕ) (fate : ℕ → Fate) (book : 
   pub holds : (a : ℕ) (h : Held) → get_elem? v.held a ≡ some h → HoldsLane o.shape words fate h
   -- the lanes that it may still hand out are free, and their records hold what they held when it opened the table
   pub spares : (n lane : ℕ) → v.spare ≡ Some n → n ≤ lane → lane < o.shape.workers → HoldsLane o.shape words fate (new_lane o.shape v.words lane)
+  -- what it reserved and replaced is there
+  pub records : KeepsView o.shape words fate gone book v
 
--- the words of the leaves, of the nodes and of the published records are as the book says
+-- the words of the leaves and of the nodes are as the book says
 pub record KeepsTree (face : ℕ → ℕ → List (ℕ × ℕ) → List ℕ) (o : Opening) (words : List ℕ) (book : Book) : Type 0 where
   -- the table has its words
   pub wide : length words ≡ word_count o.shape
@@ -95,12 +66,10 @@ pub record KeepsTree (face : ℕ → ℕ → List (ℕ × ℕ) → List ℕ) (o 
   pub opened : ArePrefixes (opening_book face o) book
   -- the word of a leaf or a node is the one that names its newest entry
   pub newest : (q : ℕ) → q < place_count o.shape → NamesNewest words book q
-  -- the words of a record that stands are those of its entry
-  pub written : (q i : ℕ) (e : Entry) → IsInner o.shape q → At book q i e → HasWords o.shape words e.number e.words
-  -- the words of a level's empty record are `shared_words`, even if no node opens with it
-  pub shared : (level : ℕ) → level < o.shape.bits → HasWords o.shape words level (shared_words face level)
-  -- the words of an own opening record that no node opens with are zeros
-  pub idle : (number k : ℕ) → IsIdle o number → k < record_words → slice_index words (record_start o.shape number + k) ≡ 0
+  -- where no record is used again, the words of a level's empty record are `shared_words`, even if no node opens with it
+  pub shared : o.shape.reservations ≡ 0 → (level : ℕ) → level < o.shape.bits → HasWords o.shape words level (shared_words face level)
+  -- and the words of an own opening record that no node opens with are zeros
+  pub idle : o.shape.reservations ≡ 0 → (number k : ℕ) → IsIdle o number → k < record_words → slice_index words (record_start o.shape number + k) ≡ 0
 
 -- which view holds which lane
 pub record AreApart (views : List SeatView) : Type 0 where
@@ -124,13 +93,14 @@ pub record Kept (face : ℕ → ℕ → List (ℕ × ℕ) → List ℕ) (o : Ope
   pub book : Book
   -- the words of the tree are as the book says
   pub tree : KeepsTree face o s.words book
-  -- each record has one fate
+  -- each record has one fate, and what somebody may read is there
   pub fate : ℕ → Fate
-  pub fates : HaveFates o.shape fate book
+  pub gone : ℕ → ℕ
+  pub records : KeepsRecords o.shape s.words fate gone book
   -- a lane is free, taken or ended
   pub states : (lane : ℕ) → lane < o.shape.workers → slice_index s.words (lane_place o.shape lane) ≤ word_of_state Ended
   -- each view is right
-  pub each_view : (j : ℕ) (v : SeatView) → get_elem? s.views j ≡ some v → Knows o s.words fate book v
+  pub each_view : (j : ℕ) (v : SeatView) → get_elem? s.views j ≡ some v → Knows o s.words fate gone book v
   -- no two of them hold one lane
   pub apart : AreApart s.views
   -- all changes are counted
@@ -142,4 +112,4 @@ no_beginning = record { seen = []; steps = []; changes = [] }
 
 -- the view of the first seat, which hands all lanes out
 abbrev pub newcomer : (ℕ → ℕ → List (ℕ × ℕ) → List ℕ) → TableKey → SeatView
-newcomer face k = record { live = true; era = 0; past = []; shape = k.opening.shape; base = 0; members = k.opening.members; seen = opening_book face k.opening; also = []; told = None; held = []; spare = Some 0; reads = false; lent = []; words = []; whole = replicate k.words 0; began = no_beginning; steps = [] }
+newcomer face k = record { live = true; era = 0; past = []; shape = k.opening.shape; base = 0; members = k.opening.members; seen = opening_book face k.opening; also = []; told = None; held = []; spare = Some 0; reads = false; lent = []; words = []; reserved = None; reached = 0; whole = replicate k.words 0; began = no_beginning; steps = [] }

@@ -4,6 +4,8 @@ pub mod EntryCuts
 pub mod EraSteps
 pub mod LaneStates
 pub mod LayoutState
+pub mod OwnNumbers
+pub mod Reclaims
 pub mod Refreshes
 pub mod RootCuts
 pub mod Shows

@@ -1,5 +1,6 @@
 //! What each step shows. These types are only for the proofs.
 ghost use Rattle.aug_core.specs.Effects.{in_part, read_record, stored_record, took_lane, finished_lane, handing_out, handed_out, taking_back, noting, noted, spent, loaded_leaf, began_at_leaf, tried_leaf, loaded_node, tried_node};
+ghost use Rattle.aug_core.specs.Reclaiming.{loaded_era, turned_era, reserved_era, released_era, retired, scanned};
 ghost use Rattle.aug_core.specs.Readers.{lending, reader_of, taking_reader};
 ghost use Rattle.aug_core.specs.Learning.{learning, loaded_after_note};
 ghost use Rattle.aug_core.specs.Renewals.{rewrote, reread, surveyed, reopened};
@@ -176,4 +177,46 @@ pub struct OpenAgain<A, B> {
 
 impl<A: Monoid, B: Monoid> Play<(), SeatView> for OpenAgain<A, B> {
     ghost then = { reopened (face A.parts B.parts) };
+}
+
+/// A load of the era, in a table that uses records again.
+pub struct LoadEra;
+
+impl Play<(), SeatView> for LoadEra {
+    ghost then = { in_part loaded_era };
+}
+
+/// A compare-exchange of the era, to the next.
+pub struct TurnEra;
+
+impl Play<(), SeatView> for TurnEra {
+    ghost then = { in_part turned_era };
+}
+
+/// A store of an era that was reached as the own reservation.
+pub struct ReserveEra;
+
+impl Play<(), SeatView> for ReserveEra {
+    ghost then = { in_part reserved_era };
+}
+
+/// A store of 0 as the own reservation.
+pub struct ReleaseEra;
+
+impl Play<(), SeatView> for ReleaseEra {
+    ghost then = { in_part released_era };
+}
+
+/// A load of the era by which the seat comes to own what it replaced, once the root shows later entries.
+pub struct RetireReplaced;
+
+impl Play<(), SeatView> for RetireReplaced {
+    ghost then = { in_part retired };
+}
+
+/// A load of a reservation, by which the seat passes those of its own records that this one does not hold.
+pub struct PassReservation;
+
+impl Play<(), SeatView> for PassReservation {
+    ghost then = { in_part scanned };
 }

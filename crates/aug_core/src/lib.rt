@@ -12,8 +12,9 @@ mod view;
 
 pub use effects::{
     BeginAtLeaf, FinishOwnLane, HandOut, Lend, LoadAfterNote, LoadAnyLeaf, LoadAnyNode,
-    LoadAnyRecord, LoadAnyWord, MakeNote, OpenAgain, StoreAnyWord, StoreOwnRecord, Survey,
-    TakeBack, TakeNote, TakeOwnLane, TakeReader, TryAnyLeaf, TryAnyNode,
+    LoadAnyRecord, LoadAnyWord, LoadEra, MakeNote, OpenAgain, PassReservation, ReleaseEra,
+    ReserveEra, RetireReplaced, StoreAnyWord, StoreOwnRecord, Survey, TakeBack, TakeNote,
+    TakeOwnLane, TakeReader, TryAnyLeaf, TryAnyNode, TurnEra,
 };
 pub use field::{RECORD_WORDS, RecordField};
 pub use lane::{LANE_ENDED, LANE_FREE, LANE_TAKEN};

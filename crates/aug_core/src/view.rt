@@ -21,6 +21,10 @@ pub struct Entry {
     pub weight: u64,
     /// Whether the leaf went past this serial in the very step that brought it, so that no word ever named it.
     pub passed: bool,
+    /// The era in which the record was made; 0 where no record is used again, and for a leaf.
+    pub birth: u64,
+    /// The lane from which it was published; 0 at the opening, and for a leaf.
+    pub maker: u64,
     /// The members below, rising, each with its weight.
     pub pairs: LinkedList<(u64, u64)>,
     /// The record's words.
@@ -55,10 +59,40 @@ pub enum LaneState {
     Ended,
 }
 
-/// A record that a lane owns: no node names it, and only the lane's holder writes it.
+/// How the record of an entry came to be used again: when it was made, and when its last reader can have reserved it.
+pub struct Life {
+    /// The era in which it was made.
+    pub birth: u64,
+    /// The era that was found once the root showed a later entry.
+    pub death: u64,
+    /// How many reservations were found since, from the first one on, that do not hold it.
+    pub scanned: u64,
+}
+
+/// A record that a lane owns: no node names it, and only the lane's holder writes it, once all reservations were found not to hold it.
 pub struct Owned {
     pub number: u64,
     pub words: LinkedList<u64>,
+    pub life: Life,
+}
+
+/// An entry of an inner node that a lane's holder replaced, and whose record it will own once the root shows a later one.
+pub struct Replaced {
+    pub place: u64,
+    pub index: u64,
+    pub number: u64,
+    pub birth: u64,
+    pub words: LinkedList<u64>,
+}
+
+/// What a seat reserved: while it stands, no record is written that the seat may read.
+pub struct Reserved {
+    /// The place of the reservation among all: the lane of the seat.
+    pub slot: u64,
+    /// The era that was reserved.
+    pub era: u64,
+    /// For each leaf and inner node, the first of its entries whose records are held, of those that were made by then.
+    pub floors: LinkedList<u64>,
 }
 
 /// A lane that a view holds.
@@ -68,6 +102,8 @@ pub struct Held {
     pub state: LaneState,
     /// The records that it owns.
     pub owned: LinkedList<Owned>,
+    /// The entries that were replaced from it, and whose records it does not own yet.
+    pub replaced: LinkedList<Replaced>,
     /// The changes that were accepted from the lane's holder, the newest last.
     pub changes: LinkedList<Change>,
 }
@@ -136,6 +172,10 @@ pub struct SeatView {
     pub words: LinkedList<u64>,
     /// The words of the whole table, as they are now but for those of the part at work, while the seat hands lanes out.
     pub whole: LinkedList<u64>,
+    /// What it reserved, in a table that uses records again.
+    pub reserved: Option<Reserved>,
+    /// An era that the table has reached.
+    pub reached: u64,
     /// The beginning of the update that the seat is in, or was in last.
     pub began: Beginning,
     /// The seat's steps, the last one last.

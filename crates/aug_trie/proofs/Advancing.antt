@@ -298,7 +298,7 @@ module _ {A B : Type 0} (parts_a : Parts A) (parts_b : Parts B) (v : SeatView) (
     room_told = room_on f [] v held.told number 1 g_told t.room
 
     pub may_try : IsFilled f old q r.from number
-    may_try = subst (λ (z : SeatView). IsFilled f z q r.from number) (sym is_full) (may_publish f held.told number r.five room_told q r.from held.says)
+    may_try = subst (λ (z : SeatView). IsFilled f z q r.from number) (sym is_full) (may_publish f held.told number r.five room_told q r.from g_told.knows_table.laid_out.keeps_records held.says)
 
     -- and the node's word exchanged, or not
     pub try_over : (w : SeatView) (found : ℕ) (done : Bool) → (IsTrue done ↔ (found ≡ r.from)) → TriesNode f old q r.from number found w → TryOver f v q number done w

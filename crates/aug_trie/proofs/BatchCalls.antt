@@ -48,7 +48,7 @@ abbrev blank : SeatView → SeatView
 blank v = record v { held = [] }
 
 abbrev made_alone : SeatView → List Change → SeatView
-made_alone v made = record v { held = record { lane = 0; state = Free; owned = []; changes = made } ∷ [] }
+made_alone v made = record v { held = record { lane = 0; state = Free; owned = []; replaced = []; changes = made } ∷ [] }
 
 module _ (f : ℕ → ℕ → List (ℕ × ℕ) → List ℕ) where
   -- between two views one update's changes may be seen alone

@@ -32,7 +32,7 @@ use Rattle.aug_trie.specs.Pass.{PassFacts}
 use Rattle.aug_trie.specs.inside.PassState.{IsPass, pass_facts}
 use Rattle.aug_trie.specs.inside.CrewState.{IsCrew, crew_facts, HoldsCrew}
 use Rattle.aug_trie.specs.Round.{TableFacts, table_of}
-use Rattle.aug_trie.specs.inside.RoundState.{round_of, facts_of, eras_of, past_rounds}
+use Rattle.aug_trie.specs.inside.RoundState.{KeepsLayout, round_of, facts_of, eras_of, past_rounds}
 use Rattle.aug_trie.specs.Passes.{HandedBack}
 use Rattle.aug_trie.specs.Knowledge.{inserts_of, removals_of}
 use Rattle.aug_trie.specs.Crew.{CrewFacts, HandsOut, TakesBack}
@@ -133,11 +133,11 @@ module _ (face : ℕ → ℕ → List (ℕ × ℕ) → List ℕ) where
     pub hands_out : HandsOut now (crew_facts lead free) (pass_facts pass updates)
 
   -- so it is after its words' call, if not all lanes of the round's table were handed out
-  pub pass_out : (store : Store) (old lead pass : Known) (s : Shape) (now : CrewFacts) (table : TableFacts) (lane workers shift : ℕ) {free : Bool} {back inserts removals bits next updates : ℕ} → crew_facts old free ≡ now → table_of now.round ≡ table → facts_of store ≡ table → s ≡ store.shape
+  pub pass_out : (store : Store) (old lead pass : Known) (s : Shape) (now : CrewFacts) (table : TableFacts) (lane workers shift : ℕ) {free : Bool} {back inserts removals bits next updates : ℕ} → crew_facts old free ≡ now → table_of now.round ≡ table → facts_of store ≡ table → KeepsLayout s store
       → HoldsCrew face old.view back inserts removals → old.view.spare ≡ Some lane → workers ≡ s.workers → lane ≢ workers → HandsLaneOut face old.view lead.view pass.view → lead.table ≡ old.table → pass.table ≡ old.table
       → shift ≡ s.bits → bits ≡ s.bits → next ≡ first_record s lane → next + lane_records s ≤ record_count s → updates ≡ s.updates → PassOut now lead pass free back inserts removals (1 * 2 ^ shift % 18446744073709551616) bits next updates
   pass_out store old lead pass s now table lane workers shift {free} {back} {inserts} {removals} {bits} {next} {updates} is one store_is shape holds spare workers_are other h lead_table pass_table shift_is bits_are first within updates_are =
-      let v : SeatView = old.view in let place : ℕ = own_lane_place (handed_out h.between) in let leaves : ℕ = 1 * 2 ^ shift % 18446744073709551616 in let shaped : v.shape ≡ s = (of_round store old now table is one store_is).one_shape ∙ sym shape in
+      let v : SeatView = old.view in let place : ℕ = own_lane_place (handed_out h.between) in let leaves : ℕ = 1 * 2 ^ shift % 18446744073709551616 in let shaped : v.shape ≡ s = (of_round store old now table shape.keeps_records holds.is_crew.knows_table.laid_out.keeps_records is one store_is).one_shape ∙ sym shape.laid_out in
       let at : holds.handed ≡ lane = ap (λ (z : Option ℕ). unwrap_or z 0) (sym holds.is_crew.hands_out ∙ spare) in
       let low : holds.handed < v.shape.workers = let all : v.shape.workers ≡ s.workers = ap (λ (z : Shape). z.workers) shaped in let few = holds.few in omega arith in
       let most = (subst IsLayout shaped holds.is_crew.knows_table.laid_out).bits.1 in let full : leaves ≡ 2 ^ s.bits = one_shl shift 64 (omega arith) ∙ ap (λ (z : ℕ). 2 ^ z) shift_is in

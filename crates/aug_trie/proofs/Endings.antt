@@ -138,7 +138,7 @@ none_own bits (suc level) = let is = none_own bits level in omega arith
 
 -- a table of one worker with one update and no member can be laid out
 pub smallest : (bits : ℕ) → IsWithin 1 16 bits → IsLayout (shape_of bits 1 1 0)
-smallest bits within = let t = twice bits in let k = keys-within bits within.0 within.1 in let none = none_own bits bits in record { bits = within; workers = (omega arith, omega arith); updates = (omega arith, omega arith); words = omega arith }
+smallest bits within = let t = twice bits in let k = keys-within bits within.0 within.1 in let none = none_own bits bits in record { bits = within; workers = (omega arith, omega arith); updates = (omega arith, omega arith); words = omega arith; keeps_records = refl }
 
 pub no_keys : (bits : ℕ) → IsKeySet bits (keys_of [])
 no_keys bits = record { rising = λ k low. absurd (let e : k + 1 < 0 = low in omega arith); below = All-nil (λ k. k < 2 ^ bits) }

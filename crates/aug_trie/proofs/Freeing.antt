@@ -4,7 +4,7 @@ use mathlib.Core.Option.{some-injective, some-ne-none}
 use Rattle.atomic_table.specs.Seated.{TableId}
 use Rattle.aug_core.specs.Places.{Shape, word_count}
 use Rattle.aug_core.specs.Readers.{IsAside, taking_reader}
-use Rattle.aug_core.specs.Rule.{Lists}
+use Rattle.aug_core.specs.Records.{Lists}
 use Rattle.aug_core.specs.declared.view.SeatView.{SeatView}
 use Rattle.aug_core.proofs.ReaderCounts.{lists_without}
 use Rattle.aug_words.specs.Leads.{MayOpen}

@@ -7,12 +7,13 @@ use Rattle.aug_core.specs.Places.{Shape}
 use Rattle.aug_core.specs.Book.{ArePrefixes, IsFresh}
 use Rattle.aug_core.specs.Counts.{changes_of}
 use Rattle.aug_core.specs.Kinds.{store_record_word}
-use Rattle.aug_core.specs.Effects.{HoldsOnly, own_lane, on_first, storing_in, publishing_from, with_changes, stepping, storing, seeing, beginning, publishing, changing, KnowsTable, MayStore, MayChange, Sees}
+use Rattle.aug_core.specs.Effects.{HoldsOnly, own_lane, on_first, storing_in, last_replaced, publishing_from, with_changes, stepping, storing, seeing, beginning, publishing, changing, KnowsTable, MayStore, MayChange, Sees}
 use Rattle.aug_core.specs.declared.step.StepTaken.{StepTaken}
 use Rattle.aug_core.specs.declared.view.Change.{Change}
 use Rattle.aug_core.specs.declared.step.StepKind.{StepKind}
-use Rattle.aug_core.specs.declared.step.StepKind.TheVariants.{LoadLeaf, TryLeaf, LoadNode, TryNode, LoadRecordWord, StoreRecordWord, TakeLane, FinishLane}
+use Rattle.aug_core.specs.declared.step.StepKind.TheVariants.{LoadLeaf, TryLeaf, LoadNode, TryNode, LoadRecordWord, StoreRecordWord, TakeLane, FinishLane, LoadEra, TurnEra, LoadReservation, StoreReservation}
 use Rattle.aug_core.specs.declared.view.Held.{Held}
+use Rattle.aug_core.specs.declared.view.Replaced.{Replaced}
 use Rattle.aug_core.specs.declared.view.SeatView.{SeatView}
 use Rattle.aug_core.proofs.Books.{fresh_now, fresh_on}
 use Rattle.aug_core.proofs.Clients.{may_store_same, may_store_on, may_store_changing, may_store_publishing}
@@ -34,6 +35,10 @@ tries_leaf LoadRecordWord = false
 tries_leaf StoreRecordWord = false
 tries_leaf TakeLane = false
 tries_leaf FinishLane = false
+tries_leaf LoadEra = false
+tries_leaf TurnEra = false
+tries_leaf LoadReservation = false
+tries_leaf StoreReservation = false
 
 abbrev pub quiet : StepTaken → Type 0
 quiet taken = taken.kind ≢ TryLeaf
@@ -194,16 +199,16 @@ module _ (face : ℕ → ℕ → List (ℕ × ℕ) → List ℕ) where
   -- a view that published a record
   pub goes_publishing : (v w : SeatView) (number : ℕ) (taken : StepTaken) → w ≡ publishing v w.seen number taken → KnowsTable face v → Sees face v w → Goes face (number + 1) [] v w
   goes_publishing v w number taken is kn sees = let shaped : w.shape ≡ v.shape = ap (λ (z : SeatView). z.shape) is in let same : w.members ≡ v.members = ap (λ (z : SeatView). z.members) is in let era : eras_of w ≡ eras_of v = ap eras_of is in
-      let held : w.held ≡ on_first (publishing_from number) v.held = ap (λ (z : SeatView). z.held) is in record {
+      let mark : Replaced = last_replaced w.seen taken.place in let held : w.held ≡ on_first (publishing_from number mark) v.held = ap (λ (z : SeatView). z.held) is in record {
         later = sees.later;
         fresh = sees.fresh;
         knows_table = knows_shown face v w kn sees shaped same;
         shaped = shaped;
         same_members = same;
         same_eras = era;
-        lane = ap own_lane held ∙ own_lane_on (publishing_from number) v.held (λ h. refl);
-        changes = ap changes_of held ∙ changes_on (publishing_from number) v.held (λ h. refl) ∙ sym (append-nil (changes_of v.held));
-        holds = λ one. (publishing_from number one.0, held ∙ ap (on_first (publishing_from number)) one.1);
+        lane = ap own_lane held ∙ own_lane_on (publishing_from number mark) v.held (λ h. refl);
+        changes = ap changes_of held ∙ changes_on (publishing_from number mark) v.held (λ h. refl) ∙ sym (append-nil (changes_of v.held));
+        holds = λ one. (publishing_from number mark one.0, held ∙ ap (on_first (publishing_from number mark)) one.1);
         still_owned = λ n past may. may_store_publishing v w w.seen number n taken is (λ same. omega arith) may;
       }
 

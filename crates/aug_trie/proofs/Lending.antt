@@ -71,8 +71,8 @@ module _ (f : ℕ → ℕ → List (ℕ × ℕ) → List ℕ) where
   )
 
   -- they are those of its table
-  pub reader_together : (store : Store) (words : Option Known) (k : Known) (now : PassFacts) (table : TableFacts) → words ≡ Some k → pass_facts (known_in words) 0 ≡ now → table_of now.round ≡ table → facts_of store ≡ table → AreTogether store k
-  reader_together store words k now table there facts one store_is = at_table store k table (ap (λ (z : Option Known). table_of (pass_facts (known_in z) 0).round) (sym there) ∙ ap (λ (z : PassFacts). table_of z.round) facts ∙ one) store_is
+  pub reader_together : (store : Store) (words : Option Known) (k : Known) (now : PassFacts) (table : TableFacts) → store.shape.reservations ≡ 0 → k.view.shape.reservations ≡ 0 → words ≡ Some k → pass_facts (known_in words) 0 ≡ now → table_of now.round ≡ table → facts_of store ≡ table → AreTogether store k
+  reader_together store words k now table off off' there facts one store_is = at_table store k table off off' (ap (λ (z : Option Known). table_of (pass_facts (known_in z) 0).round) (sym there) ∙ ap (λ (z : PassFacts). table_of z.round) facts ∙ one) store_is
 
   -- a reader that looked is one still
   pub still_reader : (n : ℕ) (words : Option Known) (k new : Known) (bits : ℕ) (now : PassFacts) → HoldsReader f words bits → words ≡ Some k → pass_facts (known_in words) 0 ≡ now → Looks n k.view new.view → HoldsReader f (Some new) bits

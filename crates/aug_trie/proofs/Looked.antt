@@ -22,8 +22,8 @@ looks_one v w taken is = record { more = taken ∷ []; is = is; few = omega arit
 
 -- what was seen of a record is so still
 pub guards_looking : (most : ℕ) (v w : SeatView) (number : ℕ) → Looks most v w → GuardsRecord v number → GuardsRecord w number
-guards_looking most v w number l h = guards_same v w number (ap (λ (z : SeatView). z.shape) l.is) (ap (λ (z : SeatView). z.seen) l.is) h
+guards_looking most v w number l h = guards_same v w number (ap (λ (z : SeatView). z.shape) l.is) (ap (λ (z : SeatView). z.seen) l.is) (ap (λ (z : SeatView). z.reserved) l.is) h
 
 -- and what it says
 pub says_looking : (most : ℕ) (v w : SeatView) (number field r : ℕ) → Looks most v w → Says w number field r → Says v number field r
-says_looking most v w number field r l says = says_same v w number field r (ap (λ (z : SeatView). z.shape) l.is) (ap (λ (z : SeatView). z.seen) l.is) says
+says_looking most v w number field r l says = says_same v w number field r (ap (λ (z : SeatView). z.shape) l.is) (ap (λ (z : SeatView). z.seen) l.is) (ap (λ (z : SeatView). z.reserved) l.is) says

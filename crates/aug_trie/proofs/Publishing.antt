@@ -1,5 +1,5 @@
 -- A record of the own lane is filled and published.
-use Rattle.std.proofs.Common.{◌≡◌, ◌≢◌, ◌↔◌, ℕ, ◌+◌, Bool, true, false, IsTrue, List, [], get_or, sym, refl, ap, ◌∙◌, subst, ⊎_elim, arith}
+use Rattle.std.proofs.Common.{inl, ◌≡◌, ◌≢◌, ◌↔◌, ℕ, ◌+◌, Bool, true, false, IsTrue, List, [], get_or, sym, refl, ap, ◌∙◌, subst, ⊎_elim, arith}
 use Rattle.std.proofs.lemmas.Bool.{cases_eq, false≢true}
 use Rattle.aug_monoid.specs.Parts.{Parts}
 use Rattle.aug_core.specs.Addresses.{IsInner}
@@ -18,8 +18,8 @@ use Rattle.aug_trie.proofs.Going.{took_one, took_on, room_on, goes_on, goes_more
 module _ (face : ℕ → ℕ → List (ℕ × ℕ) → List ℕ) where
   module _ (v : SeatView) (number : ℕ) (five : List ℕ) (room : HasRoom v number 1) where
     -- a record that says what was loaded may be published
-    pub may_publish : (q old : ℕ) → SaysLoaded face v.shape v.seen q old five → IsFilled face (filled_view v number five) q old number
-    may_publish q old says = is_filled v number five (may_store_room v number room) face q old says
+    pub may_publish : (q old : ℕ) → v.shape.reservations ≡ 0 → SaysLoaded face v.shape v.seen q old five → IsFilled face (filled_view v number five) q old number
+    may_publish q old off says = is_filled v number five (may_store_room v number room) face q old says (inl off) (inl off) (inl off)
 
     -- what the try tells
     pub published : (w : SeatView) (q old found : ℕ) (done : Bool) → IsInner v.shape q → ((l r : ℕ) (pairs : List (ℕ × ℕ)) → get_or (face l r pairs) 0 0 ≡ l) → ((l r : ℕ) (pairs : List (ℕ × ℕ)) → get_or (face l r pairs) 1 0 ≡ r)
@@ -76,8 +76,8 @@ module _ {A B : Type 0} (parts_a : Parts A) (parts_b : Parts B) where
   -- the views after each of the five stores of the record
   module _ {v v1 v2 v3 v4 v5 : SeatView} {number : ℕ} (five : List ℕ) (room : HasRoom v number 1) (e1 : v1 ≡ put v number 0 (get_or five 0 0)) (e2 : v2 ≡ put v1 number 1 (get_or five 1 0)) (e3 : v3 ≡ put v2 number 2 (get_or five 2 0))
       (e4 : v4 ≡ put v3 number 3 (get_or five 3 0)) (e5 : v5 ≡ put v4 number 4 (get_or five 4 0)) where
-    pub may_publish_filled : {q old : ℕ} → SaysLoaded f v.shape v.seen q old five → IsFilled f v5 q old number
-    may_publish_filled {q} {old} says = subst (λ (z : SeatView). IsFilled f z q old number) (sym (filled_is v v1 v2 v3 v4 v5 number five e1 e2 e3 e4 e5)) (may_publish f v number five room q old says)
+    pub may_publish_filled : {q old : ℕ} → v.shape.reservations ≡ 0 → SaysLoaded f v.shape v.seen q old five → IsFilled f v5 q old number
+    may_publish_filled {q} {old} off says = subst (λ (z : SeatView). IsFilled f z q old number) (sym (filled_is v v1 v2 v3 v4 v5 number five e1 e2 e3 e4 e5)) (may_publish f v number five room q old off says)
 
     pub publishes : {q old : ℕ} {done : Bool} {w : SeatView} → IsInner v.shape q → Goes f 0 [] v v5 → TriedNode f v5 q old number done w → Publishes v w q old number (get_or five 0 0) (get_or five 1 0) done
     publishes {q} {old} {done} {w} inner g t =

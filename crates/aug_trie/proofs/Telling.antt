@@ -1,5 +1,5 @@
 -- What a child's part says, and what the words of two parts are.
-use Rattle.std.proofs.Common.{◌≡◌, ℕ, ◌+◌, ◌^◌, ◌<◌, ◌≤◌, List, [], ◌∷◌, ◌++◌, All, get_or, length-append, sym, ap, ◌∙◌, subst, arith}
+use Rattle.std.proofs.Common.{inl, ◌≡◌, ℕ, ◌+◌, ◌^◌, ◌<◌, ◌≤◌, List, [], ◌∷◌, ◌++◌, All, get_or, length-append, sym, ap, ◌∙◌, subst, arith}
 use Rattle.aug_monoid.specs.Parts.{Parts}
 use Rattle.aug_monoid.specs.inside.Laws.{IsMonoid}
 use Rattle.aug_monoid.specs.Weighted.{FitsPair}
@@ -20,14 +20,14 @@ use Rattle.aug_trie.proofs.Going.{goes_on, goes_stepping}
 
 -- a record that an entry of a node has may be read
 pub guards_named : (f : ℕ → ℕ → List (ℕ × ℕ) → List ℕ) (v : SeatView) (node number : ℕ) → KnowsTable f v → IsInner v.shape node → HasEntry v.seen node number → GuardsRecord v number
-guards_named f v node number kn inner n = record { place = node; index = n.index; entry = n.entry; guards = record { inner = inner; at = n.at }; numbered = sym (kn.book.named node n.index n.entry inner n.at) ∙ n.named }
+guards_named f v node number kn inner n = record { place = node; index = n.index; entry = n.entry; guards = record { inner = inner; at = n.at; covers = inl kn.laid_out.keeps_records }; numbered = sym (kn.book.named node n.index n.entry inner n.at) ∙ n.named }
 
 pub guards_on : (v w : SeatView) (taken : StepTaken) (number : ℕ) → w ≡ stepping v taken → GuardsRecord v number → GuardsRecord w number
-guards_on v w taken number is h = guards_same v w number (ap (λ (z : SeatView). z.shape) is) (ap (λ (z : SeatView). z.seen) is) h
+guards_on v w taken number is h = guards_same v w number (ap (λ (z : SeatView). z.shape) is) (ap (λ (z : SeatView). z.seen) is) (ap (λ (z : SeatView). z.reserved) is) h
 
 -- what a record says is the same after a step that shows nothing of the book
 pub says_before : (v w : SeatView) (taken : StepTaken) (number field r : ℕ) → w ≡ stepping v taken → Says w number field r → Says v number field r
-says_before v w taken number field r is says = says_same v w number field r (ap (λ (z : SeatView). z.shape) is) (ap (λ (z : SeatView). z.seen) is) says
+says_before v w taken number field r is says = says_same v w number field r (ap (λ (z : SeatView). z.shape) is) (ap (λ (z : SeatView). z.seen) is) (ap (λ (z : SeatView). z.reserved) is) says
 
 -- three steps that show nothing of the book
 pub goes_three : (f : ℕ → ℕ → List (ℕ × ℕ) → List ℕ) (v v1 v2 v3 : SeatView) (t1 t2 t3 : StepTaken) → KnowsTable f v → v1 ≡ stepping v t1 → v2 ≡ stepping v1 t2 → v3 ≡ stepping v2 t3 → Goes f 0 [] v v3
@@ -45,9 +45,9 @@ module _ {A B : Type 0} (parts_a : Parts A) (parts_b : Parts B) (laws_a : IsMono
   part_of_node v node word x y z few kn inner says_x says_y says_z = record {
     of = λ i e p is. let o = kn.book.over node i e inner p in let number : e.number ≡ word = sym (kn.book.named node i e inner p) ∙ is in
         let small = (are_small both v.shape v.seen kn.book few node i e inner.inside p).small in record {
-          count_is = says_x node i e (record { inner = inner; at = p }) number ∙ ap (λ (w : List ℕ). get_or w 2 0) o.words_say ∙ count_in parts_a parts_b _ _ e.pairs;
-          a_is = ap parts_a.from_word (says_y node i e (record { inner = inner; at = p }) number ∙ ap (λ (w : List ℕ). get_or w 3 0) o.words_say ∙ a_in parts_a parts_b _ _ e.pairs) ∙ of_word-fold_of laws_a e.pairs small;
-          b_is = ap parts_b.from_word (says_z node i e (record { inner = inner; at = p }) number ∙ ap (λ (w : List ℕ). get_or w 4 0) o.words_say ∙ b_in parts_a parts_b _ _ e.pairs) ∙ of_word-fold_of laws_b e.pairs small;
+          count_is = says_x node i e (record { inner = inner; at = p; covers = inl kn.laid_out.keeps_records }) number ∙ ap (λ (w : List ℕ). get_or w 2 0) o.words_say ∙ count_in parts_a parts_b _ _ e.pairs;
+          a_is = ap parts_a.from_word (says_y node i e (record { inner = inner; at = p; covers = inl kn.laid_out.keeps_records }) number ∙ ap (λ (w : List ℕ). get_or w 3 0) o.words_say ∙ a_in parts_a parts_b _ _ e.pairs) ∙ of_word-fold_of laws_a e.pairs small;
+          b_is = ap parts_b.from_word (says_z node i e (record { inner = inner; at = p; covers = inl kn.laid_out.keeps_records }) number ∙ ap (λ (w : List ℕ). get_or w 4 0) o.words_say ∙ b_in parts_a parts_b _ _ e.pairs) ∙ of_word-fold_of laws_b e.pairs small;
         };
   }
 

@@ -1,5 +1,5 @@
 -- From the root of a cut's tree down.
-use Rattle.std.proofs.Common.{◌≡◌, ℕ, zero, suc, ◌+◌, ◌*◌, ◌%◌, ◌^◌, ◌<◌, ◌≤◌, Bool, eqb, eq-eqb, if◌then◌else◌, Option, Some, None, unwrap_or, List, [], ◌∷◌, length, get_or, sym, refl, ap, ◌∙◌, subst, arith}
+use Rattle.std.proofs.Common.{inl, ◌≡◌, ℕ, zero, suc, ◌+◌, ◌*◌, ◌%◌, ◌^◌, ◌<◌, ◌≤◌, Bool, eqb, eq-eqb, if◌then◌else◌, Option, Some, None, unwrap_or, List, [], ◌∷◌, length, get_or, sym, refl, ap, ◌∙◌, subst, arith}
 use Rattle.aug_monoid.specs.Parts.{Parts}
 use Rattle.aug_monoid.specs.inside.Laws.{IsMonoid}
 use Rattle.aug_monoid.proofs.FoldLemmas.{of_word-fold_of}
@@ -72,7 +72,7 @@ module _ {A B : Type 0} (parts_a : Parts A) (parts_b : Parts B) where
       tells = is ∙ ap (summary_of parts_a parts_b) (part_pairs both v.shape v.seen b cut level place t.q t.index t.part);
     }
 
-    module _ (level place word : ℕ) (t : IsNodeAt v.shape v.seen cut (suc level) place word) where
+    module _ (off : v.shape.reservations ≡ 0) (level place word : ℕ) (t : IsNodeAt v.shape v.seen cut (suc level) place word) where
       abbrev entry : Entry
       entry = entry_of v.seen t.q t.index
 
@@ -87,10 +87,10 @@ module _ {A B : Type 0} (parts_a : Parts A) (parts_b : Parts B) where
 
       -- its record may be read
       pub node_guarded : GuardsRecord v word
-      node_guarded = record { place = t.q; index = t.index; entry = entry; guards = record { inner = inner; at = at }; numbered = numbered }
+      node_guarded = record { place = t.q; index = t.index; entry = entry; guards = record { inner = inner; at = at; covers = inl off }; numbered = numbered }
 
       pub read : (field r : ℕ) → Says v word field r → r ≡ get_or entry.words field 0
-      read field r says = says t.q t.index entry (record { inner = inner; at = at }) numbered
+      read field r says = says t.q t.index entry (record { inner = inner; at = at; covers = inl off }) numbered
 
       words : entry.words ≡ both (entry_of v.seen (left_of v.shape t.q) entry.left).word (entry_of v.seen (right_of v.shape t.q) entry.right).word (weighted_range_of (pairs_of_cut cut) (place * 2 ^ suc level) ((place + 1) * 2 ^ suc level))
       words = part_words both v.shape v.seen b cut level place t.q t.index t.part

@@ -7,7 +7,7 @@ use Rattle.atomic_table.specs.Seated.{TableId}
 use Rattle.aug_core.specs.Places.{word_count}
 use Rattle.aug_core.specs.Effects.{Sat, stepping}
 use Rattle.aug_core.specs.Readers.{IsAside, lending, taking_reader, times_in, without}
-use Rattle.aug_core.specs.Rule.{Lists}
+use Rattle.aug_core.specs.Records.{Lists}
 use Rattle.aug_core.specs.inside.ClearParts.{IsClearPart}
 use Rattle.aug_core.specs.declared.step.StepTaken.{StepTaken}
 use Rattle.aug_core.specs.declared.view.SeatView.{SeatView}

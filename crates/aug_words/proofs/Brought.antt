@@ -8,7 +8,8 @@ use Rattle.aug_core.specs.Lanes.{word_of_state}
 use Rattle.aug_core.specs.declared.view.LaneState.TheVariants.{Free}
 use Rattle.aug_core.proofs.Sizes.{twice}
 use Rattle.aug_words.specs.inside.Builds.{WritesFive}
-use Rattle.aug_words.specs.inside.Laying.{FreesLanes, LaysNode, next_record, next_word, own_number}
+use Rattle.aug_core.specs.inside.OwnNumbers.{own_number}
+use Rattle.aug_words.specs.inside.Laying.{FreesLanes, LaysNode, next_record, next_word}
 use Rattle.aug_words.proofs.Lays.{frees_more}
 
 -- a node's own record and then its word are stored as the code computes them

@@ -22,37 +22,16 @@ use Rattle.aug_core.specs.declared.view.Entry.{Entry}
 use Rattle.aug_core.proofs.Sizes.{twice, own_none, own_more}
 use Rattle.aug_core.proofs.FaceLemmas.{left_in as left_is, right_in as right_is, count_in, a_in, b_in, face_is}
 use Rattle.aug_core.proofs.Levels.{Above, above, on_level, room_above, leaf_level, leaf_word, level_inside, level_is, one_level}
-use Rattle.aug_core.proofs.Below.{own_is_place, owns_all, number_is, number_own, number_of_leaf, pairs_are, pairs_of_leaf}
+use Rattle.aug_core.proofs.Below.{own_low, room_number, number_of_leaf, pairs_are, pairs_of_leaf}
 use Rattle.aug_core.proofs.Books.{at_below}
 use Rattle.aug_core.proofs.Fits.{HasFewSerials}
 use Rattle.aug_core.proofs.Refreshing.{same_word}
 use Rattle.aug_core.proofs.EntryCuts.{entry_is, cut_later, left_part, right_part, part_pairs}
 use Rattle.aug_core.proofs.PrefixLemmas.{entry_stays}
 use Rattle.aug_words.specs.inside.Builds.{IsReady}
-use Rattle.aug_words.specs.inside.Laying.{own_number, InChunk, IsKept, KeepsRest, LaysNode, renewed_word, next_word, next_record, NamesEntry, IsLaidAs, ShownBelow, Brings}
+use Rattle.aug_core.specs.inside.OwnNumbers.{own_number}
+use Rattle.aug_words.specs.inside.Laying.{InChunk, IsKept, KeepsRest, LaysNode, renewed_word, next_word, next_record, NamesEntry, IsLaidAs, ShownBelow, Brings}
 use Rattle.aug_words.proofs.CutSets.{members_rise}
-
--- ---- the numbers of the nodes' own records
-
-pub own_full : (b m l : ℕ) → 2 ^ b ≤ m → l ≤ b → own_records b m l + 2 ^ (b - l) ≡ 2 ^ b
-own_full b m zero room low = let e : b - 0 ≡ b = omega arith in let p : 2 ^ (b - 0) ≡ 2 ^ b = ap (λ (z : ℕ). 2 ^ z) e in let none = own_none b m in omega arith
-own_full b m (suc l) room low =
-    let h = own_full b m l room (omega arith) in let more = own_more b m l in let e : b - l ≡ suc (b - suc l) = omega arith in let half : 2 ^ (b - l) ≡ 2 ^ (b - suc l) + 2 ^ (b - suc l) = ap (λ (z : ℕ). 2 ^ z) e ∙ two-pow-succ (b - suc l) in
-    let fewer : 2 ^ (b - suc l) ≤ 2 ^ b = pow_mono {i = b - suc l} {j = b} (omega arith) in let all = min-eq_left {n = 2 ^ (b - suc l)} {m = m} (omega arith) in omega arith
-
--- the record lies in the table
-pub own_low : (s : Shape) (q : ℕ) → 2 ^ s.bits ≤ s.members → IsInner s q → own_number s q < opening_count s
-own_low s q room inner = let all = own_full s.bits s.members s.bits room (omega arith) in let none : s.bits - s.bits ≡ 0 = omega arith in let one : 2 ^ (s.bits - s.bits) ≡ 1 = ap (λ (z : ℕ). 2 ^ z) none in
-    let t = twice s.bits in let past = inner.past_leaves in let inside = inner.inside in omega arith
-
-module _ (o : Opening) (room : 2 ^ o.shape.bits ≤ o.shape.members) where
-  pub roomy : has_room o ≡ true
-  roomy = le-leb (2 ^ o.shape.bits) o.shape.members room
-
-  pub room_number : (q : ℕ) → IsInner o.shape q → opening_number o q ≡ own_number o.shape q
-  room_number q inner = let t = above o.shape q inner in let all = own_full o.shape.bits o.shape.members t.level room (let low = t.here.level_fits in omega arith) in
-      let before = own_is_place o (suc t.level) t.place roomy in let r = room_above o.shape t.level t.here.level_fits in let r0 = r.0 in let is = t.here.is in let r3 = r.3 in
-      number_is o q (suc t.level) t.place t.here ∙ number_own o t.level t.place (owns_all o (suc t.level) t.place roomy) ∙ omega arith
 
 -- ---- what lies in a chunk
 

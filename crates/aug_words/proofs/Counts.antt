@@ -8,7 +8,7 @@ use lib.ListN.{get_elem?}
 use Rattle.atomic_table.specs.Seated.{TableId}
 use Rattle.aug_core.specs.Places.{Shape, word_count}
 use Rattle.aug_core.specs.Readers.{times_in, without, IsAside}
-use Rattle.aug_core.specs.Rule.{Lists}
+use Rattle.aug_core.specs.Records.{Lists}
 use Rattle.aug_core.specs.inside.ClearParts.{IsClearPart}
 use Rattle.aug_core.proofs.ReaderCounts.{total_both, lists_without}
 use Rattle.aug_core.proofs.Joins.{append_at}

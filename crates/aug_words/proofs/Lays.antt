@@ -16,7 +16,8 @@ use Rattle.aug_core.proofs.Levels.{on_level}
 use Rattle.aug_core.proofs.PrefixLemmas.{prefix_trans}
 use Rattle.aug_words.specs.inside.Builds.{AreWords, WritesFive, IsReady}
 use Rattle.aug_words.specs.inside.SeatState.{IsStore}
-use Rattle.aug_words.specs.inside.Laying.{own_number, InChunk, FreesLanes, SharesRecords, ChangesPart, StepsBeside, PutsWord, MayLay, MayBring, IsLaidAs, ShownBelow, IsDraft, Drafts, words_in}
+use Rattle.aug_core.specs.inside.OwnNumbers.{own_number}
+use Rattle.aug_words.specs.inside.Laying.{InChunk, FreesLanes, SharesRecords, ChangesPart, StepsBeside, PutsWord, MayLay, MayBring, IsLaidAs, ShownBelow, IsDraft, Drafts, words_in}
 use Rattle.aug_core.specs.declared.opening.TableKey.{TableKey}
 use Rattle.aug_core.specs.declared.step.StepTaken.{StepTaken}
 use Rattle.aug_core.specs.declared.view.LaneState.TheVariants.{Free}
@@ -29,7 +30,8 @@ use Rattle.aug_core.proofs.Eras.{part_set, part_long, beside_set}
 use Rattle.aug_core.proofs.Renewals.{looks_beside, lays}
 use Rattle.atomic_table.specs.Table.{step, Allows}
 use mathlib.Core.Option.{none}
-use Rattle.aug_words.proofs.Chunks.{own_full, room_number, laid_later}
+use Rattle.aug_core.proofs.Below.{own_full, room_number}
+use Rattle.aug_words.proofs.Chunks.{laid_later}
 
 -- ---- in the numbers of the code
 
@@ -58,6 +60,7 @@ laid_opens face o u v w room set fit wide ready shares frees =
       key_set = set;
       members_fit = fit;
       few = (let few = IsKeySet-few o.shape.bits (keys_of o.members) set in omega arith);
+      room = inr room;
       wide = frees.long ∙ shares.long ∙ wide;
       named = λ q inside. low q inside ∙ (ready q inside).word;
       records = λ q k inner small. let number = room_number o room q inner in
@@ -176,7 +179,7 @@ module _ (base : ℕ) (s : Shape) where
 
   -- what a word says of a record that was seen before
   pub says_on : (v w : SeatView) (number field r : ℕ) → StepsBeside base s v w → Says w number field r → Says v number field r
-  says_on v w number field r b told = says_same v w number field r (ap (λ (z : SeatView). z.shape) b.view_is) (ap (λ (z : SeatView). z.seen) b.view_is) told
+  says_on v w number field r b told = says_same v w number field r (ap (λ (z : SeatView). z.shape) b.view_is) (ap (λ (z : SeatView). z.seen) b.view_is) (ap (λ (z : SeatView). z.reserved) b.view_is) told
 
   module _ (f : ℕ → ℕ → List (ℕ × ℕ) → List ℕ) (a a' t : TableId) (records : ℕ) (me me' : Sat) (m : MayBring f a t records base s me) where
     -- it may go on to do so

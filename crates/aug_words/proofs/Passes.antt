@@ -4,7 +4,7 @@ use Rattle.atomic_table.specs.Seated.{TableId}
 use Rattle.aug_core.specs.Places.{Shape, lane_place, record_start, record_count, record_words, word_count}
 use Rattle.aug_core.specs.Book.{Book}
 use Rattle.std.proofs.lemmas.Bool.{cases_eq}
-use Rattle.aug_core.specs.Effects.{Sat, stepping, old_word, new_word, made_by, with_changes, publishing_from, Sees, LoadsLeaf, BeginsAtLeaf, LoadsNode, TriesLeaf, TriesNode, GuardsRecord, KnowsTable, MayStore, ReadsRecord, on_first, storing_in, going_from, storing, beginning}
+use Rattle.aug_core.specs.Effects.{Sat, stepping, old_word, new_word, made_by, with_changes, last_replaced, publishing_from, Sees, LoadsLeaf, BeginsAtLeaf, LoadsNode, TriesLeaf, TriesNode, GuardsRecord, KnowsTable, MayStore, ReadsRecord, on_first, storing_in, going_from, storing, beginning}
 use Rattle.aug_core.specs.Eras.{IsAtWork}
 use Rattle.aug_core.specs.inside.LaneStates.{HasTakenLane}
 use Rattle.aug_core.specs.Kinds.{load_leaf, try_leaf, load_node, try_node, load_record_word, store_record_word}
@@ -99,8 +99,8 @@ module _ (face : ℕ → ℕ → List (ℕ × ℕ) → List ℕ) (a a' t : Table
 
   pub pass_tried_node : (q old number found : ℕ) → me'.1 ≡ [] → TriesNode face me.0 q old number found me'.0 → HasPassSeat face a' t b l r lane lent me'
   pass_tried_node q old number found empty did = let seat = is_pass.seat in let taken : StepTaken = try_node q old number found in ⊎_elim
-      (λ (hit : found ≡ old). shown (publishing_from number seat.held) (on_first (publishing_from number) me.0.held) me'.0.seen me.0.began (me.0.steps ++ taken ∷ [])
-      (ap (on_first (publishing_from number)) seat.only) seat.named seat.taken empty (did.hit hit).0 did.sees)
+      (λ (hit : found ≡ old). let mark = last_replaced me'.0.seen q in shown (publishing_from number mark seat.held) (on_first (publishing_from number mark) me.0.held) me'.0.seen me.0.began (me.0.steps ++ taken ∷ [])
+      (ap (on_first (publishing_from number mark)) seat.only) seat.named seat.taken empty (did.hit hit).0 did.sees)
       (λ miss. watched me.0.began (me.0.steps ++ taken ∷ []) empty (did.miss miss).0 did.sees) (cases_eq found old)
 
   -- a pass that was shown nothing of the book

@@ -13,10 +13,11 @@ use Rattle.aug_core.specs.inside.RootCuts.{root_cut}
 use Rattle.aug_core.specs.declared.view.SeatView.{SeatView}
 use Rattle.aug_core.proofs.Openings.{opener}
 use Rattle.aug_words.specs.declared.parts.Parts.{Parts}
-use Rattle.aug_words.specs.inside.Laying.{IsDraft, own_number, words_in}
+use Rattle.aug_core.specs.inside.OwnNumbers.{own_number}
+use Rattle.aug_words.specs.inside.Laying.{IsDraft, words_in}
 use Rattle.aug_words.specs.inside.SeatState.{ArePartsOf, IsLead, IsLeadSeat, IsPlaced}
 use Rattle.aug_words.proofs.Aimed.{Aimed}
-use Rattle.aug_words.proofs.Chunks.{room_number}
+use Rattle.aug_core.proofs.Below.{room_number}
 use Rattle.aug_words.proofs.Counts.{parts_on, parts_swapped, some_size}
 use Rattle.aug_words.proofs.Leads.{opening_seat, root_inner}
 use Rattle.aug_words.proofs.Reopens.{lent_there, none_below, opened_by, opened_here, Renews, shape_there, whole_there, opens_again}

@@ -3,7 +3,7 @@
 use Rattle.std.specs.Prelude.{◌≡◌, ℕ, ◌⊎◌, ◌+◌, ◌-◌, ◌*◌, ◌^◌, ◌≤◌, List, Result, IfErr, IfOk}
 use Rattle.aug_core.specs.Places.{word_count}
 use Rattle.aug_core.specs.Readers.{IsAside, taking_reader, times_in}
-use Rattle.aug_core.specs.Rule.{Lists}
+use Rattle.aug_core.specs.Records.{Lists}
 use Rattle.aug_core.specs.Addresses.{root_place}
 use Rattle.aug_core.specs.Book.{GoesOnFromBoth}
 use Rattle.aug_core.specs.Prefixes.{IsPrefix}

@@ -7,7 +7,8 @@ ghost use Rattle.aug_core.specs.Faces.{face};
 ghost use Rattle.aug_core.specs.Opening.{shared_words};
 ghost use Rattle.aug_core.specs.Places.{record_start, record_words, word_count};
 ghost use Rattle.aug_words.specs.inside.Builds.{WritesFive};
-ghost use Rattle.aug_words.specs.inside.Laying.{Brings, ChangesPart, FreesLanes, IsLaidAs, NamesEntry, LaysNode, MayBring, MayLay, PutsWord, SharesRecords, ShownBelow, StepsBeside, next_record, next_word, own_number, renewed_word, words_in};
+ghost use Rattle.aug_core.specs.inside.OwnNumbers.{own_number};
+ghost use Rattle.aug_words.specs.inside.Laying.{Brings, ChangesPart, FreesLanes, IsLaidAs, NamesEntry, LaysNode, MayBring, MayLay, PutsWord, SharesRecords, ShownBelow, StepsBeside, next_record, next_word, renewed_word, words_in};
 
 use crate::building::SERIAL;
 use crate::draft::Draft;

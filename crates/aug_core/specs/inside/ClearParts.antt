@@ -1,6 +1,6 @@
 -- Where nobody reads.
 use Rattle.std.specs.Prelude.{◌⊎◌, ℕ, ◌+◌, ◌<◌, ◌≤◌, List}
-use Rattle.aug_core.specs.Rule.{Lists}
+use Rattle.aug_core.specs.Records.{Lists}
 use Rattle.aug_core.specs.Readers.{IsAside}
 
 -- a word lies in none of the parts that begin at these words

@@ -2,6 +2,7 @@
 use Rattle.std.specs.Prelude.{◌≡◌, ◌≢◌, ◌⊎◌, ℕ, ◌+◌, ◌<◌, ◌≤◌, List, [], ◌∷◌, ◌++◌, length, drop, Option, Some, None, unwrap_or, Bool, true, false}
 use mathlib.Core.Option.{some}
 use lib.ListN.{get_elem?}
+use Rattle.aug_core.specs.Places.{shape_of}
 use Rattle.aug_trie.specs.Chains.{Chapter}
 use Rattle.aug_trie.specs.Pass.{PassFacts}
 use Rattle.aug_trie.specs.Round.{RoundFacts, table_of}
@@ -33,7 +34,7 @@ no_half = record {
   numbers = [];
   spent = 0;
   steps = [];
-  words = record { shape = record { bits = 0; workers = 0; updates = 0; members = 0 }; book = [] };
+  words = record { shape = shape_of 0 0 0 0; book = [] };
 }
 
 -- what a lane's pass knows, if there is a lane

@@ -1,5 +1,5 @@
 -- The table of a round, and the round of a view of it.
-use Rattle.std.specs.Prelude.{ℕ, List, map}
+use Rattle.std.specs.Prelude.{◌≡◌, ℕ, List, map}
 use Rattle.atomic_table.specs.Seated.{TableId}
 use Rattle.aug_words.specs.Seats.{Store}
 use Rattle.aug_core.specs.Places.{Shape}
@@ -20,6 +20,11 @@ past_rounds s past = map (λ era. record { members = era.members; history = root
 -- the round that a view of a table is of
 abbrev pub round_of : TableId → SeatView → RoundFacts
 round_of table v = record { table = table; era = v.era; bits = v.shape.bits; members = v.members; workers = v.shape.workers; updates = v.shape.updates; room = v.shape.members }
+
+-- what a round's fields keep: its layout is that of its table, which uses no record again
+pub record KeepsLayout (layout : Shape) (store : Store) : Type 0 where
+  pub laid_out : layout ≡ store.shape
+  pub keeps_records : store.shape.reservations ≡ 0
 
 -- the table itself
 abbrev pub facts_of : Store → TableFacts

@@ -32,15 +32,14 @@ pub struct Round<A: Monoid, B: Monoid> {
 }
 
 impl<A: Monoid, B: Monoid> Model for Round<A, B> {
-    ghost use Rattle.std.specs.Prelude.{◌≡◌};
     ghost use Rattle.aug_trie.specs.Round.{TableFacts};
-    ghost use Rattle.aug_trie.specs.inside.RoundState.{facts_of};
+    ghost use Rattle.aug_trie.specs.inside.RoundState.{KeepsLayout, facts_of};
 
     ghost Value = { TableFacts };
 
     ghost view = { λ r. facts_of r.words };
 
-    ghost invariant = { λ r. r.layout ≡ r.words.shape };
+    ghost invariant = { λ r. KeepsLayout r.layout r.words };
 }
 
 impl<A: Monoid, B: Monoid> Round<A, B> {

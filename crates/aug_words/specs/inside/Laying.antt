@@ -3,6 +3,7 @@
 -- was put into the example, its root is laid out as its newest record once the part is as a table opens with 0, 1 and 3.
 use Rattle.std.specs.Prelude.{◌≡◌, ℕ, ◌⊎◌, ◌+◌, ◌-◌, ◌*◌, ◌/◌, ◌%◌, ◌^◌, ◌<◌, ◌≤◌, ◌==◌, nat_lt, if◌then◌else◌, true, Some, List, [], ◌∷◌, length, slice_index, slice_set}
 use Rattle.atomic_table.specs.Seated.{TableId}
+use Rattle.aug_core.specs.inside.OwnNumbers.{own_number}
 use Rattle.aug_core.specs.Places.{Shape, lane_place, record_start, record_words, word_count}
 use Rattle.aug_core.specs.Prefixes.{IsPrefix}
 use Rattle.aug_core.specs.Book.{Book, At}
@@ -21,10 +22,6 @@ use Rattle.aug_core.specs.Renewals.{IsOpened}
 use Rattle.aug_core.specs.Readers.{IsAside}
 use Rattle.aug_core.specs.inside.ClearParts.{IsClear, IsClearPart}
 use Rattle.aug_words.specs.inside.Builds.{AreWords, WritesFive, IsReady}
-
--- the number of an inner node's own record
-abbrev pub own_number : Shape → ℕ → ℕ
-own_number s q = s.bits + (q - 2 ^ s.bits)
 
 -- the word q is that of a leaf or a node of a chunk: of the node at the place `chunk` on the level `height`, or of one below that
 pub record InChunk (s : Shape) (height chunk q : ℕ) : Type 0 where

@@ -6,7 +6,7 @@ use Rattle.aug_core.specs.Layout.{IsLayout}
 use Rattle.aug_core.specs.Book.{At}
 use Rattle.aug_core.specs.Effects.{Sat, HoldsOnly, KnowsTable}
 use Rattle.aug_core.specs.Readers.{times_in}
-use Rattle.aug_core.specs.Rule.{Lists}
+use Rattle.aug_core.specs.Records.{Lists}
 use Rattle.aug_core.specs.declared.opening.TableKey.{TableKey}
 use Rattle.aug_core.specs.declared.view.Entry.{Entry}
 use Rattle.aug_core.specs.declared.view.Held.{Held}

@@ -21,7 +21,7 @@ load-requires g c =
     let w = c.words.invariant in let sits = sits_at _ _ _ _ c.self.inside.base c.words.inside.lanes c.words.inside.records c.self.view_is c.words.view_is c.requires.together c.self.invariant.placed w.lanes_are w.records_are in
     let begins = sits.records_are in let wide = sits.placed.wide in let field = c.offset.ensures.small in let at = c.record_word-place.ensures in
     let below = guarded_inside (face g.A.Monoid.parts g.B.Monoid.parts) c.self.inside.seat.me.0 c.args.number c.self.invariant.knows (subst (λ (k : Known). GuardsRecord k.view c.args.number) (sym c.self.view_is) c.requires.guards) in
-    (sits.seated, omega arith, reads_record_word _ _ _ _ (record_start c.self.inside.seat.me.0.shape c.args.number + c.offset.result) _ _ c.self.invariant.reads c.self.invariant.live c.self.invariant.no_lane c.self.invariant.no_slot (omega arith))
+    (sits.seated, omega arith, reads_record_word _ _ _ _ (record_start c.self.inside.seat.me.0.shape c.args.number + c.offset.result) _ _ c.self.invariant.knows.laid_out.keeps_records c.self.invariant.reads c.self.invariant.live c.self.invariant.no_lane c.self.invariant.no_slot (omega arith))
 
 pub invariant_of-self : goal.invariant_of-self
 invariant_of-self g c = let w = c.words.invariant in let sits = sits_at _ _ _ _ c.self.inside.base c.words.inside.lanes c.words.inside.records c.self.view_is c.words.view_is c.requires.together c.self.invariant.placed w.lanes_are w.records_are in let begins = sits.records_are in let at = c.record_word-place.ensures in

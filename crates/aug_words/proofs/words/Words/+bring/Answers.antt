@@ -1,4 +1,4 @@
-use Rattle.std.proofs.Common.{refl, ap, ⊎_elim, sym, subst, ◌∙◌, ◌≡◌, ◌+◌, ◌-◌, ◌*◌, ◌/◌, ◌^◌, ◌<◌, ℕ, List, length, length-set, get_or, set, arith}
+use Rattle.std.proofs.Common.{inl, refl, ap, ⊎_elim, sym, subst, ◌∙◌, ◌≡◌, ◌+◌, ◌-◌, ◌*◌, ◌/◌, ◌^◌, ◌<◌, ℕ, List, length, length-set, get_or, set, arith}
 use Rattle.std.proofs.lemmas.Bool.{false≢true}
 use Rattle.std.proofs.lemmas.List.{get_or_read}
 use Rattle.aug_core.specs.Addresses.{IsInner, left_of, right_of, level_of, place_on}
@@ -51,7 +51,7 @@ load_record-five-requires-clause-guards g t c =
     let s : Shape = c.args.self.now.shape in let leaves = leaves_are _ _ _ s _ _ c.self.invariant (ap (λ (z : Store). z.shape) c.self.view_is) in let m = c.requires.may in let f = face g.A.Monoid.parts g.B.Monoid.parts in let v : SeatView = c.args.seat.now.me.0 in let base : ℕ = c.args.draft.now.base in let q : ℕ = c.args.node in
     let book : Book = v.seen in let b : IsBook f s book = subst (λ (z : Shape). IsBook f z book) m.shaped m.knows.book in let named = c.requires.named in
     let past = c.if-node-leaves.false in let inner : IsInner s q = record { past_leaves = omega arith; inside = c.requires.node } in let number : named.entry.number ≡ c.args.word = sym (b.named q named.index named.entry inner named.at) ∙ named.named in
-    record { place = q; index = named.index; entry = named.entry; guards = record { inner = subst (λ (z : Shape). IsInner z q) (sym m.shaped) inner; at = named.at }; numbered = number }
+    record { place = q; index = named.index; entry = named.entry; guards = record { inner = subst (λ (z : Shape). IsInner z q) (sym m.shaped) inner; at = named.at; covers = inl m.knows.laid_out.keeps_records }; numbered = number }
 
 pub returns-then-index-word-clause-done : goal.returns-then-index-word-clause-done
 returns-then-index-word-clause-done g t c is =
@@ -72,7 +72,7 @@ bring-left-requires g t c κs lives =
     let book : Book = v.seen in let b : IsBook f s book = subst (λ (z : Shape). IsBook f z book) m.shaped m.knows.book in let named = c.requires.named in
     let past = c.if-node-leaves.false in let inner : IsInner s q = record { past_leaves = omega arith; inside = c.requires.node } in let number : named.entry.number ≡ c.args.word = sym (b.named q named.index named.entry inner named.at) ∙ named.named in
     let h : List ℕ = c.args.draft.now.shown.items in let five : List ℕ = c.load_record-five.result in let w : List ℕ = words_in base s v in
-    let says : (field : ℕ) → field < record_words → get_or five field 0 ≡ get_or named.entry.words field 0 = λ field low. c.load_record-five.ensures.says field low q named.index named.entry record { inner = subst (λ (z : Shape). IsInner z q) (sym m.shaped) inner; at = named.at } number in
+    let says : (field : ℕ) → field < record_words → get_or five field 0 ≡ get_or named.entry.words field 0 = λ field low. c.load_record-five.ensures.says field low q named.index named.entry record { inner = subst (λ (z : Shape). IsInner z q) (sym m.shaped) inner; at = named.at; covers = inl m.knows.laid_out.keeps_records } number in
     let slot : q - (c.self.inside.lanes / 2 + 1) ≡ q - 2 ^ s.bits = omega arith in let left_at : 2 * (q - (c.self.inside.lanes / 2 + 1)) ≡ left_of s q = omega arith in let right_at : 2 * (q - (c.self.inside.lanes / 2 + 1)) + 1 ≡ right_of s q = omega arith in
     let same : c.passes.new.self.base ≡ base = c.passes.ensures.base in
     let cleared : set c.passes.new.self.shown.items (q - (c.self.inside.lanes / 2 + 1)) 0 ≡ set h (q - 2 ^ s.bits) 0 = λ i. set ((ap (λ z. z.items) c.passes.ensures.shown) i) (slot i) 0 in
@@ -86,7 +86,7 @@ bring-right-requires g t c κs lives =
     let book : Book = v.seen in let b : IsBook f s book = subst (λ (z : Shape). IsBook f z book) m.shaped m.knows.book in let named = c.requires.named in
     let past = c.if-node-leaves.false in let inner : IsInner s q = record { past_leaves = omega arith; inside = c.requires.node } in let number : named.entry.number ≡ c.args.word = sym (b.named q named.index named.entry inner named.at) ∙ named.named in
     let h : List ℕ = c.args.draft.now.shown.items in let five : List ℕ = c.load_record-five.result in let w : List ℕ = words_in base s v in
-    let says : (field : ℕ) → field < record_words → get_or five field 0 ≡ get_or named.entry.words field 0 = λ field low. c.load_record-five.ensures.says field low q named.index named.entry record { inner = subst (λ (z : Shape). IsInner z q) (sym m.shaped) inner; at = named.at } number in
+    let says : (field : ℕ) → field < record_words → get_or five field 0 ≡ get_or named.entry.words field 0 = λ field low. c.load_record-five.ensures.says field low q named.index named.entry record { inner = subst (λ (z : Shape). IsInner z q) (sym m.shaped) inner; at = named.at; covers = inl m.knows.laid_out.keeps_records } number in
     let slot : q - (c.self.inside.lanes / 2 + 1) ≡ q - 2 ^ s.bits = omega arith in let left_at : 2 * (q - (c.self.inside.lanes / 2 + 1)) ≡ left_of s q = omega arith in let right_at : 2 * (q - (c.self.inside.lanes / 2 + 1)) + 1 ≡ right_of s q = omega arith in
     let same : c.passes.new.self.base ≡ base = c.passes.ensures.base in
     let cleared : set c.passes.new.self.shown.items (q - (c.self.inside.lanes / 2 + 1)) 0 ≡ set h (q - 2 ^ s.bits) 0 = λ i. set ((ap (λ z. z.items) c.passes.ensures.shown) i) (slot i) 0 in
@@ -104,7 +104,7 @@ returns-then-right g t c =
     let book : Book = v.seen in let b : IsBook f s book = subst (λ (z : Shape). IsBook f z book) m.shaped m.knows.book in let named = c.requires.named in
     let past = c.if-node-leaves.false in let inner : IsInner s q = record { past_leaves = omega arith; inside = c.requires.node } in let number : named.entry.number ≡ c.args.word = sym (b.named q named.index named.entry inner named.at) ∙ named.named in
     let h : List ℕ = c.args.draft.now.shown.items in let five : List ℕ = c.load_record-five.result in let w : List ℕ = words_in base s v in
-    let says : (field : ℕ) → field < record_words → get_or five field 0 ≡ get_or named.entry.words field 0 = λ field low. c.load_record-five.ensures.says field low q named.index named.entry record { inner = subst (λ (z : Shape). IsInner z q) (sym m.shaped) inner; at = named.at } number in
+    let says : (field : ℕ) → field < record_words → get_or five field 0 ≡ get_or named.entry.words field 0 = λ field low. c.load_record-five.ensures.says field low q named.index named.entry record { inner = subst (λ (z : Shape). IsInner z q) (sym m.shaped) inner; at = named.at; covers = inl m.knows.laid_out.keeps_records } number in
     let slot : q - (c.self.inside.lanes / 2 + 1) ≡ q - 2 ^ s.bits = omega arith in let left_at : 2 * (q - (c.self.inside.lanes / 2 + 1)) ≡ left_of s q = omega arith in let right_at : 2 * (q - (c.self.inside.lanes / 2 + 1)) + 1 ≡ right_of s q = omega arith in
     let same : c.passes.new.self.base ≡ base = c.passes.ensures.base in
     let cleared : set c.passes.new.self.shown.items (q - (c.self.inside.lanes / 2 + 1)) 0 ≡ set h (q - 2 ^ s.bits) 0 = λ i. set ((ap (λ z. z.items) c.passes.ensures.shown) i) (slot i) 0 in
@@ -149,7 +149,7 @@ returns-else-left-clause-brings g t c =
     let book : Book = v.seen in let b : IsBook f s book = subst (λ (z : Shape). IsBook f z book) m.shaped m.knows.book in let named = c.requires.named in
     let past = c.if-node-leaves.false in let inner : IsInner s q = record { past_leaves = omega arith; inside = c.requires.node } in let number : named.entry.number ≡ c.args.word = sym (b.named q named.index named.entry inner named.at) ∙ named.named in
     let h : List ℕ = c.args.draft.now.shown.items in let five : List ℕ = c.load_record-five.result in let w : List ℕ = words_in base s v in
-    let says : (field : ℕ) → field < record_words → get_or five field 0 ≡ get_or named.entry.words field 0 = λ field low. c.load_record-five.ensures.says field low q named.index named.entry record { inner = subst (λ (z : Shape). IsInner z q) (sym m.shaped) inner; at = named.at } number in
+    let says : (field : ℕ) → field < record_words → get_or five field 0 ≡ get_or named.entry.words field 0 = λ field low. c.load_record-five.ensures.says field low q named.index named.entry record { inner = subst (λ (z : Shape). IsInner z q) (sym m.shaped) inner; at = named.at; covers = inl m.knows.laid_out.keeps_records } number in
     let slot : q - (c.self.inside.lanes / 2 + 1) ≡ q - 2 ^ s.bits = omega arith in let left_at : 2 * (q - (c.self.inside.lanes / 2 + 1)) ≡ left_of s q = omega arith in let right_at : 2 * (q - (c.self.inside.lanes / 2 + 1)) + 1 ≡ right_of s q = omega arith in
     let same : c.passes.new.self.base ≡ base = c.passes.ensures.base in
     let cleared : set c.passes.new.self.shown.items (q - (c.self.inside.lanes / 2 + 1)) 0 ≡ set h (q - 2 ^ s.bits) 0 = λ i. set ((ap (λ z. z.items) c.passes.ensures.shown) i) (slot i) 0 in

@@ -1,7 +1,7 @@
 use Rattle.std.proofs.Common.{arith, ap, ◌∙◌, ◌≡◌}
 use Rattle.aug_core.specs.Places.{Shape, record_start}
 use Rattle.aug_words.specs.Seats.{Store}
-use Rattle.aug_words.proofs.Chunks.{own_low}
+use Rattle.aug_core.proofs.Below.{own_low}
 use Rattle.aug_words.proofs.words.Words.own_place.Goals as goal
 
 pub returns-clause-inside : goal.returns-clause-inside

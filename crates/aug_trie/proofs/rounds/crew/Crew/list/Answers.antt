@@ -7,11 +7,11 @@ use Rattle.aug_trie.proofs.RoundLemmas.{of_round, crew_told}
 use Rattle.aug_trie.proofs.rounds.crew.Crew.list.Goals as goal
 
 pub of_crew-walk-requires-clause-together : goal.of_crew-walk-requires-clause-together
-of_crew-walk-requires-clause-together g c = of_round c.round.inside.words c.in-Some.lead c.args.self.now c.args.round.now (crew_told c.self.invariant (sym c.take.ensures.value ∙ c.in-Some.is) c.self.view_is).1 c.requires.together c.round.view_is
+of_crew-walk-requires-clause-together g c = of_round c.round.inside.words c.in-Some.lead c.args.self.now c.args.round.now c.round.invariant.keeps_records (crew_told c.self.invariant (sym c.take.ensures.value ∙ c.in-Some.is) c.self.view_is).0.is_crew.knows_table.laid_out.keeps_records (crew_told c.self.invariant (sym c.take.ensures.value ∙ c.in-Some.is) c.self.view_is).1 c.requires.together c.round.view_is
 
 pub of_crew-walk-requires-clause-bits : goal.of_crew-walk-requires-clause-bits
-of_crew-walk-requires-clause-bits g c = let together = of_round c.round.inside.words c.in-Some.lead c.args.self.now c.args.round.now (crew_told c.self.invariant (sym c.take.ensures.value ∙ c.in-Some.is) c.self.view_is).1 c.requires.together c.round.view_is in
-    c.bits.ensures ∙ ap (λ (s : Shape). s.bits) (c.round.invariant ∙ sym together.one_shape)
+of_crew-walk-requires-clause-bits g c = let together = of_round c.round.inside.words c.in-Some.lead c.args.self.now c.args.round.now c.round.invariant.keeps_records (crew_told c.self.invariant (sym c.take.ensures.value ∙ c.in-Some.is) c.self.view_is).0.is_crew.knows_table.laid_out.keeps_records (crew_told c.self.invariant (sym c.take.ensures.value ∙ c.in-Some.is) c.self.view_is).1 c.requires.together c.round.view_is in
+    c.bits.ensures ∙ ap (λ (s : Shape). s.bits) (c.round.invariant.laid_out ∙ sym together.one_shape)
 
 pub put_pairs-requires : goal.put_pairs-requires
 put_pairs-requires g c = let i = c.self.inside in let e = c.of_crew-walk.ensures in

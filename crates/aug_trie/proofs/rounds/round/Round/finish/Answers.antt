@@ -34,5 +34,5 @@ returns-clause-rolls g c =
 pub invariant_of-result : goal.invariant_of-result
 invariant_of-result g c =
     let tree = c.list.ensures.is_set in
-    let bits : c.over-inserts.new.self.round.bits ≡ c.bits-bits.result = ap (λ (z : CrewFacts). z.round.bits) c.over-inserts.ensures.last_is ∙ ap (λ (z : TableFacts). z.bits) (c.requires.together ∙ sym c.self.view_is) ∙ ap (λ (z : Shape). z.bits) (sym c.self.invariant) ∙ sym c.bits-bits.ensures in
+    let bits : c.over-inserts.new.self.round.bits ≡ c.bits-bits.result = ap (λ (z : CrewFacts). z.round.bits) c.over-inserts.ensures.last_is ∙ ap (λ (z : TableFacts). z.bits) (c.requires.together ∙ sym c.self.view_is) ∙ ap (λ (z : Shape). z.bits) (sym c.self.invariant.laid_out) ∙ sym c.bits-bits.ensures in
     subst (λ (z : ℕ × List (ℕ × ℕ)). IsTreeSet (record { bits = z.0; pairs = z.1 })) (λ j. (bits j, sym c.list.ensures.set j)) tree

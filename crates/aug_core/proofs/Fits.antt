@@ -1,5 +1,5 @@
 -- No serial is past the updates of all workers, and what a step that shows the whole book tells.
-use Rattle.std.proofs.Common.{Option, ◌≡◌, ℕ, suc, ◌*◌, ◌^◌, ◌<◌, ◌≤◌, Bool, true, false, if◌then◌else◌, List, [], ◌∷◌, length, get_or, All, sym, subst, ⊎_elim, ◌∙◌, arith, suc-mul, mul-le-mul_right, ap}
+use Rattle.std.proofs.Common.{Option, ◌≡◌, ℕ, suc, ◌*◌, ◌^◌, ◌<◌, ◌≤◌, Bool, true, false, if◌then◌else◌, List, [], ◌∷◌, length, get_or, All, sym, subst, arith, suc-mul, mul-le-mul_right, ap}
 use Rattle.std.specs.List.{sum_by}
 use Rattle.std.proofs.lemmas.List.Sums.{sum_by-cons}
 use Rattle.aug_core.specs.Places.{Shape}

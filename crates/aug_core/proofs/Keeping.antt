@@ -1,12 +1,11 @@
 -- What a step leaves of the records: those that are in use stand, those that a reservation holds are not written, and those that were replaced stand.
-use Rattle.std.proofs.Common.{◌≡◌, ◌≢◌, ◌⊎◌, inl, inr, ℕ, ◌+◌, ◌<◌, ◌≤◌, List, [], length, get_or, refl, sym, ◌∙◌, subst, ⊎_elim, arith, Some, None}
-use Rattle.std.specs.Prelude.{Option}
-use mathlib.Core.Option.{some, some-ne-none}
+use Rattle.std.proofs.Common.{◌≡◌, ◌≢◌, ◌⊎◌, inl, inr, ℕ, ◌+◌, ◌<◌, ◌≤◌, List, get_or, refl, sym, ◌∙◌, subst, ⊎_elim, arith, Some, None}
+use mathlib.Core.Option.{some}
 use lib.ListN.{get_elem?}
 use Rattle.aug_core.specs.Places.{Shape, opening_count, era_place, reservation_place}
 use Rattle.aug_core.specs.Addresses.{IsInner, left_of, right_of}
 use Rattle.aug_core.specs.Book.{Book, At, ArePrefixes}
-use Rattle.aug_core.specs.Records.{Lists, HasWords, Fate, at_opening, standing, owned_by, StandsAs, IsThere, IsClosed, floor_of, Waits, Protects, IsItsLane, IsReplaced, KeepsView, KeepsRecords}
+use Rattle.aug_core.specs.Records.{Lists, HasWords, Fate, at_opening, standing, owned_by, StandsAs, IsThere, Waits, Protects, IsItsLane, IsReplaced, KeepsView, KeepsRecords}
 use Rattle.aug_core.specs.declared.view.Entry.{Entry}
 use Rattle.aug_core.specs.declared.view.Held.{Held}
 use Rattle.aug_core.specs.declared.view.Life.{Life}

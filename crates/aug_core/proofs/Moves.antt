@@ -7,7 +7,7 @@ use mathlib.Core.Option.{some}
 use lib.ListN.{get_elem?}
 use Rattle.atomic_table.specs.Table.{State}
 use Rattle.atomic_table.proofs.Lists.{at_set}
-use Rattle.aug_core.specs.Places.{Shape, lane_place, record_start, record_count, opening_count, record_words, era_place, reservation_place}
+use Rattle.aug_core.specs.Places.{Shape, lane_place, record_start, record_count, record_words, era_place, reservation_place}
 use Rattle.aug_core.specs.Addresses.{place_count, IsInner, left_of, right_of}
 use Rattle.aug_core.specs.Lanes.{new_lane, word_of_state}
 use Rattle.aug_core.specs.Book.{Book, history_of, At, IsNewest, ArePrefixes, FloorsCover, IsFresh, IsBook}

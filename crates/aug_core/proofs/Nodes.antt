@@ -1,5 +1,5 @@
 -- A node's word goes to a record of the seat's own lane, which is its newest entry then.
-use Rattle.std.proofs.Common.{◌⊎◌, ◌-◌, true, false, Bool, not, if◌then◌else◌, ◌≡◌, ◌≢◌, ℕ, ◌+◌, ◌^◌, ◌<◌, ◌≤◌, inl, List, [], ◌∷◌, ◌++◌, length, get_or, set, eqb, eq-eqb, ne_eqb, sym, refl, ap, ◌∙◌, subst, ⊎_elim, arith}
+use Rattle.std.proofs.Common.{◌⊎◌, ◌-◌, true, false, Bool, not, if◌then◌else◌, ◌≡◌, ◌≢◌, ℕ, ◌+◌, ◌^◌, ◌<◌, ◌≤◌, List, [], ◌∷◌, ◌++◌, length, get_or, set, eqb, eq-eqb, ne_eqb, sym, refl, ap, ◌∙◌, subst, ⊎_elim, arith}
 use Rattle.std.specs.Prelude.{◌==◌}
 use mathlib.Core.Bool.{true≢false}
 use mathlib.Core.Option.{none, some}
@@ -12,7 +12,7 @@ use Rattle.aug_core.specs.Addresses.{IsInner, left_of, right_of}
 use Rattle.aug_core.specs.Book.{Book, history_of, At, IsNewest, ArePrefixes, FloorsCover, IsFresh, NamesOnce, SerialsFit, IsBook}
 use Rattle.aug_core.specs.Opening.{Opening}
 use Rattle.aug_core.specs.Rule.{NamesNewest, HoldsLane, Kept}
-use Rattle.aug_core.specs.Records.{Lists, Fate, at_opening, standing, owned_by, StandsAs, HasWords, IsThere, Waits, IsReplaced, KeepsView, OwnsRecord}
+use Rattle.aug_core.specs.Records.{Lists, Fate, standing, owned_by, StandsAs, HasWords, IsThere, Waits, IsReplaced, KeepsView, OwnsRecord}
 use Rattle.aug_core.specs.Kinds.{try_node}
 use Rattle.aug_core.specs.Effects.{Sat, HoldsOnly, Owns, MayStore, birth_of, IsNoYounger, on_first, last_replaced, publishing_from, seeing, publishing, IsFilled, tried_node}
 use Rattle.aug_core.specs.inside.EraSteps.{WithEra}
@@ -29,7 +29,7 @@ use Rattle.aug_core.specs.declared.view.Owned.{Owned}
 use Rattle.aug_core.proofs.Sizes.{twice}
 use Rattle.aug_core.proofs.Owning.{listed_filter}
 use Rattle.aug_core.proofs.EntryCuts.{entry_is}
-use Rattle.aug_core.proofs.Books.{grown, snoc_at, longer, no_shorter, one_entry, at_grown, newest_here, there, grows}
+use Rattle.aug_core.proofs.Books.{grown, snoc_at, longer, no_shorter, one_entry, newest_here, there, grows}
 use Rattle.aug_core.proofs.Keeping.{one_standing, stands_unowned, holds_lane_on, view_on}
 use Rattle.aug_core.proofs.Moves.{St, MayMove, moves_on, holds_on, knows_seeing, in_book, book', after, Publishes, tree_leaves, tree_slots, tree_moves, watches}
 use Rattle.aug_core.proofs.Stores.{alone, one_lane, is_taken}

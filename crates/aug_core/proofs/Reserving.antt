@@ -1,8 +1,8 @@
 -- A seat loads the era, turns it, reserves an era, and lets go of it.
-use Rattle.std.proofs.Common.{true, ◌≡◌, ◌≢◌, ◌⊎◌, inl, inr, ℕ, ◌+◌, ◌<◌, ◌≤◌, Bool, if◌then◌else◌, eqb, eq-eqb, ne_eqb, List, [], ◌∷◌, ◌++◌, length, map, get_or, set, refl, sym, ap, ◌∙◌, subst, ⊎_elim, arith, length-set, get_or-set_other, get_or-set_same, Some, None}
-use Rattle.std.specs.Prelude.{Option, ◌==◌}
+use Rattle.std.proofs.Common.{true, ◌≡◌, ◌≢◌, inl, ℕ, ◌+◌, ◌<◌, ◌≤◌, Bool, if◌then◌else◌, eqb, eq-eqb, ne_eqb, List, [], ◌∷◌, ◌++◌, length, map, get_or, set, refl, sym, ap, ◌∙◌, subst, ⊎_elim, arith, length-set, get_or-set_other, get_or-set_same, Some, None}
+use Rattle.std.specs.Prelude.{Option}
 use Rattle.std.specs.List.{range_with_len}
-use Rattle.std.proofs.lemmas.Bool.{cases_eq, cases_lt}
+use Rattle.std.proofs.lemmas.Bool.{cases_lt}
 use Rattle.std.proofs.lemmas.List.{get_or_past}
 use Rattle.std.proofs.lemmas.List.FromFn.{length-map-range_with_len, get_or-map-range_with_len}
 use mathlib.Core.Option.{none, some}
@@ -10,20 +10,17 @@ use lib.ListN.{get_elem?}
 use prog.Atomic.{either}
 use Rattle.atomic_table.specs.Table.{step, keeps, Allows}
 use Rattle.atomic_table.proofs.Lists.{exchanged}
-use Rattle.aug_core.specs.Places.{Shape, lane_place, record_start, record_count, word_count, record_words, era_place, reservation_place}
+use Rattle.aug_core.specs.Places.{Shape, lane_place, record_start, record_count, record_words, era_place, reservation_place}
 use Rattle.aug_core.specs.Addresses.{place_count, IsInner, left_of, right_of}
-use Rattle.aug_core.specs.Lanes.{word_of_state}
-use Rattle.aug_core.specs.Book.{Book, At}
 use Rattle.aug_core.specs.Opening.{Opening}
-use Rattle.aug_core.specs.Records.{Fate, HasWords, StandsAs, IsThere, IsClosed, floor_of, Waits, Protects, IsItsLane, KeepsView, KeepsRecords, OwnsRecord}
+use Rattle.aug_core.specs.Records.{IsClosed, Protects, IsItsLane, KeepsView, OwnsRecord}
 use Rattle.aug_core.specs.Rule.{HoldsLane, Kept}
 use Rattle.aug_core.specs.Kinds.{load_era, turn_era, store_reservation}
 use Rattle.aug_core.specs.Effects.{Sat, HoldsOnly, own_lane}
-use Rattle.aug_core.specs.Reclaiming.{reaching, loaded_era, turned_era, Reserves, reserved_era, releasing, released_era}
+use Rattle.aug_core.specs.Reclaiming.{reaching, loaded_era, turned_era, reserved_era, released_era}
 use Rattle.aug_core.specs.inside.Reclaims.{own_reservation, MayReserve}
 use Rattle.aug_core.specs.inside.EraSteps.{WithEra}
 use Rattle.aug_core.specs.declared.step.StepTaken.{StepTaken}
-use Rattle.aug_core.specs.declared.view.Entry.{Entry}
 use Rattle.aug_core.specs.declared.view.Held.{Held}
 use Rattle.aug_core.specs.declared.view.Owned.{Owned}
 use Rattle.aug_core.specs.declared.view.Reserved.{Reserved}

@@ -1,8 +1,7 @@
 -- What a seat replaced becomes its own, once the root shows later entries: its records are no longer in use, and stand no longer. Who may still read one of
 -- them reserved an era of its life.
-use Rattle.std.proofs.Common.{true, ◌≡◌, ◌≢◌, ◌⊎◌, inl, inr, ℕ, zero, suc, ◌+◌, ◌-◌, ◌<◌, ◌≤◌, Bool, if◌then◌else◌, eqb, eq-eqb, ne_eqb, List, [], ◌∷◌, ◌++◌, length, map, get_or, set, refl, sym, ap, ◌∙◌, subst, ⊎_elim, arith, Some}
+use Rattle.std.proofs.Common.{true, ◌≡◌, ◌≢◌, ◌⊎◌, inl, inr, ℕ, zero, suc, ◌+◌, ◌-◌, ◌<◌, ◌≤◌, Bool, if◌then◌else◌, eq-eqb, ne_eqb, List, [], ◌∷◌, ◌++◌, length, map, get_or, set, refl, sym, ap, ◌∙◌, subst, ⊎_elim, arith}
 use Rattle.std.specs.Prelude.{◌==◌}
-use Rattle.std.specs.List.{range_with_len}
 use Rattle.std.proofs.lemmas.Bool.{cases_eq}
 use Rattle.std.proofs.lemmas.List.{set-get_or}
 use Rattle.std.proofs.lemmas.List.FromFn.{length-map-range_with_len, get_or-map-range_with_len}
@@ -13,7 +12,7 @@ use Rattle.aug_core.specs.Places.{Shape, record_start, record_count, record_word
 use Rattle.aug_core.specs.Addresses.{place_count, IsInner, left_of, right_of}
 use Rattle.aug_core.specs.Book.{history_of, At}
 use Rattle.aug_core.specs.Opening.{Opening}
-use Rattle.aug_core.specs.Records.{Lists, HasWords, Fate, at_opening, standing, owned_by, StandsAs, IsThere, Waits, Protects, IsItsLane, IsReplaced, KeepsView, KeepsRecords, OwnsRecord}
+use Rattle.aug_core.specs.Records.{Lists, Fate, standing, owned_by, StandsAs, IsThere, Waits, Protects, IsReplaced, KeepsView, KeepsRecords, OwnsRecord}
 use Rattle.aug_core.specs.Rule.{HoldsLane, Kept}
 use Rattle.aug_core.specs.Kinds.{load_era}
 use Rattle.aug_core.specs.Effects.{Sat, HoldsOnly, on_first}

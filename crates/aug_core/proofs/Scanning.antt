@@ -1,5 +1,5 @@
 -- A seat loads a reservation, and passes those of its own records that this one does not hold.
-use Rattle.std.proofs.Common.{true, false, ◌≡◌, ◌≢◌, ◌⊎◌, inl, inr, ℕ, ◌+◌, ◌<◌, ◌≤◌, Bool, if◌then◌else◌, lt-ltb, le-leb, eqb, eqb-true, eq-eqb, ne_eqb, List, [], ◌∷◌, ◌++◌, get_or, set, refl, sym, ap, ◌∙◌, subst, ⊎_elim, arith, Some}
+use Rattle.std.proofs.Common.{true, false, ◌≡◌, ◌≢◌, inl, inr, ℕ, ◌<◌, ◌≤◌, Bool, if◌then◌else◌, lt-ltb, le-leb, eqb, eqb-true, eq-eqb, ne_eqb, List, [], ◌∷◌, ◌++◌, get_or, set, refl, sym, ap, ◌∙◌, subst, ⊎_elim, arith}
 use Rattle.std.specs.Prelude.{nat_le, ◌==◌}
 use Rattle.std.proofs.lemmas.Bool.{cases_eq}
 use Rattle.std.proofs.lemmas.List.{set-get_or}
@@ -7,9 +7,8 @@ use mathlib.Core.Option.{none, some}
 use lib.ListN.{get_elem?}
 use Rattle.atomic_table.specs.Table.{step, keeps, Allows}
 use Rattle.aug_core.specs.Places.{Shape, reservation_place}
-use Rattle.aug_core.specs.Addresses.{IsInner}
 use Rattle.aug_core.specs.Opening.{Opening}
-use Rattle.aug_core.specs.Records.{Lists, Fate, at_opening, standing, owned_by, StandsAs, Waits, IsItsLane, OwnsRecord}
+use Rattle.aug_core.specs.Records.{Fate, at_opening, standing, owned_by, StandsAs, Waits, OwnsRecord}
 use Rattle.aug_core.specs.Rule.{HoldsLane, Kept}
 use Rattle.aug_core.specs.Kinds.{load_reservation}
 use Rattle.aug_core.specs.Effects.{Sat, HoldsOnly, on_first}
@@ -18,7 +17,6 @@ use Rattle.aug_core.specs.inside.EraSteps.{WithEra}
 use Rattle.aug_core.specs.declared.step.StepTaken.{StepTaken}
 use Rattle.aug_core.specs.declared.view.Held.{Held}
 use Rattle.aug_core.specs.declared.view.Life.{Life}
-use Rattle.aug_core.specs.declared.view.Owned.{Owned}
 use Rattle.aug_core.specs.declared.view.Reserved.{Reserved}
 use Rattle.aug_core.specs.declared.view.SeatView.{SeatView}
 use Rattle.aug_core.proofs.Owning.{listed_map}

@@ -1,7 +1,7 @@
 -- What the steps show that only a table has which uses records again. A seat loads the era, or turns it to the next; it reserves an era that was reached, and
 -- lets go of it; what it replaced becomes its own with the era that it loads once the root shows later entries; and each load of a reservation
 -- passes those of its own records that this one does not hold.
-use Rattle.std.specs.Prelude.{◌≡◌, ℕ, ◌+◌, ◌≤◌, ◌==◌, Bool, false, nat_lt, nat_le, if◌then◌else◌, List, [], ◌∷◌, ◌++◌, map, slice_index, Some, None}
+use Rattle.std.specs.Prelude.{◌≡◌, ℕ, ◌+◌, ◌≤◌, ◌==◌, Bool, false, nat_lt, nat_le, if◌then◌else◌, [], ◌∷◌, ◌++◌, map, slice_index, Some, None}
 use Rattle.std.specs.List.{range_with_len}
 use Rattle.atomic_table.specs.Table.{Step}
 use Rattle.aug_core.specs.Places.{record_words, reservation_place}

@@ -2,14 +2,14 @@
 -- a prefix of the book, the lanes that it holds with the records that each owns, which changes were accepted from it, and its steps. `Kept` is made of
 -- parts, each about one thing. A seat that is dropped leaves its view behind, and the rule holds with it. In the example it says that the word at 4 is
 -- the number of the newest entry of node 4, that this record stands there, and that its words are the entry's.
-use Rattle.std.specs.Prelude.{◌≡◌, ◌⊎◌, ℕ, ◌+◌, ◌<◌, ◌≤◌, List, [], length, slice_index, Some, None, true, false, replicate}
+use Rattle.std.specs.Prelude.{◌≡◌, ℕ, ◌+◌, ◌<◌, ◌≤◌, List, [], length, slice_index, Some, None, true, false, replicate}
 use mathlib.Core.Option.{some}
 use lib.ListN.{get_elem?}
 use Rattle.atomic_table.specs.Table.{State}
-use Rattle.aug_core.specs.Places.{Shape, lane_place, opening_count, record_start, record_count, word_count, record_words}
-use Rattle.aug_core.specs.Addresses.{place_count, IsInner}
+use Rattle.aug_core.specs.Places.{Shape, lane_place, record_start, word_count, record_words}
+use Rattle.aug_core.specs.Addresses.{place_count}
 use Rattle.aug_core.specs.Lanes.{new_lane, word_of_state}
-use Rattle.aug_core.specs.Book.{Book, At, IsNewest, ArePrefixes, IsFresh, IsBook}
+use Rattle.aug_core.specs.Book.{Book, IsNewest, ArePrefixes, IsFresh, IsBook}
 use Rattle.aug_core.specs.Opening.{Opening, IsIdle, shared_words, opening_book}
 use Rattle.aug_core.specs.Counts.{AreCounted, AreTallied}
 use Rattle.aug_core.specs.declared.view.Beginning.{Beginning}

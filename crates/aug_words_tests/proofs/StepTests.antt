@@ -1,5 +1,5 @@
 -- What the test of two passes on one node needs: a table of 1 bit has the leaves 0 and 1, and the node 2 over them.
-use Rattle.std.proofs.Common.{◌≡◌, ◌≢◌, ℕ, Bool, true, false, ◌+◌, ◌-◌, ◌*◌, ◌/◌, ◌%◌, ◌^◌, ◌<◌, ◌≤◌, eqb, if◌then◌else◌, List, [], ◌∷◌, ◌++◌, get_or, refl, sym, ap, ◌∙◌, subst, arith}
+use Rattle.std.proofs.Common.{inl, ◌≡◌, ◌≢◌, ℕ, Bool, true, false, ◌+◌, ◌-◌, ◌*◌, ◌/◌, ◌%◌, ◌^◌, ◌<◌, ◌≤◌, eqb, if◌then◌else◌, List, [], ◌∷◌, ◌++◌, get_or, refl, sym, ap, ◌∙◌, subst, arith}
 use Rattle.aug_core.specs.Places.{Shape, shape_of, own_records}
 use Rattle.aug_core.specs.Addresses.{IsInner, left_of, right_of}
 use Rattle.aug_core.specs.Book.{IsSerial, IsBook, IsNewest}
@@ -126,5 +126,6 @@ module _ (face : ℕ → ℕ → List (ℕ × ℕ) → List ℕ) (v v1 v2 v3 : S
       five_are = are ∙ (λ i. face (sym first i) (sym second i) (sym below_left i ++ sym below_right i));
     }
 
-    pub may_publish : (number : ℕ) (may : MayStore v3 number) → IsFilled face (filled_view v3 number five) 2 from number
-    may_publish number may = is_filled v3 number five may face 2 from (subst (λ (z : Shape). SaysLoaded face z v3.seen 2 from five) (sym shape3) says)
+    pub may_publish : v.shape.reservations ≡ 0 → (number : ℕ) (may : MayStore v3 number) → IsFilled face (filled_view v3 number five) 2 from number
+    may_publish off number may = let off3 : v3.shape.reservations ≡ 0 = ap (λ (z : Shape). z.reservations) shape3 ∙ off in
+        is_filled v3 number five may face 2 from (subst (λ (z : Shape). SaysLoaded face z v3.seen 2 from five) (sym shape3) says) (inl off3) (inl off3) (inl off3)

@@ -58,6 +58,7 @@ fn words_of<A: Monoid, B: Monoid>(left: u64, right: u64, pairs: &[(u32, u32)]) -
 // Loads the node and then its two leaves, and fills the own record from them. Answers the number that was loaded.
 fn refill<A: Monoid, B: Monoid>(pass: &mut WordPass<'_, A, B>, number: u64) -> u64
     requires bits { pass.old.view.shape.bits ≡ 1 }
+    requires round { pass.old.view.shape.reservations ≡ 0 }
     requires own { MayStore pass.old.view number }
     ensures same { (pass.new.table ≡ pass.old.table) × (pass.new.view.shape ≡ pass.old.view.shape) }
     ensures own { MayStore pass.new.view number }

@@ -52,6 +52,6 @@ returns-clause-filled g c = let m = g.A.Monoid in let n = g.B.Monoid in let f = 
     let may = still_stores f _ _ _ _ c.load_node-from.result c.load_leaf-left.result c.load_leaf-right.result c.requires.bits c.load_node-from.ensures.view c.load_leaf-left.ensures.view c.load_leaf-right.ensures.view c.args.number c.requires.own in
     let are = c.words_over-five.ensures in
     let first = first_is m.parts n.parts five _ _ _ are in let second = second_is m.parts n.parts five _ _ _ are in
-    let good = may_publish f _ _ _ _ c.load_node-from.result c.load_leaf-left.result c.load_leaf-right.result c.requires.bits c.load_node-from.ensures.view c.load_leaf-left.ensures.view c.load_leaf-right.ensures.view five are first second c.args.number may in
+    let good = may_publish f _ _ _ _ c.load_node-from.result c.load_leaf-left.result c.load_leaf-right.result c.requires.bits c.load_node-from.ensures.view c.load_leaf-left.ensures.view c.load_leaf-right.ensures.view five are first second c.requires.round c.args.number may in
     let is = filled_is v3 _ _ _ _ _ c.args.number five c.store_record_word.ensures.view c.store_record_word-2.ensures.view c.store_record_word-3.ensures.view c.store_record_word-4.ensures.view c.store_record_word-5.ensures.view in
     subst (λ (z : SeatView). IsFilled f z 2 c.load_node-from.result c.args.number) (sym is) good

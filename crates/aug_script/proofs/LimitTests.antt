@@ -21,6 +21,7 @@ bounds_pass b is =
       workers = within 1 64 b.workers first.1;
       updates = within 1 65536 b.updates updates.1;
       words = subst (λ (z : ℕ). z ≤ 2 ^ 26) (sym (table_words b)) (leb-true (words_of b) (2 ^ 26) words.1);
+      keeps_records = refl;
     }
 
 tested : (first last n : ℕ) → IsWithin first last n → is_within first last n ≡ true

@@ -22,4 +22,4 @@ pub table_words : (b : Bounds) → word_count (shape_of b.bits b.workers b.updat
 table_words b =
     let root : b.bits - b.bits ≡ 0 = omega arith in
     let own : own_records b.bits (2 ^ b.bits) b.bits ≡ 2 ^ b.bits - 1 = omega (arith, own_all b.bits b.bits (omega arith), ap (λ (z : ℕ). 2 ^ z) root) in
-    ap (λ (z : ℕ). 2 ^ (b.bits + 1) - 1 + b.workers + 5 * (b.bits + z + b.workers * b.updates * b.bits)) own
+    omega (arith, own)

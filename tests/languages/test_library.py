@@ -718,12 +718,15 @@ class Bench:
         if len(os.sched_getaffinity(0)) < 4:
             return
         # A turn of half a second has nine suspensions of 20 ms, each of which falls into a call, or between two of them, and then its time is nobody's.
-        folder = os.path.join(self.folder, "suspended")
-        said = self.script("run", "--passes", "1", "--slice", "50", "--workload", "suspended", "--into", folder)
-        rows = table(said.splitlines(), "Microseconds of a call")
-        self.check_times(rows, [ASIDE["suspended"]])
-        for row in rows.values():
-            assert int(row["calls left out"]) >= 2 and 0.04 <= float(row["suspended, s"]) < 1, row
+        # Beside other work the thread may be waiting for a processor whenever its turn to be suspended comes, so a run is tried three times.
+        for attempt in range(3):
+            folder = os.path.join(self.folder, f"suspended{attempt}")
+            said = self.script("run", "--passes", "1", "--slice", "50", "--workload", "suspended", "--into", folder)
+            rows = table(said.splitlines(), "Microseconds of a call")
+            self.check_times(rows, [ASIDE["suspended"]])
+            if all(int(row["calls left out"]) >= 2 and 0.04 <= float(row["suspended, s"]) < 1 for row in rows.values()):
+                return
+        raise AssertionError(rows)
 
     def check_case(self, rates, ratios):
         """Holds the numbers of a case to one another. Of one pass, each median is the number itself."""

@@ -2,14 +2,12 @@
 use Rattle.std.proofs.Common.{◌≡◌, ◌∙◌, ◌<◌, w64, to_z, of_z, ap, refl, sym, subst, true≢false}
 use lib.Signed.{mag}
 use Rattle.std.proofs.Math.Facts.{to_z-of_z}
-use Rattle.std.specs.Prelude.{ℤ, ℕ, ⊤, Bool, true, false, Option, Some, None, IfSome, IsSome, IsNone}
+use Rattle.std.specs.Prelude.{ℤ, ⊤, Option, Some, None, IsSome, IsNone}
 use Rattle.aug_model.specs.Keys.{SetFacts}
-use Rattle.aug_trie.specs.Pass.{PassFacts}
-use Rattle.aug_trie.specs.Round.{table_of}
-use Rattle.aug_live.specs.LiveHandles.{HandleFacts, IsAsked, IsLookOf, LookFacts, set_of_look}
+use Rattle.aug_live.specs.LiveHandles.{HandleFacts, LookFacts, set_of_look}
 use Rattle.aug_c.specs.Codes as codes
 use Rattle.aug_c.specs.Handles.{state_in, state_of, AsksUser, HandleCall, OnUser, ToAccess, ToLook, UpdatesUser}
-use Rattle.aug_c.specs.UserCalls.{Asks, AsksLook, span_of}
+use Rattle.aug_c.specs.UserCalls.{Asks, AsksLook}
 use Rattle.aug_c.specs.Users.{UserFacts}
 use Rattle.aug_c.specs.declared.raw_handle.HandleSlot.{HandleSlot}
 use Rattle.aug_c.specs.declared.raw_handle.RawHandle.{RawHandle}
@@ -38,46 +36,10 @@ looking_call Does Same old new user access has look after code said some was see
   foreign = λ none. absurd (not_none old.held.value some none);
 }
 
--- the user has no look
-pub looking_none : (Does : LookFacts → LookFacts → ℤ → Type 0) (Same : Type 0) (old new : RawHandle) (user : UserFacts) (access : HandleFacts) (has : Option LookFacts) (code : ℤ) → IsSome old.held.value → state_of old ≡ User user
-    → user_by access has ≡ user → has ≡ None → state_of new ≡ User (user_by access has) → new.tag ≡ old.tag → code ≡ codes.not_looking → Same → AsksUser Does Same old new code
-looking_none Does Same old new user access has code some was seen there is tag says same = record {
-  does = subst (λ (s : HandleState). OnUser (λ x y c. ToLook Does Same x.access x.look y c) Same s (state_of new) code) (sym (was ∙ ap (λ (u : UserFacts). User u) (sym seen ∙ ap (user_by access) there)))
-      (user_by access None, is ∙ ap (λ (o : Option LookFacts). User (user_by access o)) there, (refl, says, same));
-  tag = tag;
-  foreign = λ none. absurd (not_none old.held.value some none);
-}
-
-nothing_in : (o : Option HandleSlot) → (¬ IsSome o) → state_in o ≡ Closed
-nothing_in None empty = refl
-nothing_in (Some slot) empty = absurd (empty refl)
-
--- the handle is not open
-pub closed_call : (Does : UserFacts → UserFacts → ℤ → Type 0) (Same : Type 0) (old : RawHandle) (code : ℤ) (is_open : Bool) → (IsSome old.held.value → is_open ≡ true) → is_open ≡ false → code ≡ codes.closed → Same → HandleCall (OnUser Does Same) old old code
-closed_call Does Same old code is_open opens is says same = record {
-  does = subst (λ (s : HandleState). OnUser Does Same s s code) (sym (nothing_in old.held.value (λ some. true≢false (sym (opens some) ∙ is)))) (refl, says, same);
-  tag = refl;
-  foreign = λ _. refl;
-}
-
 no_user : (Does : UserFacts → UserFacts → ℤ → Type 0) (Same : Type 0) (s : HandleState) (code : ℤ) → ((user : UserFacts) → s ≡ User user → ⊥) → code ≡ codes.closed → Same → OnUser Does Same s s code
 no_user Does Same (User user) code other says same = absurd (other user refl)
 no_user Does Same (Trie trie) code other says same = (refl, says, same)
 no_user Does Same Closed code other says same = (refl, says, same)
-
--- the handle is of no user
-pub other_call : (Does : UserFacts → UserFacts → ℤ → Type 0) (Same : Type 0) (old new : RawHandle) (slot : HandleSlot) (code : ℤ) → IsSome old.held.value → old.held.value ≡ Some slot → ((user : UserFacts) → slot.state ≡ User user → ⊥) → state_of new ≡ slot.state → new.tag ≡ old.tag
-    → code ≡ codes.closed → Same → HandleCall (OnUser Does Same) old new code
-other_call Does Same old new slot code some has other is tag says same = record {
-  does = subst (λ (s : HandleState). OnUser Does Same (state_of old) s code) (sym is) (subst (λ (s : HandleState). OnUser Does Same s slot.state code) (sym (ap state_in has)) (no_user Does Same slot.state code other says same));
-  tag = tag;
-  foreign = λ none. absurd (not_none old.held.value some none);
-}
-
--- a look that was asked is of the same access still
-pub asked_own : (access : HandleFacts) (has : Option LookFacts) (look after : LookFacts) (most : ℕ) → has ≡ Some look → IfSome has (λ l. IsLookOf access l) → IsAsked span_of most look after → IsLookOf access after
-asked_own access has look after most is own asked = let mine = subst (λ (o : Option LookFacts). IfSome o (λ l. IsLookOf access l)) is own in
-    record { table = ap (λ (p : PassFacts). table_of p.round) asked.reads.stays.same ∙ mine.table; lane = ap (λ (l : LookFacts). l.lane) asked.same ∙ mine.lane }
 
 -- something was done to the access of a user
 pub update_call : (Does : HandleFacts → HandleFacts → ℤ → Type 0) (Same : Type 0) (old new : RawHandle) (user : UserFacts) (access after : HandleFacts) (look : Option LookFacts) (code said : ℤ) → IsSome old.held.value → state_of old ≡ User user

@@ -19,7 +19,7 @@ use Rattle.aug_trie.proofs.Rising.{members_rise}
 use Rattle.aug_live.specs.LiveHandles.{LookFacts, IsAsked, set_of_look}
 use Rattle.aug_c.specs.ArrayCalls.{ListsBoth, ListsKeys, ListsMembers, weights_of}
 use Rattle.aug_c.specs.UserCalls.{span_of}
-use Rattle.aug_c.proofs.Reading.{asked_none, asked_on, written_more}
+use Rattle.aug_c.proofs.Reading.{asked_on, written_more}
 
 -- the place of a key among members that rise, where those before this one are below it
 place_from : (k : ℕ) (keys : List ℕ) → IsStrictlyIncreasing keys → (left place : ℕ) → place + left ≡ length keys → ((i : ℕ) → i < place → slice_index keys i < k) → (at : ℕ) × IsBoundary keys k at
@@ -175,9 +175,6 @@ module _ (members : SetFacts → ℕ → List (ℕ × ℕ)) (first : LookFacts) 
     pub most : ℕ
     pub asked : IsAsked span_of most first now
 
-  pub none_written : Written 0 first keys weights
-  none_written = record { few = omega arith; wrote_keys = wrote_none _ keys; wrote_weights = wrote_none _ weights; most = 0; asked = asked_none span_of first }
-
   -- a page of those from a key on, which are the ones that are left
   page_is : (listed from : ℕ) (now : LookFacts) (ks ws : List ℕ) (items : List (ℕ × ℕ)) → Written listed now ks ws → members (set_of_look first) from ≡ drop listed (members (set_of_look first) key) → items ≡ take 32 (members (set_of_look now) from) → items ≡ take 32 (drop listed (members (set_of_look first) key))
   page_is listed from now ks ws items w rest is = is ∙ ap (λ (s : SetFacts). take 32 (members s from)) w.asked.same_set ∙ ap (take 32) rest
@@ -229,20 +226,6 @@ module _ (members : SetFacts → ℕ → List (ℕ × ℕ)) (first : LookFacts) 
       let long = length-map all (λ (p : ℕ × ℕ). p.1) in
       let many = w.few in
       subst (λ (n : ℕ). ListsMembers (weights_of all) weights ws (min (length weights) n)) long (wrote_all (weights_of all) weights ws listed (omega (arith, many, long)) w.wrote_weights (elim end [ inl full ↦ inl (omega (arith, full, few)) | inr whole ↦ inr (whole ∙ sym long) ]))
-
-  -- the call has done all that there is room for
-  pub full_keys : (listed : ℕ) (now : LookFacts) (ks ws : List ℕ) (code : ℤ) → Written listed now ks ws → length ks ≡ length keys → length ks ≤ listed → code ≡ pos (length ks) → ListsKeys (λ set. members set key) keys ks first now code
-  full_keys listed now ks ws code w long full is =
-      let count : length ks ≡ min listed (length keys) = omega (arith, long, full) in
-      listed_keys listed now ks ws code w (inl (omega (arith, long, full))) (is ∙ ap pos count)
-
-  pub full_weights : (listed : ℕ) (now : LookFacts) (ks ws : List ℕ) → Written listed now ks ws → length ks ≡ length keys → length ks ≤ listed → length weights ≤ length keys
-      → ListsMembers (weights_of (members (set_of_look first) key)) weights ws (min (length weights) (length (members (set_of_look first) key)))
-  full_weights listed now ks ws w long full few = listed_weights listed now ks ws w few (inl (omega (arith, long, full)))
-
--- after a page that is full there is less room
-pub less_room : (n n' listed len : ℕ) → n' ≡ n → listed < n → len ≡ 32 → n' - (listed + len) < n - listed
-less_room n n' listed len same within full = omega (arith, same, within, full)
 
 -- the last member of a page that is full
 last_is : (items : List (ℕ × ℕ)) (last : ℕ) → Some last ≡ (if length items == 32 then Some (slice_index_or items 31 (0, 0)).0 else None) → (length items ≡ 32) × ((get_or items 31 (0, 0)).0 ≡ last)

@@ -1,14 +1,12 @@
 -- What opening a trie says if it is opened, and closing one if it goes on.
-use Rattle.std.proofs.Common.{◌≡◌, ◌∙◌, inl, inr, ℕ, List, [], ◌∷◌, ◌++◌, All, Bool, true, false, true≢false, ap, length, sym, subst, pos, refl, arith}
-use Rattle.std.specs.Prelude.{◌≢◌, ◌==◌, ℤ, None, Some, vec_len}
-use Rattle.std.proofs.lemmas.List.{length-append, nil_from_length}
-use Rattle.std.proofs.lemmas.Bool.{cases_eq, eq-eqb, ne_eqb}
+use Rattle.std.proofs.Common.{◌≡◌, ◌∙◌, inl, inr, ℕ, List, [], ◌∷◌, ◌++◌, All, ap, length, sym, subst, pos, refl, arith}
+use Rattle.std.specs.Prelude.{ℤ, None, vec_len}
+use Rattle.std.proofs.lemmas.List.{length-append}
 use Rattle.aug_core.specs.Layout.{IsOutside, IsWithin}
 use Rattle.aug_model.specs.Keys.{SetFacts}
 use Rattle.aug_live.specs.LiveHandles.{HandleFacts, IsNew}
-use Rattle.aug_live.specs.LiveTries.{Closes, IsOpenedTrie, KeepsHandles}
+use Rattle.aug_live.specs.LiveTries.{IsOpenedTrie, KeepsHandles}
 use Rattle.aug_live.specs.Plans.{IsGreatest, Suits}
-use Rattle.aug_live.specs.declared.counts.LiveCounts.{LiveCounts}
 use Rattle.aug_live.specs.declared.plan.Plan.{Plan}
 use Rattle.aug_c.specs.Codes as codes
 use Rattle.aug_c.specs.Handles.{state_in, state_of}
@@ -18,7 +16,6 @@ use Rattle.aug_c.specs.declared.trie_calls.ClosingReport.{ClosingReport}
 use Rattle.aug_c.specs.declared.state.Opened.{Opened}
 use Rattle.aug_c.specs.declared.state.HandleState.{HandleState}
 use Rattle.aug_c.specs.declared.state.HandleState.TheVariants.{Closed, Trie, User}
-use Rattle.aug_c.specs.declared.raw_handle.HandleSlot.{HandleSlot}
 use Rattle.aug_c.specs.declared.raw_handle.RawHandle.{RawHandle}
 use Rattle.aug_c.proofs.Apart.{apart}
 
@@ -48,58 +45,12 @@ module _ (bits users bytes : ℕ) (trie : Opened) where
     others = inl refl;
   }
 
--- a trie that was not opened for want of memory
-pub not_opened : (bits users bytes : ℕ) (old : RawHandle) → IsWithin 1 16 bits → IsWithin 1 64 users → Suits bits users bytes → OpensTrie bits users bytes old old codes.no_memory
-not_opened bits users bytes old within few suits = record {
-  opened = apart codes.no_memory (pos 0) refl;
-  refused = λ _. refl;
-  bad_bits = (apart codes.no_memory codes.bad_bits refl, (λ out. absurd (not_both 1 16 bits within out)));
-  bad_users = (apart codes.no_memory codes.bad_users refl, (λ w. absurd (not_both 1 64 users few w.1)));
-  too_large = (apart codes.no_memory codes.too_large refl, (λ w. absurd (w.2 suits)));
-  others = inr (inr (inr (inr refl)));
-}
-
--- the empty set has the bits that were asked for
-pub suits_set : (bits users bytes : ℕ) (set : SetFacts) → set ≡ empty_of bits → IsWithin 1 16 bits → Suits bits users bytes → (set ≡ empty_of set.bits) × IsWithin 1 16 set.bits × Suits set.bits users bytes
-suits_set bits users bytes set empty within suits = subst (λ (s : SetFacts). (s ≡ empty_of s.bits) × IsWithin 1 16 s.bits × Suits s.bits users bytes) (sym empty) (refl, within, suits)
-
-pub opens_by : (bits users bytes : ℕ) (set : SetFacts) (old new : RawHandle) (code said : ℤ) → set ≡ empty_of bits → code ≡ said → OpensTrie set.bits users bytes old new said → OpensTrie bits users bytes old new code
-opens_by bits users bytes set old new code said empty is opened = subst (OpensTrie bits users bytes old new) (sym is) (subst (λ (s : SetFacts). OpensTrie s.bits users bytes old new said) empty opened)
-
 -- a user of a trie, of which an access was left or not
 pub user_opened : (before after : RawHandle) (old new : Opened) (access : HandleFacts) → state_of after ≡ User (record { access = access; look = None }) → after.tag ≡ user_mark → new.live ≡ old.live → old.spare.items ≡ new.spare.items ++ access ∷ [] → OpensUser before after old new (pos 0)
 user_opened before after old new access is mark same items = record {
   opened = λ _. (access, is, mark, same, items);
   refused = λ n. absurd (n refl);
   no_user = (apart (pos 0) codes.no_user refl, (λ none. absurd (omega (arith, ap (λ (xs : List HandleFacts). length xs) (sym items ∙ none), length-append new.spare.items (access ∷ [])))));
-  others = inl refl;
-}
-
-pub no_spare : (user : RawHandle) (trie : Opened) → trie.spare.items ≡ [] → OpensUser user user trie trie codes.no_user
-no_spare user trie none = record { opened = apart codes.no_user (pos 0) refl; refused = λ _. (refl, refl); no_user = (λ _. none, λ _. refl); others = inr (inl refl) }
-
-pub no_box : (user : RawHandle) (trie : Opened) → trie.spare.items ≢ [] → OpensUser user user trie trie codes.no_memory
-no_box user trie some = record { opened = apart codes.no_memory (pos 0) refl; refused = λ _. (refl, refl); no_user = (apart codes.no_memory codes.no_user refl, (λ none. absurd (some none))); others = inr (inr refl) }
-
--- whether an access is left, by how many there are
-pub empty_by : (items : List HandleFacts) (n : ℕ) (test : Bool) → n ≡ length items → test ≡ (n == 0) → test ≡ true → items ≡ []
-empty_by items n test long says is = elim (cases_eq n 0) [ inl same ↦ nil_from_length items (sym long ∙ same) | inr other ↦ absurd (true≢false (sym is ∙ says ∙ ne_eqb n 0 other)) ]
-
-pub some_by : (items : List HandleFacts) (n : ℕ) (test : Bool) → n ≡ length items → test ≡ (n == 0) → test ≡ false → items ≢ []
-some_by items n test long says is empty = true≢false (sym (says ∙ eq-eqb n 0 (long ∙ ap (λ (xs : List HandleFacts). length xs) empty)) ∙ is)
-
--- a handle of no trie was closed
-pub closed_other : (s r : HandleState) (new : RawHandle) (report : ClosingReport) (code : ℤ) → s ≡ r → ((trie : Opened) → r ≡ Trie trie → ⊥) → new.held.value ≡ None → code ≡ codes.closed → ClosesTrie s new report report code
-closed_other (Trie trie) r new report code same other none says = absurd (other trie (sym same))
-closed_other (User user) r new report code same other none says = (ap state_in none, says, refl)
-closed_other Closed r new report code same other none says = (ap state_in none, says, refl)
-
--- a trie that was closed
-pub closed_for_good : (old : Opened) (new : RawHandle) (before : ClosingReport) (set : SetFacts) (counts : LiveCounts) (size : ℕ) → new.held.value ≡ None → Closes old.live set counts → size ≡ length set.pairs
-    → ClosesOpened old new before (record { inserts = counts.inserts; removals = counts.removals; size = size }) (pos 0)
-closed_for_good old new before set counts size none closes is = record {
-  closed = λ _. (ap state_in none, record { set = set; counts = counts; closes = closes; size = is; inserts = refl; removals = refl });
-  goes_on = λ n. absurd (n refl);
   others = inl refl;
 }
 
@@ -123,7 +74,3 @@ no_trie : (Does : Opened → Opened → ℤ → Type 0) (Same : Type 0) (s : Han
 no_trie Does Same (Trie trie) code other says same = absurd (other trie refl)
 no_trie Does Same (User user) code other says same = (refl, says, same)
 no_trie Does Same Closed code other says same = (refl, says, same)
-
--- and one on what is no trie
-pub other_trie : (Does : Opened → Opened → ℤ → Type 0) (Same : Type 0) (old : RawHandle) (slot : HandleSlot) (code : ℤ) → old.held.value ≡ Some slot → ((trie : Opened) → slot.state ≡ Trie trie → ⊥) → code ≡ codes.closed → Same → OnTrie Does Same (state_of old) slot.state code
-other_trie Does Same old slot code has other says same = subst (λ (s : HandleState). OnTrie Does Same s slot.state code) (sym (ap state_in has)) (no_trie Does Same slot.state code other says same)

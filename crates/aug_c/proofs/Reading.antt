@@ -1,9 +1,6 @@
 -- What a look answers for one key after another.
-use Rattle.std.proofs.Common.{◌≡◌, ◌+◌, ◌-◌, ◌*◌, ◌<◌, ◌≤◌, ◌++◌, ◌∙◌, inl, inr, ℕ, List, [], ◌∷◌, length, map, take, drop, get_or, set, pos, refl, sym, ap, subst, arith}
-use Rattle.std.proofs.lemmas.List.{map-append, take_more, take_all, drop_more, append_assoc, set-append_right, length-map, length-set, length-take-le}
-use Rattle.std.proofs.Math.Nat.{mul-le-mul_right}
-use Rattle.std.proofs.lemmas.Bool.{cases_lt}
-use Rattle.std.specs.Prelude.{ℤ}
+use Rattle.std.proofs.Common.{◌≡◌, ◌+◌, ◌-◌, ◌<◌, ◌≤◌, ◌++◌, ◌∙◌, ℕ, List, [], ◌∷◌, length, map, take, drop, get_or, set, refl, sym, ap, subst, arith}
+use Rattle.std.proofs.lemmas.List.{map-append, take_more, drop_more, append_assoc, set-append_right, length-map, length-set, length-take-le}
 use Rattle.aug_c.specs.Codes as codes
 use Rattle.aug_model.specs.declared.summary.Summary.{Summary}
 use Rattle.aug_model.specs.Keys.{SetFacts}
@@ -64,27 +61,10 @@ written_more {X} first before i answer long room =
     ∙ ap (λ (ys : List X). first ++ ys) (ap (λ (n : ℕ). set (drop i before) n answer) place ∙ ap (λ (ys : List X). set ys 0 answer) (drop_more before i answer room))
     ∙ sym (append_assoc first (answer ∷ []) (drop (i + 1) before))
 
-fits_below : (a b : ℕ) → a ≤ b → b < 9223372036854775808 → a < 18446744073709551616
-fits_below a b low fits = omega (arith, low, fits)
-
--- where there is room for four answers the places of all lie in memory
-module _ (n m s i : ℕ) (four : 4 ≤ n - i) (room : n ≤ m) (fits : m * s < 9223372036854775808) where
-  pub first_fits : i * s < 18446744073709551616
-  first_fits = fits_below (i * s) (m * s) (mul-le-mul_right s (omega (arith, four, room))) fits
-
-  pub next_fits : (j : ℕ) → j ≤ 4 → (i + j) * s < 18446744073709551616
-  next_fits j few = fits_below ((i + j) * s) (m * s) (mul-le-mul_right s (omega (arith, four, room, few))) fits
-
 -- where there is room for four answers there still is after some of them were written
 module _ {X : Type 0} (out before : List X) (keys : List ℕ) (i : ℕ) (four : 4 ≤ length keys - i) (room : length keys ≤ length before) (long : length out ≡ length before) where
   pub second_place : (p : X) → i + 1 < length (set out i p)
   second_place p = omega (arith, four, room, long, length-set out i p)
-
-  pub third_place : (p q : X) → i + 2 < length (set (set out i p) (i + 1) q)
-  third_place p q = omega (arith, four, room, long, length-set out i p, length-set (set out i p) (i + 1) q)
-
-  pub fourth_place : (p q r : X) → i + 3 < length (set (set (set out i p) (i + 1) q) (i + 2) r)
-  fourth_place p q r = omega (arith, four, room, long, length-set out i p, length-set (set out i p) (i + 1) q, length-set (set (set out i p) (i + 1) q) (i + 2) r)
 
 module _ {X : Type 0} (told : SetFacts → ℕ → X) (keys : List ℕ) (before : List X) (first : LookFacts) where
   -- so many of the keys were asked for: the first places tell of them, and the others are as they were
@@ -92,9 +72,6 @@ module _ {X : Type 0} (told : SetFacts → ℕ → X) (keys : List ℕ) (before 
     pub written : out ≡ map (told (set_of_look first)) (take i keys) ++ drop i before
     pub most : ℕ
     pub asked : IsAsked span_of most first now
-
-  pub none_asked : Asked 0 first before
-  none_asked = record { written = refl; most = 0; asked = asked_none span_of first }
 
   pub one_asked : (i most : ℕ) (now next : LookFacts) (out : List X) (answer : X) → i < length keys → length keys ≤ length before → Asked i now out → answer ≡ told (set_of_look now) (get_or keys i 0)
       → IsAsked span_of most now next → Asked (i + 1) next (set out i answer)
@@ -125,24 +102,3 @@ module _ {X : Type 0} (told : SetFacts → ℕ → X) (keys : List ℕ) (before 
   -- there is no room for the answers
   pub no_room : length before < length keys → AnswersArray told keys before before first first codes.bad_length
   no_room less = record { bad_length = λ _. (refl, refl, refl); answers = λ room. absurd (omega (arith, less, room)) }
-
-  -- in either case the look was asked, if at all
-  pub array_asked : (out : List X) (now : LookFacts) (code : ℤ) → AnswersArray told keys before out first now code → (most : ℕ) × IsAsked span_of most first now
-  array_asked out now code a = elim (cases_lt (length before) (length keys)) [
-    | inl less ↦ (0, subst (IsAsked span_of 0 first) (sym (a.bad_length less).1) (asked_none span_of first))
-    | inr room ↦ (let e = (a.answers room).1 in (e.most, e.asked))
-  ]
-
-  -- all were asked for, or there was no room
-  pub all_asked : (i : ℕ) (now : LookFacts) (out : List X) → length keys ≤ i → i ≤ length keys → length keys ≤ length before → Asked i now out → AnswersArray told keys before out first now (pos 0)
-  all_asked i now out a b room done = let same : i ≡ length keys = omega (arith, a, b) in let all = subst (λ (n : ℕ). Asked n now out) same done in record {
-    bad_length = λ less. absurd (omega (arith, less, room));
-    answers = λ _. (
-      refl,
-      record {
-        written = all.written ∙ ap (λ (xs : List ℕ). map (told (set_of_look first)) xs ++ drop (length keys) before) (take_all (length keys) keys (omega arith));
-        most = all.most;
-        asked = all.asked;
-      },
-    );
-  }

@@ -1,6 +1,6 @@
 -- One update after another.
-use Rattle.std.proofs.Common.{◌≡◌, ◌⊎◌, inl, inr, ◌+◌, ◌-◌, ◌<◌, ◌≤◌, min, ◌++◌, ◌∙◌, ℕ, List, [], ◌∷◌, All, length, take, drop, get_or, flat_map, pos, refl, sym, ap, subst, arith}
-use Rattle.std.specs.Prelude.{ℤ, ◌^◌}
+use Rattle.std.proofs.Common.{◌≡◌, ◌⊎◌, inl, inr, ◌+◌, ◌-◌, ◌<◌, ◌≤◌, min, ◌++◌, ◌∙◌, ℕ, List, [], ◌∷◌, All, length, take, drop, get_or, flat_map, refl, sym, ap, subst, arith}
+use Rattle.std.specs.Prelude.{◌^◌}
 use Rattle.std.proofs.lemmas.List.{append-nil, drop-drop, get_or-drop, get_or-take, length-append, length-drop, length-take, take-take}
 use Rattle.std.proofs.lemmas.Grind.{flat_map-append}
 use Rattle.aug_trie.specs.Pass.{PassFacts}
@@ -10,12 +10,12 @@ use Rattle.aug_model.specs.declared.outcome.Outcome.TheVariants.{Refused}
 use Rattle.aug_trie.specs.declared.updates.request.Request.{Request}
 use Rattle.aug_trie.specs.declared.updates.request.Request.TheVariants.{Insert}
 use Rattle.aug_live.specs.LiveErrors.{IfRefused, RefusesCall}
-use Rattle.aug_live.specs.LiveHandles.{HandleFacts, Follows, IsSomeOf, Makes}
+use Rattle.aug_live.specs.LiveHandles.{HandleFacts, IsSomeOf, Makes}
 use Rattle.aug_live.specs.declared.error.Busy.{Busy}
 use Rattle.aug_live.specs.declared.error.TryError.{TryError}
 use Rattle.aug_live.specs.declared.error.TryError.TheVariants as tried
 use Rattle.aug_c.specs.Codes as codes
-use Rattle.aug_c.specs.ArrayCalls.{AsksFrom, HasLengths, InTurn, MakesEach, MakesSome, UpdatesAllFree, changes}
+use Rattle.aug_c.specs.ArrayCalls.{AsksFrom, InTurn, MakesSome, changes}
 use Rattle.aug_c.specs.UserCalls.{ShowsClosed, refusal_code}
 use Rattle.aug_c.specs.declared.array_updates.ArrayProgress.{ArrayProgress}
 use Rattle.aug_c.specs.inside.Refusals.{refusal_of}
@@ -45,14 +45,6 @@ in_turn-more does place keys (d ∷ ds) done p q r room went step =
       in_turn-more does (place + length d) (drop (length d) keys) ds done went.0 q r (omega (arith, room, long, rest, fits)) went.3
           (subst (λ (z : ℕ × List ℕ). does z.0 (take (length done) z.1) done q r) (λ i. (next i, there i)) step),
     )
-
--- why an update that a live trie did not make was not made
-pub again_or_closed : (access : HandleFacts) (cause : TryError Busy) → IfRefused (RefusesCall access) cause → (refusal_code (refusal_of cause) ≡ codes.again) ⊎ ((refusal_code (refusal_of cause) ≡ codes.closed) × ShowsClosed access)
-again_or_closed access (tried.Again missed) why = inl refl
-again_or_closed access (tried.Refused cause) why = inr (refl, (cause, why))
-
-pub told_refusal : (access : HandleFacts) (cause : TryError Busy) (code : ℤ) → code ≡ refusal_code (refusal_of cause) → IfRefused (RefusesCall access) cause → (code ≡ codes.again) ⊎ ((code ≡ codes.closed) × ShowsClosed access)
-told_refusal access cause code says why = subst (λ (z : ℤ). (z ≡ codes.again) ⊎ ((z ≡ codes.closed) × ShowsClosed access)) (sym says) (again_or_closed access cause why)
 
 -- what a batch came to stands in the first places
 first_outcomes : {requests : List Request} {keys : List ℕ} {outcomes : List Outcome} {now new : HandleFacts} (count : ℕ) → length keys ≡ count → Makes count (DoesBatch requests keys outcomes) now new → Makes count (DoesBatch requests keys (take count outcomes)) now new
@@ -92,14 +84,6 @@ pub changes_fit : (keys : List ℕ) (outcomes : List Outcome) (place made change
 changes_fit keys outcomes place made changed n count change le ge inside low few some less =
     let t = length-take n (drop place keys) in let d = length-drop place keys in let o = length-take count outcomes in omega (arith, le, ge, inside, low, few, some, less, t, d, o)
 
--- a batch has a place for each outcome, and no more than 32
-pub outcomes_fit : (keys : List ℕ) (outcomes : List Outcome) (place end count : ℕ) → end ≡ min (length keys) (place + 32) → count ≤ length (take (end - place) (drop place keys)) → length outcomes ≡ 32 → count ≡ length (take count outcomes)
-outcomes_fit keys outcomes place end count ends some long =
-    let t = length-take (end - place) (drop place keys) in let o = length-take count outcomes in omega (arith, ends, some, long, t, o)
-
-pub few_outcomes : (outcomes : List Outcome) (count : ℕ) → length outcomes ≡ 32 → length (take count outcomes) ≤ 32
-few_outcomes outcomes count long = omega (arith, long, length-take count outcomes)
-
 module _ (asked : ℕ → Request) (keys : List ℕ) (before : ArrayProgress) (old : HandleFacts) where
   -- updates were made in turn, as many as the progress says
   pub record Came (so_far : ArrayProgress) (now : HandleFacts) : Type 0 where
@@ -110,9 +94,6 @@ module _ (asked : ℕ → Request) (keys : List ℕ) (before : ArrayProgress) (o
     pub few : so_far.changed ≤ so_far.made
     pub within : so_far.made ≤ length keys
     pub bits : now.half.round.bits ≡ old.half.round.bits
-
-  pub came_none : before.changed ≤ before.made → before.made ≤ length keys → Came before old
-  came_none few within = record { batches = []; in_turn = refl; made = omega arith; changed = omega arith; few = few; within = within; bits = refl }
 
   pub came_more : {requests : List Request} {outcomes : List Outcome} {now new : HandleFacts} (so_far : ArrayProgress) (count change : ℕ) → Came so_far now → so_far.made + count ≤ length keys → count ≤ length outcomes → AsksFrom asked so_far.made count requests
       → change ≡ changes (take count outcomes) → change ≤ count → Makes count (DoesBatch requests (take count (drop so_far.made keys)) outcomes) now new → Came (record { made = so_far.made + count; changed = so_far.changed + change }) new
@@ -151,42 +132,3 @@ module _ (asked : ℕ → Request) (keys : List ℕ) (before : ArrayProgress) (o
             (subst (λ (z : List ℕ). Makes count (DoesBatch requests z outcomes) now new) (take-take count (end - place) (drop place keys) enough ∙ ap (λ (z : ℕ). take count (drop z keys)) here) makes),
         omega (arith, here, one),
       )
-
-  -- all were made
-  pub came_all : (so_far : ArrayProgress) (now : HandleFacts) → length keys ≤ so_far.made → Came so_far now → MakesEach asked keys before so_far old now (pos 0)
-  came_all so_far now all came = record {
-    batches = came.batches;
-    last = now;
-    in_turn = came.in_turn;
-    made = came.made;
-    changed = came.changed;
-    ends = inl (refl, (let within = came.within in omega (arith, within, all)), refl);
-  }
-
-  -- the next ones were not made
-  pub came_so_far : (so_far : ArrayProgress) (now new : HandleFacts) (code : ℤ) (cause : TryError Busy) → so_far.made < length keys → code ≡ refusal_code (refusal_of cause) → Follows now new → IfRefused (RefusesCall new) cause → Came so_far now → MakesEach asked keys before so_far old new code
-  came_so_far so_far now new code cause within says follows why came = record {
-    batches = came.batches;
-    last = now;
-    in_turn = came.in_turn;
-    made = came.made;
-    changed = came.changed;
-    ends = inr (subst (λ (z : ℤ). (z ≡ codes.again) ⊎ ((z ≡ codes.closed) × ShowsClosed new)) (sym says) (again_or_closed new cause why), within, follows);
-  }
-
-module _ (asked : ℕ → Request) (keys : List ℕ) (weights : ℕ) (before : ArrayProgress) (old : HandleFacts) where
-  -- what a test of the lengths says
-  pub lengths_by : (universe : ℕ) → universe ≡ 2 ^ old.half.round.bits → (weights ≡ length keys) × (length keys ≤ universe) × (before.made ≤ length keys) × (before.changed ≤ before.made) → HasLengths old.half.round.bits (length keys) weights before
-  lengths_by universe is has = (has.0, omega (arith, is, has.1), has.2, has.3)
-
-  pub lengths_to : (universe : ℕ) → universe ≡ 2 ^ old.half.round.bits → HasLengths old.half.round.bits (length keys) weights before → (weights ≡ length keys) × (length keys ≤ universe) × (before.made ≤ length keys) × (before.changed ≤ before.made)
-  lengths_to universe is has = (has.0, omega (arith, is, has.1), has.2, has.3)
-
-  pub bad_lengths : (¬ HasLengths old.half.round.bits (length keys) weights before) → UpdatesAllFree asked keys weights before before old old codes.bad_length
-  bad_lengths none = record { bad_length = λ _. (refl, refl, refl); bad_key = λ has _. absurd (none has); makes = λ has _. absurd (none has) }
-
-  pub bad_keys : HasLengths old.half.round.bits (length keys) weights before → (¬ All (λ k. k < 2 ^ old.half.round.bits) keys) → UpdatesAllFree asked keys weights before before old old codes.bad_key
-  bad_keys has none = record { bad_length = λ no. absurd (no has); bad_key = λ _ _. (refl, refl, refl); makes = λ _ all. absurd (none all) }
-
-  pub makes_all : (after : ArrayProgress) (new : HandleFacts) (code said : ℤ) → HasLengths old.half.round.bits (length keys) weights before → All (λ k. k < 2 ^ old.half.round.bits) keys → said ≡ code → MakesEach asked keys before after old new code → UpdatesAllFree asked keys weights before after old new said
-  makes_all after new code said has all says makes = record { bad_length = λ no. absurd (no has); bad_key = λ _ none. absurd (none all); makes = λ _ _. subst (MakesEach asked keys before after old new) (sym says) makes }

@@ -1,5 +1,5 @@
 -- One history of a book grows at its end.
-use Rattle.std.proofs.Common.{◌≡◌, ℕ, zero, suc, ◌+◌, ◌^◌, ◌<◌, ◌≤◌, ◌≢◌, ◌⊎◌, inl, inr, List, [], ◌∷◌, ◌++◌, length, set, sym, refl, ap, ◌∙◌, subst, ⊎_elim, arith, length-set, length-append, get_or-set_other, get_or-set_same}
+use Rattle.std.proofs.Common.{◌≡◌, ℕ, zero, suc, ◌+◌, ◌^◌, ◌<◌, ◌≤◌, ◌≢◌, ◌*◌, ◌⊎◌, inl, inr, Bool, if◌then◌else◌, eq-eqb, ne_eqb, List, [], ◌∷◌, ◌++◌, length, set, sym, refl, ap, ◌∙◌, subst, ⊎_elim, arith, length-set, length-append, get_or-set_other, get_or-set_same}
 use Rattle.std.proofs.lemmas.Bool.{cases_eq, cases_lt}
 use Rattle.std.proofs.lemmas.List.{append-nil}
 use mathlib.Core.Option.{some, some-injective, some-ne-none}
@@ -7,7 +7,7 @@ use lib.ListN.{get_elem?}
 use Rattle.atomic_table.proofs.Lists.{at_last}
 use Rattle.aug_core.specs.Places.{Shape, record_count}
 use Rattle.aug_core.specs.Addresses.{place_count, IsInner, left_of, right_of}
-use Rattle.aug_core.specs.Book.{Book, history_of, At, IsNewest, ArePrefixes, GoesOnFromBoth, StandsOver, IsSerial, IsBook, NamesOnce, IsFresh}
+use Rattle.aug_core.specs.Book.{Book, history_of, At, IsNewest, ArePrefixes, GoesOnFromBoth, StandsOver, IsSerial, word_of_node, IsBook, NamesOnce, IsFresh}
 use Rattle.aug_core.specs.declared.view.Entry.{Entry}
 use Rattle.aug_core.proofs.PrefixLemmas.{either_prefix, prefix_long, entry_stays}
 
@@ -66,11 +66,37 @@ second_covers face s book seen b h q i e f inner past p p' = let a = h.covers q 
 pub one_entry : (book : Book) (q i : ℕ) (e f : Entry) → At book q i e → At book q i f → e ≡ f
 one_entry book q i e f p p' = some-injective e f (sym p ∙ p')
 
--- so is an entry of a leaf or an inner node by its number
-pub same_index : (face : ℕ → ℕ → List (ℕ × ℕ) → List ℕ) (s : Shape) (book : Book) → IsBook face s book → NamesOnce s book → (q i j : ℕ) (e f : Entry) → q < place_count s → At book q i e → At book q j f → e.number ≡ f.number → i ≡ j
-same_index face s book b named q i j e f inside p p' same = ⊎_elim
-    (λ (leaf : q < 2 ^ s.bits). let x = (b.serials q i e leaf p).counted in let y = (b.serials q j f leaf p').counted in omega arith)
-    (λ (past : 2 ^ s.bits ≤ q). named.once q i j e f record { past_leaves = past; inside = inside } p p' same) (cases_lt q (2 ^ s.bits))
+-- ---- the words of nodes
+
+pub plain_word : (s : Shape) (birth number : ℕ) → s.reservations ≡ 0 → word_of_node s birth number ≡ number
+plain_word s birth number off = ap (λ (b : Bool). if b then number else birth * 2 ^ 24 + number) (eq-eqb s.reservations 0 off)
+
+pub unborn_word : (s : Shape) (number : ℕ) → word_of_node s 0 number ≡ number
+unborn_word s number = ⊎_elim (plain_word s 0 number) (λ used. ap (λ (b : Bool). if b then number else 0 * 2 ^ 24 + number) (ne_eqb s.reservations 0 used) ∙ (let is : 0 * 2 ^ 24 + number ≡ number = omega arith in is)) (cases_eq s.reservations 0)
+
+pub born_word : (s : Shape) (birth number : ℕ) → s.reservations ≢ 0 → word_of_node s birth number ≡ birth * 2 ^ 24 + number
+born_word s birth number used = ap (λ (b : Bool). if b then number else birth * 2 ^ 24 + number) (ne_eqb s.reservations 0 used)
+
+-- a word names one number, and one birth if there are births
+pub names_one : (s : Shape) (b n c m : ℕ) → (0 < s.reservations → (n < 2 ^ 24) × (m < 2 ^ 24)) → word_of_node s b n ≡ word_of_node s c m → (n ≡ m) × (0 < s.reservations → b ≡ c)
+names_one s b n c m few same = ⊎_elim
+    (λ (off : s.reservations ≡ 0). (sym (plain_word s b n off) ∙ same ∙ plain_word s c m off, λ used. absurd (omega arith)))
+    (λ used. let is : b * 2 ^ 24 + n ≡ c * 2 ^ 24 + m = sym (born_word s b n used) ∙ same ∙ born_word s c m used in let low = few (omega arith) in let l0 = low.0 in let l1 = low.1 in (omega arith, λ _. omega arith)) (cases_eq s.reservations 0)
+
+-- of one birth it names one number
+pub same_number : (s : Shape) (birth n m : ℕ) → word_of_node s birth n ≡ word_of_node s birth m → n ≡ m
+same_number s birth n m same = ⊎_elim (λ off. sym (plain_word s birth n off) ∙ same ∙ plain_word s birth m off)
+    (λ used. let is : birth * 2 ^ 24 + n ≡ birth * 2 ^ 24 + m = sym (born_word s birth n used) ∙ same ∙ born_word s birth m used in omega arith) (cases_eq s.reservations 0)
+
+module _ (face : ℕ → ℕ → List (ℕ × ℕ) → List ℕ) (s : Shape) (book : Book) (b : IsBook face s book) where
+  -- so two entries of a node with one word are of one record, which was made once
+  pub one_name : (q i j : ℕ) (e f : Entry) → IsInner s q → At book q i e → At book q j f → e.word ≡ f.word → (e.number ≡ f.number) × (0 < s.reservations → e.birth ≡ f.birth)
+  one_name q i j e f inner p p' same = names_one s e.birth e.number f.birth f.number (λ used. let few = b.numbers used in let l = b.below q i e inner p in let m = b.below q j f inner p' in (omega arith, omega arith))
+      (sym (b.named q i e inner p) ∙ same ∙ b.named q j f inner p')
+
+  -- in a round the word is the number
+  pub plainly_named : s.reservations ≡ 0 → (q i : ℕ) (e : Entry) → IsInner s q → At book q i e → e.word ≡ e.number
+  plainly_named off q i e inner p = b.named q i e inner p ∙ plain_word s e.birth e.number off
 
 -- no older than the newest
 pub newest_is_last : (book : Book) (q i j : ℕ) (e f : Entry) → IsNewest book q i e → At book q j f → j ≤ i
@@ -134,11 +160,12 @@ module _ (book : Book) (q : ℕ) (in_book : q < length book) (e : Entry) where
 
     -- an inner node has a new entry
     module _ (inner : IsInner s q) (i0 : ℕ) (top : Entry) (newest : IsNewest book q i0 top) where
-      pub grows : e.word ≡ e.number → e.number < record_count s → StandsOver face s book q e → top.left ≤ e.left → top.right ≤ e.right
+      pub grows : e.word ≡ word_of_node s e.birth e.number → e.number < record_count s → StandsOver face s book q e → top.left ≤ e.left → top.right ≤ e.right
           → top.left_floor ≤ e.left → top.right_floor ≤ e.right → Floors book q e → IsBook face s grow
       grows named under over up up' kn kn' fl = record {
         long = length-set book q (history_of book q ++ e ∷ []) ∙ b.long;
-        named = λ p i x low at. ⊎_elim (λ t. b.named p i x low t) (λ t. subst (λ (z : Entry). z.word ≡ z.number) t.2 named) (at_grown p i x at);
+        named = λ p i x low at. ⊎_elim (λ t. b.named p i x low t) (λ t. subst (λ (z : Entry). z.word ≡ word_of_node s z.birth z.number) t.2 named) (at_grown p i x at);
+        numbers = b.numbers;
         below = λ p i x low at. ⊎_elim (λ t. b.below p i x low t) (λ t. subst (λ (z : Entry). z.number < record_count s) t.2 under) (at_grown p i x at);
         over = λ p i x low at. stands_over p x (⊎_elim (λ t. b.over p i x low t) (λ t. subst (λ (z : ℕ × Entry). StandsOver face s book z.0 z.1) (λ k. (sym t.0 k, t.2 k)) over) (at_grown p i x at));
         rises = λ p i j x y low at at' le. ⊎_elim
@@ -171,6 +198,7 @@ module _ (book : Book) (q : ℕ) (in_book : q < length book) (e : Entry) where
       counts serial = record {
         long = length-set book q (history_of book q ++ e ∷ []) ∙ b.long;
         named = λ p i x low at. b.named p i x low (old_inner p i x low at);
+        numbers = b.numbers;
         below = λ p i x low at. b.below p i x low (old_inner p i x low at);
         over = λ p i x low at. stands_over p x (b.over p i x low (old_inner p i x low at));
         rises = λ p i j x y low at at' le. b.rises p i j x y low (old_inner p i x low at) (old_inner p j y low at') le;

@@ -7,9 +7,9 @@ use Rattle.aug_core.specs.Places.{Shape, record_start, record_words, word_count,
 use Rattle.aug_core.specs.Addresses.{IsInner}
 use Rattle.aug_core.specs.Lanes.{word_of_state}
 use Rattle.aug_core.specs.Eras.{IsAtWork, Ruled}
-use Rattle.aug_core.specs.Reclaiming.{loaded_era, turned_era, reserved_era, released_era, retired, scanned}
-use Rattle.aug_core.specs.inside.Reclaims.{MayReserve, own_reservation, ShowsLater}
-use Rattle.aug_core.specs.Effects.{Sat, HoldsOnly, in_part, read_record, MayStore, stored_record, own_lane_place, took_lane, finished_lane, loaded_leaf, began_at_leaf, MayChange, old_word, new_word, IsAdvance, KnowsSerial, tried_leaf, loaded_node, IsFilled, tried_node}
+use Rattle.aug_core.specs.Reclaiming.{loaded_era, turned_era, reserved_era, released_era, retired, scanned, own_reservation, ShowsLater}
+use Rattle.aug_core.specs.inside.Reclaims.{MayReserve}
+use Rattle.aug_core.specs.Effects.{Sat, HoldsOnly, in_part, read_record, MayStore, word_by, stored_record, own_lane_place, took_lane, finished_lane, loaded_leaf, began_at_leaf, MayChange, old_word, new_word, IsAdvance, KnowsSerial, tried_leaf, loaded_node, IsFilled, tried_node}
 use Rattle.aug_core.specs.inside.LaneStates.{MayTake, HasTakenLane}
 use Rattle.aug_core.specs.declared.view.Advance.{Advance}
 use Rattle.aug_core.specs.declared.view.Held.{Held}
@@ -61,10 +61,10 @@ module _ (face : ℕ → ℕ → List (ℕ × ℕ) → List ℕ) (shape : Shape)
   allows_leaf key i old new b me from to live empty inside at low has may known is = in_its_era face shape n id key i me (λ z. either (eqb z old) new z) (λ w. tried_leaf face (step n w old new none) me)
       (holds_lane me.0 has.lane has.only) live inside at (λ o. leaf.allows_leaf face o n id key old new b me from to live empty low has may known is)
 
-  pub tries_node : (q i old number : ℕ) (me : Sat) → me.0.live ≡ true → me.1 ≡ [] → q < word_count me.0.shape → i ≡ me.0.base + q → IsInner me.0.shape q → HasTakenLane me.0 → MayStore me.0 number → IsFilled face me.0 q old number
-      → Allows (Ruled face shape) n id me i (λ x. either (eqb x old) number x) (in_part (tried_node face) (step n i old number none) me)
-  tries_node q i old number me live empty inside at inner has may c = in_its_era face shape n id q i me (λ x. either (eqb x old) number x) (λ w. tried_node face (step n w old number none) me)
-      (holds_lane me.0 has.lane has.only) live inside at (λ o. node.tries_node face o n id q old number me live empty inner has may c)
+  pub tries_node : (q i old number new : ℕ) (me : Sat) → new ≡ word_by me.0 number → me.0.live ≡ true → me.1 ≡ [] → q < word_count me.0.shape → i ≡ me.0.base + q → IsInner me.0.shape q → HasTakenLane me.0 → MayStore me.0 number → IsFilled face me.0 q old number
+      → Allows (Ruled face shape) n id me i (λ x. either (eqb x old) new x) (in_part (tried_node face) (step n i old new none) me)
+  tries_node q i old number new me named live empty inside at inner has may c = in_its_era face shape n id q i me (λ x. either (eqb x old) new x) (λ w. tried_node face (step n w old new none) me)
+      (holds_lane me.0 has.lane has.only) live inside at (λ o. node.allows_node face o n id q old number new me named live empty inner has may c)
 
   -- where records are used again
 

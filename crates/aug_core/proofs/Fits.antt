@@ -1,5 +1,5 @@
 -- No serial is past the updates of all workers, and what a step that shows the whole book tells.
-use Rattle.std.proofs.Common.{Option, ◌≡◌, ℕ, suc, ◌*◌, ◌^◌, ◌<◌, ◌≤◌, Bool, true, false, if◌then◌else◌, List, [], ◌∷◌, length, get_or, All, sym, subst, arith, suc-mul, mul-le-mul_right, ap}
+use Rattle.std.proofs.Common.{◌∙◌, Option, ◌≡◌, ℕ, suc, ◌*◌, ◌^◌, ◌<◌, ◌≤◌, Bool, true, false, if◌then◌else◌, List, [], ◌∷◌, length, get_or, All, sym, subst, arith, suc-mul, mul-le-mul_right, ap}
 use Rattle.std.specs.List.{sum_by}
 use Rattle.std.proofs.lemmas.List.Sums.{sum_by-cons}
 use Rattle.aug_core.specs.Places.{Shape}
@@ -12,7 +12,7 @@ use Rattle.aug_model.specs.Keys.{IsKeySet}
 use Rattle.aug_core.specs.Layout.{IsLayout}
 use Rattle.aug_core.specs.Opening.{opening_book}
 use Rattle.aug_core.specs.Records.{Fate, StandsAs, KeepsRecords}
-use Rattle.aug_core.specs.Effects.{KnowsTable, Sees, taking, handed_out}
+use Rattle.aug_core.specs.Effects.{KnowsBook, KnowsTable, Sees, taking, handed_out}
 use Rattle.aug_core.specs.declared.step.StepTaken.{StepTaken}
 use Rattle.aug_core.specs.declared.view.Beginning.{Beginning}
 use Rattle.aug_core.specs.declared.view.Held.{Held}
@@ -51,42 +51,63 @@ named_once s words fate gone book k off = record {
 }
 
 module _ (face : ℕ → ℕ → List (ℕ × ℕ) → List ℕ) where
-  pub sees_after : (v w : SeatView) (s : Shape) → v.shape ≡ s → ArePrefixes v.seen w.seen → ArePrefixes v.also w.seen → IsFresh s w.seen v.seen → IsBook face s w.seen → (s.reservations ≡ 0 → NamesOnce s w.seen) → SerialsFit s w.seen → Sees face v w
-  sees_after v w s shaped later also fresh book named fits = record {
+  pub sees_after : (v w : SeatView) (s : Shape) → v.shape ≡ s → ArePrefixes v.seen w.seen → ArePrefixes v.also w.seen → IsFresh s w.seen v.seen → IsBook face s w.seen → (s.reservations ≡ 0 → NamesOnce s w.seen × SerialsFit s w.seen) → Sees face v w
+  sees_after v w s shaped later also fresh book round = record {
     later = later;
     also_later = also;
     fresh = subst (λ (z : Shape). IsFresh z w.seen v.seen) (sym shaped) fresh;
     book = subst (λ (z : Shape). IsBook face z w.seen) (sym shaped) book;
-    named = subst (λ (z : Shape). z.reservations ≡ 0 → NamesOnce z w.seen) (sym shaped) named;
-    fits = subst (λ (z : Shape). SerialsFit z w.seen) (sym shaped) fits;
+    named = subst (λ (z : Shape). z.reservations ≡ 0 → NamesOnce z w.seen) (sym shaped) (λ off. (round off).0);
+    fits = subst (λ (z : Shape). z.reservations ≡ 0 → SerialsFit z w.seen) (sym shaped) (λ off. (round off).1);
+  }
+
+  -- what a seat knows of a round's table is what it knows of any
+  pub any_table : (v : SeatView) → KnowsTable face v → KnowsBook face v
+  any_table v kn = record { laid_out = kn.laid_out; key_set = kn.key_set; members_fit = kn.members_fit; few_members = kn.few_members; book = kn.book; opened = kn.opened; in_round = λ off. (kn.named, kn.fits) }
+
+  pub round_table : (v : SeatView) → v.shape.reservations ≡ 0 → KnowsBook face v → KnowsTable face v
+  round_table v off kn = record { keeps_records = off; laid_out = kn.laid_out; key_set = kn.key_set; members_fit = kn.members_fit; few_members = kn.few_members; book = kn.book; named = (kn.in_round off).0; opened = kn.opened; fits = (kn.in_round off).1 }
+
+  -- it is told of how the table opened and of what was seen
+  pub book_as : (v : SeatView) {w : SeatView} → w.shape ≡ v.shape → w.members ≡ v.members → w.seen ≡ v.seen → KnowsBook face v → KnowsBook face w
+  book_as v shaped same seen kn = record {
+    laid_out = subst IsLayout (sym shaped) kn.laid_out;
+    key_set = subst (λ (z : ℕ × List (ℕ × ℕ)). IsKeySet z.0 (keys_of z.1)) (λ i. ((sym shaped i).bits, sym same i)) kn.key_set;
+    members_fit = subst (All FitsPair) (sym same) kn.members_fit;
+    few_members = subst (λ (z : ℕ × List (ℕ × ℕ)). length z.1 ≤ z.0) (λ i. ((sym shaped i).members, sym same i)) kn.few_members;
+    book = subst (λ (z : Shape × Book). IsBook face z.0 z.1) (λ i. (sym shaped i, sym seen i)) kn.book;
+    opened = subst (λ (z : Opening × Book). ArePrefixes (opening_book face z.0) z.1) (λ i. (record { shape = sym shaped i; members = sym same i }, sym seen i)) kn.opened;
+    in_round = subst (λ (z : Shape × Book). z.0.reservations ≡ 0 → NamesOnce z.0 z.1 × SerialsFit z.0 z.1) (λ i. (sym shaped i, sym seen i)) kn.in_round;
   }
 
   -- what a seat knows of its table it knows after a step that showed it the whole book
-  pub knows_shown : (v w : SeatView) → KnowsTable face v → Sees face v w → w.shape ≡ v.shape → w.members ≡ v.members → KnowsTable face w
-  knows_shown v w kn sees shaped same = record {
+  pub book_shown : (v w : SeatView) → KnowsBook face v → Sees face v w → w.shape ≡ v.shape → w.members ≡ v.members → KnowsBook face w
+  book_shown v w kn sees shaped same = record {
     laid_out = subst IsLayout (sym shaped) kn.laid_out;
     key_set = subst (λ (z : ℕ × List (ℕ × ℕ)). IsKeySet z.0 (keys_of z.1)) (λ i. ((sym shaped i).bits, sym same i)) kn.key_set;
     members_fit = subst (All FitsPair) (sym same) kn.members_fit;
     few_members = subst (λ (z : ℕ × List (ℕ × ℕ)). length z.1 ≤ z.0) (λ i. ((sym shaped i).members, sym same i)) kn.few_members;
     book = subst (λ (z : Shape). IsBook face z w.seen) (sym shaped) sees.book;
-    named = subst (λ (z : Shape). NamesOnce z w.seen) (sym shaped) (sees.named kn.laid_out.keeps_records);
     opened = subst (λ (z : Opening). ArePrefixes (opening_book face z) w.seen) (λ i. record { shape = sym shaped i; members = sym same i }) (book_trans kn.opened sees.later);
-    fits = subst (λ (z : Shape). SerialsFit z w.seen) (sym shaped) sees.fits;
+    in_round = subst (λ (z : Shape). z.reservations ≡ 0 → NamesOnce z w.seen × SerialsFit z w.seen) (sym shaped) (λ off. (sees.named off, sees.fits off));
   }
+
+  pub knows_shown : (v w : SeatView) → KnowsTable face v → Sees face v w → w.shape ≡ v.shape → w.members ≡ v.members → KnowsTable face w
+  knows_shown v w kn sees shaped same = round_table w (ap (λ (z : Shape). z.reservations) shaped ∙ kn.keeps_records) (book_shown v w (any_table v kn) sees shaped same)
 
   -- and so it does after one that showed it nothing
   pub knows_same : (v : SeatView) (live : Bool) (also : Book) (held : List Held) (spare : Option ℕ) (began : Beginning) (steps : List StepTaken) → KnowsTable face v
       → KnowsTable face record v { live = live; also = also; held = held; spare = spare; began = began; steps = steps }
-  knows_same v live also held spare began steps kn = record { laid_out = kn.laid_out; key_set = kn.key_set; members_fit = kn.members_fit; few_members = kn.few_members; book = kn.book; named = kn.named; opened = kn.opened; fits = kn.fits }
+  knows_same v live also held spare began steps kn = record { keeps_records = kn.keeps_records; laid_out = kn.laid_out; key_set = kn.key_set; members_fit = kn.members_fit; few_members = kn.few_members; book = kn.book; named = kn.named; opened = kn.opened; fits = kn.fits }
 
   -- and for whomever it answers
   pub knows_lent : (v : SeatView) (lent : List ℕ) → KnowsTable face v → KnowsTable face record v { lent = lent }
-  knows_lent v lent kn = record { laid_out = kn.laid_out; key_set = kn.key_set; members_fit = kn.members_fit; few_members = kn.few_members; book = kn.book; named = kn.named; opened = kn.opened; fits = kn.fits }
+  knows_lent v lent kn = record { keeps_records = kn.keeps_records; laid_out = kn.laid_out; key_set = kn.key_set; members_fit = kn.members_fit; few_members = kn.few_members; book = kn.book; named = kn.named; opened = kn.opened; fits = kn.fits }
 
   -- and after it took something in
   pub knows_told : (v : SeatView) (also : Book) (told : Option Learnt) → KnowsTable face v → KnowsTable face record v { also = also; told = told }
-  knows_told v also told kn = record { laid_out = kn.laid_out; key_set = kn.key_set; members_fit = kn.members_fit; few_members = kn.few_members; book = kn.book; named = kn.named; opened = kn.opened; fits = kn.fits }
+  knows_told v also told kn = record { keeps_records = kn.keeps_records; laid_out = kn.laid_out; key_set = kn.key_set; members_fit = kn.members_fit; few_members = kn.few_members; book = kn.book; named = kn.named; opened = kn.opened; fits = kn.fits }
 
   -- a view that was just handed a lane, and took it, knows of its table what the other knows
   pub knows_taken : (v : SeatView) (place : ℕ) → KnowsTable face v → KnowsTable face (taking (handed_out v) place)
-  knows_taken v place kn = record { laid_out = kn.laid_out; key_set = kn.key_set; members_fit = kn.members_fit; few_members = kn.few_members; book = kn.book; named = kn.named; opened = kn.opened; fits = kn.fits }
+  knows_taken v place kn = record { keeps_records = kn.keeps_records; laid_out = kn.laid_out; key_set = kn.key_set; members_fit = kn.members_fit; few_members = kn.few_members; book = kn.book; named = kn.named; opened = kn.opened; fits = kn.fits }

@@ -166,7 +166,7 @@ module _ (face : ℕ → ℕ → List (ℕ × ℕ) → List ℕ) (o : Opening) (
         none_else = λ i a k c p. ⊎_elim (λ x. r.changes.counted.none_else i a k c x.1) (λ x. r.changes.counted.none_else other x.0 k c x.3) (before i a k c p);
       };
       tally = r.changes.tally;
-      tallied = let t = r.changes.tallied in record {
+      tallied = λ off. let t = r.changes.tallied off in record {
         long = t.long;
         each = λ i a x h p ph. ⊎_elim (λ y. t.each i a y.0 h y.2 y.3) (λ y. t.each other y.0 w h at' y.3) (stood i a x h p ph);
         few = t.few;

@@ -1,11 +1,11 @@
 -- What a step leaves of the records: those that are in use stand, those that a reservation holds are not written, and those that were replaced stand.
-use Rattle.std.proofs.Common.{◌≡◌, ◌≢◌, ◌⊎◌, inl, inr, ℕ, ◌+◌, ◌<◌, ◌≤◌, List, get_or, refl, sym, ◌∙◌, subst, ⊎_elim, arith, Some, None}
+use Rattle.std.proofs.Common.{◌≡◌, ◌≢◌, ◌⊎◌, inl, inr, ℕ, ◌+◌, ◌<◌, ◌≤◌, List, get_or, refl, sym, ap, ◌∙◌, subst, ⊎_elim, arith, Some, None}
 use mathlib.Core.Option.{some}
 use lib.ListN.{get_elem?}
 use Rattle.aug_core.specs.Places.{Shape, opening_count, era_place, reservation_place}
 use Rattle.aug_core.specs.Addresses.{IsInner, left_of, right_of}
 use Rattle.aug_core.specs.Book.{Book, At, ArePrefixes}
-use Rattle.aug_core.specs.Records.{Lists, HasWords, Fate, at_opening, standing, owned_by, StandsAs, IsThere, Waits, Protects, IsItsLane, IsReplaced, KeepsView, KeepsRecords}
+use Rattle.aug_core.specs.Records.{Lists, HasWords, Fate, at_opening, standing, owned_by, StandsAs, IsThere, floor_of, Waits, Protects, IsItsLane, IsReplaced, KeepsView, KeepsRecords}
 use Rattle.aug_core.specs.declared.view.Entry.{Entry}
 use Rattle.aug_core.specs.declared.view.Held.{Held}
 use Rattle.aug_core.specs.declared.view.Life.{Life}
@@ -84,12 +84,21 @@ module _ (s : Shape) (words : List ℕ) (fate : ℕ → Fate) (gone : ℕ → �
         not_late = let more = l.era in let le = p.not_late in omega arith;
         in_use = p.in_use;
         closed = record { below = λ q i e inner at le. ⊎_elim (λ old. p.closed.below q i e inner old le) (λ new. let a = p.in_use (left_of s q) in let b = p.in_use (right_of s q) in let n0 = new.1 in let n1 = new.2 in (omega arith, omega arith)) (l.came q i e inner at) };
-        holds = λ q i e inner at young le. ⊎_elim
-            (λ old. let t = p.holds q i e inner old young le in ⊎_elim
-            (λ stands. let on = l.there q i e inner old record { stands = stands; words_are = t.0 } in (on.words_are, inl on.stands))
-            (λ waits. let on = l.waits x q i e inner old p.exists p.some_era p.word waits t.0 in (on.1, inr on.0)) t.1)
-            (λ new. (new.0.words_are, inl new.0.stands)) (l.came q i e inner at);
+        holds = held;
+        once = λ q i j e f inner at at' young young' le le' same.
+            let with_new : (i j : ℕ) (e f : Entry) → At book' q i e → e.birth ≤ x.era → floor_of x q ≤ i → StandsAs s (fate' f.number) q j → e.number ≡ f.number → i ≡ j =
+            λ i j e f at young le stands same. ⊎_elim (λ a. one_standing s (fate' f.number) q i j (subst (λ (z : ℕ). StandsAs s (fate' z) q i) same a) stands)
+            (λ (w : Waits fate' x e.number). absurd (stands_unowned s (fate' f.number) q j w.lane w.life stands (ap fate' (sym same) ∙ w.fate_is))) (held q i e inner at young le).1 in ⊎_elim
+            (λ old. ⊎_elim (λ old'. p.once q i j e f inner old old' young young' le le' same) (λ new'. with_new i j e f at young le new'.0.stands same) (l.came q j f inner at'))
+            (λ new. sym (with_new j i f e at' young' le' new.0.stands (sym same))) (l.came q i e inner at);
       }
+        where
+          held : (q i : ℕ) (e : Entry) → IsInner s q → At book' q i e → e.birth ≤ x.era → floor_of x q ≤ i → HasWords s after e.number e.words × (StandsAs s (fate' e.number) q i ⊎ Waits fate' x e.number)
+          held q i e inner at young le = ⊎_elim
+              (λ old. let t = p.holds q i e inner old young le in ⊎_elim
+              (λ stands. let on = l.there q i e inner old record { stands = stands; words_are = t.0 } in (on.words_are, inl on.stands))
+              (λ waits. let on = l.waits x q i e inner old p.exists p.some_era p.word waits t.0 in (on.1, inr on.0)) t.1)
+              (λ new. (new.0.words_are, inl new.0.stands)) (l.came q i e inner at)
 
       pub replaced_on : (lane : ℕ) (c : Replaced) → IsReplaced s words fate book lane c → IsReplaced s after fate' book' lane c
       replaced_on lane c r = record {

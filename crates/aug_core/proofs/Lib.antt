@@ -36,6 +36,7 @@ pub mod CutsUnder
 pub mod EntryCuts
 pub mod OpeningCuts
 pub mod Refreshing
+pub mod LastNamed
 pub mod EntryKeys
 pub mod Filling
 pub mod FaceLemmas

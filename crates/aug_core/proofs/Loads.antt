@@ -63,8 +63,7 @@ module _ (face : ℕ → ℕ → List (ℕ × ℕ) → List ℕ) (o : Opening) w
     pub sees_it : (w : SeatView) → w.seen ≡ r.book → Sees face v w
     sees_it w is = let kn = r.each_view id v at in sees_after face v w o.shape (kn.shaped live)
         (subst (ArePrefixes v.seen) (sym is) kn.saw) (subst (ArePrefixes v.also) (sym is) kn.also_saw)
-        (subst (λ z. IsFresh o.shape z v.seen) (sym is) kn.fresh) (subst (λ z. IsBook face o.shape z) (sym is) r.tree.is_book) (λ off. subst (λ z. NamesOnce o.shape z) (sym is) (named_once o.shape s.words r.fate r.gone r.book r.records off))
-        (subst (λ z. SerialsFit o.shape z) (sym is) (fits_book o s.words r.book s.views r.changes.tally r.changes.tallied))
+        (subst (λ z. IsFresh o.shape z v.seen) (sym is) kn.fresh) (subst (λ z. IsBook face o.shape z) (sym is) r.tree.is_book) (λ off. subst (λ z. NamesOnce o.shape z × SerialsFit o.shape z) (sym is) (named_once o.shape s.words r.fate r.gone r.book r.records off, fits_book o s.words r.book s.views r.changes.tally (r.changes.tallied off)))
 
     -- a leaf's word is that of its newest entry
     leaf_told : (place : ℕ) (w : SeatView) → w.seen ≡ r.book → place < 2 ^ v.shape.bits → LeafLoaded face v w w place (get_or s.words place 0)
@@ -122,7 +121,7 @@ module _ (face : ℕ → ℕ → List (ℕ × ℕ) → List ℕ) (o : Opening) w
     index = t.index;
     entry = t.entry;
     newest = t.newest;
-    found = t.word ∙ r.tree.is_book.named place t.index t.entry inner' t.newest.at;
+    found = t.word;
     shown = t.shown;
     held = λ x e. let p = ((r.each_view id v at).records.reserved x e).1 in let low = p.in_use place in let top = r.records.newest place inner'.inside in let long = t.newest.last in
         (omega arith, subst (λ (z : Shape). IsClosed z r.book (floor_of x)) (sym ((r.each_view id v at).shaped live)) p.closed);

@@ -90,7 +90,7 @@ module _ (face : ℕ → ℕ → List (ℕ × ℕ) → List ℕ) (o : Opening) (
     was_free lane low free = ⊎_elim (λ stays. sym stays ∙ free) (λ (mine : IsMine o.shape after v lane). let pos = mine.some_state in absurd (omega arith)) (m.lanes lane low)
 
     -- the rule holds after the step, where the changes are counted
-    pub moves : (w : SeatView) → Likens v w → Knows o after fate' gone' book' w → AreCounted o book' (set s.views id w) → (tally : List ℕ) → AreTallied o after book' (set s.views id w) tally
+    pub moves : (w : SeatView) → Likens v w → Knows o after fate' gone' book' w → AreCounted o book' (set s.views id w) → (tally : List ℕ) → (o.shape.reservations ≡ 0 → AreTallied o after book' (set s.views id w) tally)
         → Kept face o record { words = after; homes = s.homes; views = set s.views id w }
     moves w like knows counted tally tallied = record {
       book = book';
@@ -116,8 +116,8 @@ module _ (face : ℕ → ℕ → List (ℕ × ℕ) → List ℕ) (o : Opening) (
     SameLeaves = (key : ℕ) → key < 2 ^ o.shape.bits → length (history_of book' key) ≡ length (history_of r.book key)
 
     -- the tally stays
-    tallied_on : (w : SeatView) → Repeats v w → SameLeaves → AreTallied o after book' (set s.views id w) r.changes.tally
-    tallied_on w rep same = let t = r.changes.tallied in record {
+    tallied_on : (w : SeatView) → Repeats v w → SameLeaves → o.shape.reservations ≡ 0 → AreTallied o after book' (set s.views id w) r.changes.tally
+    tallied_on w rep same off = let t = r.changes.tallied off in record {
       long = t.long;
       each = λ i a u h p held. ⊎_elim
           (λ is. let g = rep.back a h (subst (λ (z : SeatView). get_elem? z.held a ≡ some h) (sym is.1) held) in

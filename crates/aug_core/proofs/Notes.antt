@@ -88,7 +88,7 @@ module _ (face : ℕ → ℕ → List (ℕ × ℕ) → List ℕ) (o : Opening) (
         none_else = λ i a k c p. r.changes.counted.none_else i a k c (stood i a k c p);
       };
       tally = r.changes.tally;
-      tallied = let t = r.changes.tallied in record {
+      tallied = λ off. let t = r.changes.tallied off in record {
         long = t.long;
         each = λ i a x h p ph. t.each i a x h (holder i a x h p ph) ph;
         few = t.few;

@@ -7,17 +7,17 @@ use Rattle.std.proofs.lemmas.Nat.{div-mul-add}
 use Rattle.std.proofs.lemmas.List.FromFn.{length-map-range_with_len, get_or-map-range_with_len}
 use mathlib.Core.Option.{Option, some, some-injective, some-ne-none}
 use lib.ListN.{get_elem?}
-use Rattle.aug_core.specs.Places.{Shape, opening_count, record_start, record_words}
+use Rattle.aug_core.specs.Places.{Shape, opening_count, record_start, record_count, record_words}
 use Rattle.aug_core.specs.Addresses.{place_count, IsInner, left_of, right_of}
 use Rattle.aug_core.specs.Lanes.{lane_records, first_record, unborn, record_in, new_lane}
-use Rattle.aug_core.specs.Book.{Book, history_of, At, IsNewest, StandsOver, IsSerial, NamesOnce, SerialsFit, IsBook, word_of_leaf}
+use Rattle.aug_core.specs.Book.{Book, history_of, At, IsNewest, StandsOver, IsSerial, NamesOnce, SerialsFit, IsBook, word_of_leaf, word_of_node}
 use Rattle.aug_model.specs.Keys.{is_member, keys_of, IsKeySet}
 use Rattle.aug_model.specs.Queries.{weight_in}
 use Rattle.aug_model.proofs.Pairs.{length-keys_of, weight_fits, weight-none}
 use Rattle.aug_monoid.specs.Weighted.{FitsPair}
 use Rattle.aug_core.specs.Opening.{opening_serial, Opening, opening_pairs, opening_number, opening_index, serial_entry, opening_entry, opening_history, opening_book}
 use Rattle.aug_core.specs.Layout.{IsLayout}
-use Rattle.aug_core.specs.Effects.{KnowsTable, spent}
+use Rattle.aug_core.specs.Effects.{KnowsBook, spent}
 use Rattle.aug_core.specs.Renewals.{IsOpened}
 use Rattle.aug_core.specs.Rule.{Knows, Kept, no_beginning}
 use Rattle.aug_core.specs.Records.{Lists, Fate, at_opening, standing, owned_by, StandsAs, IsThere, OwnsRecord}
@@ -32,7 +32,7 @@ use Rattle.aug_core.proofs.Below.{pairs_over, pairs_of_leaf, number_of_leaf, num
 use Rattle.aug_core.proofs.Stores.{alone}
 use Rattle.aug_core.proofs.Keeping.{keeps_none}
 use Rattle.aug_core.proofs.Joins.{spent_knows}
-use Rattle.aug_core.proofs.Books.{fresh_now, at_below}
+use Rattle.aug_core.proofs.Books.{fresh_now, at_below, unborn_word}
 use Rattle.aug_core.proofs.Fits.{at_most_one}
 use Rattle.aug_core.specs.declared.view.Held.{Held}
 use Rattle.std.proofs.lemmas.List.{length-replicate, get_or-replicate}
@@ -73,10 +73,10 @@ module _ (face : ℕ → ℕ → List (ℕ × ℕ) → List ℕ) (o : Opening) w
   inner_at q i e inner p = alone (opening_entry face o q) e i (subst (λ (z : List Entry). get_elem? z i ≡ some e) (inner_history q inner) p)
 
   serial_at : All FitsPair o.members → (b : Bool) (q i : ℕ) (e : Entry) → get_elem? (leaf_history b q) i ≡ some e → IsSerial q i e
-  serial_at fit true q zero e p = subst (IsSerial q 0) (some-injective (serial_entry q 0 0) e p) record { counted = refl; named = refl; fits = omega arith; there_if_odd = refl; none_if_even = λ _. refl }
-  serial_at fit true q (suc zero) e p = subst (IsSerial q 1) (some-injective (serial_entry q 1 (weight_in o.members q)) e p) record { counted = refl; named = refl; fits = weight_fits o.members q fit; there_if_odd = refl; none_if_even = λ odd. absurd (omega arith) }
+  serial_at fit true q zero e p = subst (IsSerial q 0) (some-injective (serial_entry q 0 0) e p) record { counted = refl; named = refl; fits = omega arith; there_if_odd = refl; unborn = refl; none_if_even = λ _. refl }
+  serial_at fit true q (suc zero) e p = subst (IsSerial q 1) (some-injective (serial_entry q 1 (weight_in o.members q)) e p) record { counted = refl; named = refl; fits = weight_fits o.members q fit; there_if_odd = refl; unborn = refl; none_if_even = λ odd. absurd (omega arith) }
   serial_at fit true q (suc (suc i)) e p = absurd (some-ne-none e (sym p))
-  serial_at fit false q zero e p = subst (IsSerial q 0) (some-injective (serial_entry q 0 0) e p) record { counted = refl; named = refl; fits = omega arith; there_if_odd = refl; none_if_even = λ _. refl }
+  serial_at fit false q zero e p = subst (IsSerial q 0) (some-injective (serial_entry q 0 0) e p) record { counted = refl; named = refl; fits = omega arith; there_if_odd = refl; unborn = refl; none_if_even = λ _. refl }
   serial_at fit false q (suc i) e p = absurd (some-ne-none e (sym p))
 
   -- the newest entry of a leaf has its serial, its weight, and that serial's pairs
@@ -161,10 +161,11 @@ module _ (face : ℕ → ℕ → List (ℕ × ℕ) → List ℕ) (o : Opening) w
   low : Rises (keys_of o.members) → length (keys_of o.members) ≤ o.shape.members → (q i : ℕ) (e : Entry) → IsInner o.shape q → At book q i e → e.number < opening_count o.shape
   low rises few q i e inner p = subst (λ (z : Entry). z.number < opening_count o.shape) (inner_at q i e inner p).1 (number_below o rises few q inner)
 
-  pub is_book : Rises (keys_of o.members) → All FitsPair o.members → length (keys_of o.members) ≤ o.shape.members → IsBook face o.shape book
-  is_book rises pairs_fit fit = record {
+  pub is_book : Rises (keys_of o.members) → All FitsPair o.members → length (keys_of o.members) ≤ o.shape.members → (0 < o.shape.reservations → record_count o.shape ≤ 2 ^ 24) → IsBook face o.shape book
+  is_book rises pairs_fit fit numbers = record {
     long = long;
-    named = λ q i e inner p. subst (λ (z : Entry). z.word ≡ z.number) (inner_at q i e inner p).1 refl;
+    named = λ q i e inner p. subst (λ (z : Entry). z.word ≡ word_of_node o.shape z.birth z.number) (inner_at q i e inner p).1 (sym (unborn_word o.shape (opening_number o q)));
+    numbers = numbers;
     below = λ q i e inner p. let few = low rises fit q i e inner p in omega arith;
     over = λ q i e inner p. subst (StandsOver face o.shape book q) (inner_at q i e inner p).1 (over rises q inner);
     rises = λ q i j e f inner at at' le. let same : e ≡ f = sym (inner_at q i e inner at).1 ∙ (inner_at q j f inner at').1 in
@@ -274,7 +275,7 @@ module _ (face : ℕ → ℕ → List (ℕ × ℕ) → List ℕ) (o : Opening) w
           book = book;
           tree = record {
             wide = opened.wide;
-            is_book = is_book rises opened.members_fit opened.few;
+            is_book = is_book rises opened.members_fit opened.few opened.numbers;
             opened = book_refl book;
             newest = λ q inside. let t = newly q inside in record { index = opening_index o q; entry = t.entry; newest = t.newest; word = opened.named q inside ∙ sym t.named; shown = t.shown };
             shared = λ off level few k small. opened.shared level k few small;
@@ -317,7 +318,7 @@ module _ (face : ℕ → ℕ → List (ℕ × ℕ) → List ℕ) (o : Opening) w
               none_else = λ i a k c p. absurd (holds_none i a p.view p.lane p.sits p.held);
             };
             tally = replicate o.shape.workers 0;
-            tallied = record {
+            tallied = λ off. record {
               long = length-replicate o.shape.workers 0;
               each = λ i a v h p held. absurd (holds_none i a v h p held);
               few = λ lane inside. subst (λ (z : ℕ). z ≤ 2 * o.shape.updates) (sym (get_or-replicate o.shape.workers lane 0 0 inside)) (omega arith);
@@ -328,5 +329,5 @@ module _ (face : ℕ → ℕ → List (ℕ × ℕ) → List ℕ) (o : Opening) w
         }
 
   -- what such a seat knows of its table
-  pub opener_knows : (past : List PastEra) (era base : ℕ) (lent known whole : List ℕ) → IsLayout o.shape → IsKeySet o.shape.bits (keys_of o.members) → All FitsPair o.members → length (keys_of o.members) ≤ o.shape.members → KnowsTable face (opener past era base lent known whole)
-  opener_knows past era base lent known whole laid_out key_set fit few = record { laid_out = laid_out; key_set = key_set; members_fit = fit; few_members = let long = length-keys_of o.members in omega arith; book = is_book (rises_from (keys_of o.members) key_set.rising) fit few; named = named_at_opening; opened = book_refl book; fits = opening_fits }
+  pub opener_knows : (past : List PastEra) (era base : ℕ) (lent known whole : List ℕ) → IsLayout o.shape → IsKeySet o.shape.bits (keys_of o.members) → All FitsPair o.members → length (keys_of o.members) ≤ o.shape.members → KnowsBook face (opener past era base lent known whole)
+  opener_knows past era base lent known whole laid_out key_set fit few = record { laid_out = laid_out; key_set = key_set; members_fit = fit; few_members = let long = length-keys_of o.members in omega arith; book = is_book (rises_from (keys_of o.members) key_set.rising) fit few (λ used. let few = laid_out.words in omega arith); opened = book_refl book; in_round = λ off. (named_at_opening, opening_fits) }

@@ -6,9 +6,8 @@ use Rattle.aug_core.specs.Addresses.{place_count, IsInner, left_of, right_of}
 use Rattle.aug_core.specs.Book.{Book, history_of, At, ArePrefixes, IsFresh, IsBook, NamesOnce, IsLoaded}
 use Rattle.aug_core.specs.inside.Refreshes.{HasEntry, HasNewest, NewestCovers, Published, Refreshed}
 use Rattle.aug_core.specs.declared.view.Entry.{Entry}
-use Rattle.aug_core.proofs.Sizes.{twice}
 use Rattle.aug_core.proofs.Fits.{HasFewSerials}
-use Rattle.aug_core.proofs.Books.{at_below, no_shorter, one_entry, same_index, newest_is_last, there_is, second_covers}
+use Rattle.aug_core.proofs.Books.{at_below, no_shorter, one_entry, one_name, newest_is_last, there_is, second_covers}
 use Rattle.aug_core.proofs.PrefixLemmas.{entry_stays}
 
 module _ (face : ℕ → ℕ → List (ℕ × ℕ) → List ℕ) (s : Shape) where
@@ -17,7 +16,7 @@ module _ (face : ℕ → ℕ → List (ℕ × ℕ) → List ℕ) (s : Shape) whe
   same_word book b once few q i j e f inside p p' same = ⊎_elim
       (λ (leaf : q < 2 ^ s.bits). let x = b.serials q i e leaf p in let y = b.serials q j f leaf p' in let nx = x.named in let ny = y.named in let fx = x.fits in let fy = y.fits in let l = few.few q leaf in let li = at_below (history_of book q) i e p in let lj = at_below (history_of book q) j f p' in omega arith)
       (λ (past : 2 ^ s.bits ≤ q). let inner : IsInner s q = record { past_leaves = past; inside = inside } in
-      same_index face s book b once q i j e f inside p p' (sym (b.named q i e inner p) ∙ same ∙ b.named q j f inner p')) (cases_lt q (2 ^ s.bits))
+      once.once q i j e f inner p p' (one_name face s book b q i j e f inner p p' same).0) (cases_lt q (2 ^ s.bits))
 
   -- what is newest is an entry of every later book
   pub has_entry : (book seen : Book) (q word : ℕ) → ArePrefixes seen book → HasNewest seen q word → HasEntry book q word
@@ -48,7 +47,7 @@ module _ (face : ℕ → ℕ → List (ℕ × ℕ) → List ℕ) (s : Shape) whe
       left = at_left.entry;
       right = at_right.entry;
       loaded = node_at;
-      numbered = sym at_node.named ∙ b.named q at_node.index e inner at_node.newest.at;
+      named = sym at_node.named;
       left_at = left_at;
       right_at = right_at;
       left_shown = at_left.shown;
@@ -60,11 +59,10 @@ module _ (face : ℕ → ℕ → List (ℕ × ℕ) → List ℕ) (s : Shape) whe
     }
 
     -- and the try covers what was seen before it, or the node has an entry more
-    pub refreshed : (seen : Book) (done : Bool) → IsBook face s book → NamesOnce s book → HasFewSerials s book → ArePrefixes seen book0 → Published s q old left_word right_word done book → Refreshed s seen q done book
-    refreshed seen done b once few c0 p = record {
-      covers = λ yes. let past = inner.past_leaves in let inside = inner.inside in let t = twice s.bits in
-          let left : p.entry.left ≡ at_left.index = same_word book b once few (left_of s q) p.entry.left at_left.index p.left_child at_left.entry (omega arith) p.left_at left_at (p.left_is yes ∙ sym at_left.named) in
-          let right : p.entry.right ≡ at_right.index = same_word book b once few (right_of s q) p.entry.right at_right.index p.right_child at_right.entry (omega arith) p.right_at right_at (p.right_is yes ∙ sym at_right.named) in record {
+    pub refreshed : (seen : Book) (done : Bool) → ArePrefixes seen book0 → Published s q old left_word right_word done book → Refreshed s seen q done book
+    refreshed seen done c0 p = record {
+      covers = λ yes. let left = (p.last yes).0.last at_left.index at_left.entry left_at at_left.shown (at_left.named ∙ sym (p.left_is yes)) in
+          let right = (p.last yes).1.last at_right.index at_right.entry right_at at_right.shown (at_right.named ∙ sym (p.right_is yes)) in record {
             index = p.index;
             entry = p.entry;
             newest = p.newest;
@@ -72,8 +70,7 @@ module _ (face : ℕ → ℕ → List (ℕ × ℕ) → List ℕ) (s : Shape) whe
             right = let long = at_right.newest.last in let a = no_shorter book0 seen c0 (right_of s q) in let c = no_shorter book1 book0 c01 (right_of s q) in let d = no_shorter book2 book1 c12 (right_of s q) in omega arith;
           };
       longer = λ no. let le = newest_is_last book q p.index at_node.index p.entry e p.newest node_at in
-          let number : old ≡ e.number = sym at_node.named ∙ b.named q at_node.index e inner node_at in
-          let other : p.index ≢ at_node.index = λ same. p.missed no (number ∙ ap (λ (z : Entry). z.number) (one_entry book q p.index e p.entry (subst (λ (z : ℕ). At book q z e) (sym same) node_at) p.newest.at)) in
+          let other : p.index ≢ at_node.index = λ same. p.missed no (sym at_node.named ∙ ap (λ (z : Entry). z.word) (one_entry book q p.index e p.entry (subst (λ (z : ℕ). At book q z e) (sym same) node_at) p.newest.at)) in
           let long = at_node.newest.last in let long' = p.newest.last in let a = no_shorter book0 seen c0 q in omega arith;
     }
 

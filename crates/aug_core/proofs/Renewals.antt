@@ -287,9 +287,9 @@ module _ (face : ℕ → ℕ → List (ℕ × ℕ) → List ℕ) (shape : Shape)
   root_inner s some_bits few = let b = (keys-within s.bits some_bits few).0 in let t = twice s.bits in record { past_leaves = omega arith; inside = omega arith }
 
   -- a lead that holds all lanes which it handed out, and has laid another part out, opens it by a load of its first word
-  pub reopens : (n id base : ℕ) (me : Sat) (members : List (ℕ × ℕ)) → me.0.live ≡ true → me.1 ≡ [] → IsLayout me.0.shape → HoldsAll me.0 → IsAside (word_count me.0.shape) me.0.base base → base + word_count me.0.shape ≤ length me.0.whole → IsClearPart (word_count me.0.shape) me.0.lent base
+  pub reopens : (n id base : ℕ) (me : Sat) (members : List (ℕ × ℕ)) → me.0.live ≡ true → me.1 ≡ [] → IsLayout me.0.shape → me.0.shape.reservations ≡ 0 → HoldsAll me.0 → IsAside (word_count me.0.shape) me.0.base base → base + word_count me.0.shape ≤ length me.0.whole → IsClearPart (word_count me.0.shape) me.0.lent base
       → IsOpened face (opening_with me.0.shape members) (table_part base (word_count me.0.shape) me.0.whole) → Allows (Ruled face shape) n id me base (λ z. z) (reopened face (step n base 0 0 none) me)
-  reopens n id base me members live empty laid_out all aside inside clear opened s rule _ at _ =
+  reopens n id base me members live empty laid_out off all aside inside clear opened s rule _ at _ =
       let v : SeatView = me.0 in let work = hands_out v all.next all.hands_out in let w : Ruled face shape s = rule in let present = w.present id v at work in let size : ℕ = word_count v.shape in
       let here : w.base ≡ v.base = sym (w.placed id v at work) in let shaped : shape ≡ v.shape = sym (shape_is s w id v at live present) in
       let beside : IsBeside v.base size v.whole s.words = subst (λ (z : ℕ × Shape). IsBeside z.0 (word_count z.1) v.whole s.words) (λ k. (here k, shaped k)) (w.beside id all.next v at all.hands_out) in
@@ -299,7 +299,7 @@ module _ (face : ℕ → ℕ → List (ℕ × ℕ) → List ℕ) (shape : Shape)
         first s w id v at live present all top base members clear opened',
         keeps,
         tt,
-        opens_again s w id v at live present all top base members clear opened' (ap (λ (z : Shape). z.reservations) shaped ∙ laid_out.keeps_records) base,
+        opens_again s w id v at live present all top base members clear opened' (ap (λ (z : Shape). z.reservations) shaped ∙ off) base,
         (
           empty,
           λ others opened''. subst (λ (z : List (ℕ × ℕ)). Reopens face z base v (first s w id v at live present all top base members clear opened')) (one_set face v.shape (table_part base size v.whole) members others opened opened'') record {

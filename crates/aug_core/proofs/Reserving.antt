@@ -13,12 +13,12 @@ use Rattle.atomic_table.proofs.Lists.{exchanged}
 use Rattle.aug_core.specs.Places.{Shape, lane_place, record_start, record_count, record_words, era_place, reservation_place}
 use Rattle.aug_core.specs.Addresses.{place_count, IsInner, left_of, right_of}
 use Rattle.aug_core.specs.Opening.{Opening}
-use Rattle.aug_core.specs.Records.{IsClosed, Protects, IsItsLane, KeepsView, OwnsRecord}
+use Rattle.aug_core.specs.Records.{StandsAs, IsClosed, Protects, IsItsLane, KeepsView, OwnsRecord}
 use Rattle.aug_core.specs.Rule.{HoldsLane, Kept}
 use Rattle.aug_core.specs.Kinds.{load_era, turn_era, store_reservation}
 use Rattle.aug_core.specs.Effects.{Sat, HoldsOnly, own_lane}
-use Rattle.aug_core.specs.Reclaiming.{reaching, loaded_era, turned_era, reserved_era, released_era}
-use Rattle.aug_core.specs.inside.Reclaims.{own_reservation, MayReserve}
+use Rattle.aug_core.specs.Reclaiming.{reaching, loaded_era, turned_era, reserved_era, released_era, own_reservation}
+use Rattle.aug_core.specs.inside.Reclaims.{MayReserve}
 use Rattle.aug_core.specs.inside.EraSteps.{WithEra}
 use Rattle.aug_core.specs.declared.step.StepTaken.{StepTaken}
 use Rattle.aug_core.specs.declared.view.Held.{Held}
@@ -26,7 +26,7 @@ use Rattle.aug_core.specs.declared.view.Owned.{Owned}
 use Rattle.aug_core.specs.declared.view.Reserved.{Reserved}
 use Rattle.aug_core.specs.declared.view.SeatView.{SeatView}
 use Rattle.aug_core.proofs.Sizes.{twice}
-use Rattle.aug_core.proofs.Keeping.{LeavesRecords, view_but, view_on, replaced_on, records_on}
+use Rattle.aug_core.proofs.Keeping.{one_standing, LeavesRecords, view_but, view_on, replaced_on, records_on}
 use Rattle.aug_core.proofs.Moves.{St, MayMove, rests, moves_on, stands, knows_keeping}
 use Rattle.aug_core.proofs.States.{Did}
 use Rattle.aug_core.proofs.PrefixLemmas.{book_refl, entry_stays}
@@ -232,6 +232,8 @@ module _ (face : ℕ → ℕ → List (ℕ × ℕ) → List ℕ) (o : Opening) w
               in_use = floor_low;
               closed = floors_closed;
               holds = λ q i f inner p young from. let here = floor_here q inner.inside in let t = after.there q i f inner p (omega arith) in (t.words_are, inl t.stands);
+              once = λ q i j e f inner p p' young young' from from' same. let here = floor_here q inner.inside in
+                  one_standing o.shape (r.fate f.number) q i j (subst (λ (z : ℕ). StandsAs o.shape (r.fate z) q i) same (after.there q i e inner p (omega arith)).stands) (after.there q j f inner p' (omega arith)).stands;
             },
           );
           reached = omega arith;

@@ -16,8 +16,7 @@ use Rattle.aug_core.specs.Records.{Lists, Fate, standing, owned_by, StandsAs, Is
 use Rattle.aug_core.specs.Rule.{HoldsLane, Kept}
 use Rattle.aug_core.specs.Kinds.{load_era}
 use Rattle.aug_core.specs.Effects.{Sat, HoldsOnly, on_first}
-use Rattle.aug_core.specs.Reclaiming.{retired_in, retiring_in, retiring, retired}
-use Rattle.aug_core.specs.inside.Reclaims.{ShowsLater}
+use Rattle.aug_core.specs.Reclaiming.{retired_in, retiring_in, retiring, retired, ShowsLater}
 use Rattle.aug_core.specs.inside.EraSteps.{WithEra}
 use Rattle.aug_core.specs.declared.step.StepTaken.{StepTaken}
 use Rattle.aug_core.specs.declared.view.Entry.{Entry}
@@ -148,6 +147,7 @@ module _ (face : ℕ → ℕ → List (ℕ × ℕ) → List ℕ) (o : Opening) w
       not_late = p.not_late;
       in_use = λ q. let low = p.in_use q in omega arith;
       closed = p.closed;
+      once = p.once;
       holds = λ q i e inner at' young low. let t = p.holds q i e inner at' young low in (
         t.0,
         ⊎_elim

@@ -129,7 +129,7 @@ module _ (face : ℕ → ℕ → List (ℕ × ℕ) → List ℕ) (o : Opening) (
         none_else = λ i a k c p. r.changes.counted.none_else i a k c (stood i a k c p);
       };
       tally = r.changes.tally;
-      tallied = let t = r.changes.tallied in record {
+      tallied = λ off. let t = r.changes.tallied off in record {
         long = t.long;
         each = λ i a x h p ph. ⊎_elim (λ old. t.each i a old.0 h old.1 (in_held x old.0 a h old.2 ph))
             (λ new. subst (λ (z : Held). length z.changes ≡ get_or r.changes.tally z.lane 0) (in_new x a h new.1 ph).1 (sym (t.free n room holds_new.state))) (came i x p);

@@ -1,11 +1,14 @@
 -- What the steps show that only a table has which uses records again. A seat loads the era, or turns it to the next; it reserves an era that was reached, and
 -- lets go of it; what it replaced becomes its own with the era that it loads once the root shows later entries; and each load of a reservation
 -- passes those of its own records that this one does not hold.
-use Rattle.std.specs.Prelude.{◌≡◌, ℕ, ◌+◌, ◌≤◌, ◌==◌, Bool, false, nat_lt, nat_le, if◌then◌else◌, [], ◌∷◌, ◌++◌, map, slice_index, Some, None}
+use Rattle.std.specs.Prelude.{◌≡◌, ℕ, ◌+◌, ◌≤◌, ◌==◌, Bool, false, nat_lt, nat_le, if◌then◌else◌, [], ◌∷◌, ◌++◌, map, slice_index, Some, None, ◌<◌, length}
+use Rattle.aug_core.specs.declared.view.Entry.{Entry}
+use Rattle.aug_core.specs.Book.{history_of, At}
+use Rattle.aug_core.specs.Addresses.{place_count, IsInner, left_of, right_of}
 use Rattle.std.specs.List.{range_with_len}
 use Rattle.atomic_table.specs.Table.{Step}
 use Rattle.aug_core.specs.Places.{record_words, reservation_place}
-use Rattle.aug_core.specs.Records.{IsClosed, floor_of}
+use Rattle.aug_core.specs.Records.{IsClosed, floor_of, Lists}
 use Rattle.aug_core.specs.Kinds.{load_era, turn_era, load_reservation, store_reservation}
 use Rattle.aug_core.specs.Effects.{Sat, on_first, own_lane}
 use Rattle.aug_core.specs.declared.step.StepTaken.{StepTaken}
@@ -28,6 +31,10 @@ loaded_era st m r m' = (m'.1 ≡ []) × (m'.0 ≡ reaching m.0 r (load_era st.wo
 abbrev pub turned_era : Step (Unit {0}) → Sat → ℕ → Sat → Type 0
 turned_era st m r m' = (m'.1 ≡ []) × (m'.0 ≡ reaching m.0 (if r == st.first then r + 1 else r) (turn_era st.word st.first r)) × (m.0.reached ≤ r)
 
+-- the word of the reservation of the view's lane
+abbrev pub own_reservation : SeatView → ℕ
+own_reservation v = reservation_place v.shape (own_lane v.held)
+
 -- the view reserved an era: it holds what was in use at that moment, as far as it was made by then, and what comes to be named in place of that
 pub record Reserves (v : SeatView) (place era : ℕ) (w : SeatView) : Type 0 where
   pub now : Reserved
@@ -45,6 +52,13 @@ releasing v place = record v { reserved = None; steps = v.steps ++ store_reserva
 
 abbrev pub released_era : Step (Unit {0}) → Sat → ℕ → Sat → Type 0
 released_era st m r m' = (m'.1 ≡ []) × (m'.0 ≡ releasing m.0 st.word)
+
+-- the view has seen the root show, for each place, an entry from these indices on, and all that was replaced from its lane is before them
+pub record ShowsLater (v : SeatView) (lane : Held) : Type 0 where
+  pub from : ℕ → ℕ
+  pub reached : (q : ℕ) → q < place_count v.shape → from q < length (history_of v.seen q)
+  pub over : (q : ℕ) → IsInner v.shape q → (e : Entry) × At v.seen q (from q) e × (from (left_of v.shape q) ≤ e.left) × (from (right_of v.shape q) ≤ e.right)
+  pub past : (c : Replaced) → Lists lane.replaced c → c.index < from c.place
 
 -- a record that a lane comes to own once the root shows a later entry, in this era
 abbrev pub retired_in : ℕ → Replaced → Owned

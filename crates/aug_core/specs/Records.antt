@@ -76,6 +76,8 @@ pub record Protects (s : Shape) (words : List ℕ) (fate : ℕ → Fate) (gone :
   pub in_use : (q : ℕ) → floor_of x q ≤ gone q
   pub closed : IsClosed s book (floor_of x)
   pub holds : (q i : ℕ) (e : Entry) → IsInner s q → At book q i e → e.birth ≤ x.era → floor_of x q ≤ i → HasWords s words e.number e.words × (StandsAs s (fate e.number) q i ⊎ Waits fate x e.number)
+  -- and of the entries of a node that it holds no two are of one record
+  pub once : (q i j : ℕ) (e f : Entry) → IsInner s q → At book q i e → At book q j f → e.birth ≤ x.era → f.birth ≤ x.era → floor_of x q ≤ i → floor_of x q ≤ j → e.number ≡ f.number → i ≡ j
 
 -- the lane is one that the view holds
 pub record IsItsLane (v : SeatView) (lane : ℕ) : Type 0 where

@@ -7,7 +7,7 @@ use lib.ListN.{get_elem?}
 use Rattle.atomic_table.specs.Table.{State, Step}
 use Rattle.aug_model.specs.Keys.{IsKeySet, keys_of}
 use Rattle.aug_monoid.specs.Weighted.{FitsPair}
-use Rattle.aug_core.specs.Places.{lane_place, record_start, word_count, record_words}
+use Rattle.aug_core.specs.Places.{lane_place, record_start, record_count, word_count, record_words}
 use Rattle.aug_core.specs.Addresses.{place_count, IsInner, root_place}
 use Rattle.aug_core.specs.Lanes.{word_of_state}
 use Rattle.aug_core.specs.Opening.{Opening, IsIdle, opening_number, opening_words, shared_words, opening_book}
@@ -79,6 +79,7 @@ module _ (face : ℕ → ℕ → List (ℕ × ℕ) → List ℕ) where
     pub few : length (keys_of o.members) ≤ o.shape.members
     -- where records are used again, each node has one of its own
     pub room : (o.shape.reservations ≡ 0) ⊎ (2 ^ o.shape.bits ≤ o.shape.members)
+    pub numbers : 0 < o.shape.reservations → record_count o.shape ≤ 2 ^ 24
     pub wide : length words ≡ word_count o.shape
     pub named : (q : ℕ) → q < place_count o.shape → slice_index words q ≡ opening_number o q
     pub records : (q k : ℕ) → IsInner o.shape q → k < record_words → slice_index words (record_start o.shape (opening_number o q) + k) ≡ slice_index (opening_words face o q) k

@@ -84,9 +84,9 @@ pub record AreApart (views : List SeatView) : Type 0 where
 pub record KeepsChanges (o : Opening) (words : List ℕ) (book : Book) (views : List SeatView) : Type 0 where
   -- each change is counted once
   pub counted : AreCounted o book views
-  -- and `tally` has the number of each lane's changes
+  -- and where no record is used again, `tally` has the number of each lane's changes
   pub tally : List ℕ
-  pub tallied : AreTallied o words book views tally
+  pub tallied : o.shape.reservations ≡ 0 → AreTallied o words book views tally
 
 -- the rule
 pub record Kept (face : ℕ → ℕ → List (ℕ × ℕ) → List ℕ) (o : Opening) (s : State (Unit {0}) SeatView) : Type 0 where

@@ -7,7 +7,8 @@ use std::collections::LinkedList;
 pub struct Entry {
     /// The record's number, or the leaf's serial.
     pub number: u64,
-    /// The word that names the entry: for a node the number itself, for a leaf its serial and its weight.
+    /// The word that names the entry: for a node the record's number, with its birth above it where records are used again, for a leaf its serial and its
+    /// weight.
     pub word: u64,
     /// The index of the left child's entry in its history.
     pub left: u64,

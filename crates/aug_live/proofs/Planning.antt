@@ -117,7 +117,7 @@ pub is_greatest : (bits handles memory words room lanes updates : ℕ) → Fits 
 is_greatest bits handles memory words room lanes updates least not_more words_is room_is lanes_are updates_are = record {
   enough = m.enough;
   least = m.least;
-  fits = record { laid_out = record { bits = within; workers = m.lanes_fit; updates = m.updates_fit; words = (let a = all lanes updates in let b = m.fits in omega (arith, a, b, is, few)); keeps_records = refl }; bytes = (let a = all lanes updates in let b = m.fits in omega (arith, a, b, is)); three = refl };
+  fits = record { laid_out = record { bits = within; workers = m.lanes_fit; updates = m.updates_fit; words = (let a = all lanes updates in let b = m.fits in omega (arith, a, b, is, few)) }; bytes = (let a = all lanes updates in let b = m.fits in omega (arith, a, b, is)); three = refl };
   no_lane = λ f. let l = f.laid_out in m.no_lane l.workers.1 (fitting (lanes + 1) 256 f);
   no_update = λ f. let l = f.laid_out in m.no_update l.updates.1 (fitting lanes (updates + 1) f);
   spare = m.spare;

@@ -21,7 +21,6 @@ bounds_pass b is =
       workers = within 1 64 b.workers first.1;
       updates = within 1 65536 b.updates updates.1;
       words = subst (λ (z : ℕ). z ≤ 2 ^ 26) (sym (table_words b)) (leb-true (words_of b) (2 ^ 26) words.1);
-      keeps_records = refl;
     }
 
 tested : (first last n : ℕ) → IsWithin first last n → is_within first last n ≡ true
@@ -47,5 +46,5 @@ bounds_decided b false is = other (is_bounds b) refl
 pub too_many : (b : Bounds) → IsWithin 1 16 b.bits → IsWithin 1 64 b.workers → IsWithin 1 65536 b.updates → (IsBounds b → ⊥) → 2 ^ 26 < words_of b
 too_many b bits workers updates none =
     ⊎_elim (λ (more : 2 ^ 26 < words_of b). more)
-    (λ (fits : words_of b ≤ 2 ^ 26). absurd (none record { bits = bits; workers = workers; updates = updates; words = subst (λ (z : ℕ). z ≤ 2 ^ 26) (sym (table_words b)) fits; keeps_records = refl }))
+    (λ (fits : words_of b ≤ 2 ^ 26). absurd (none record { bits = bits; workers = workers; updates = updates; words = subst (λ (z : ℕ). z ≤ 2 ^ 26) (sym (table_words b)) fits }))
     (cases_lt (2 ^ 26) (words_of b))

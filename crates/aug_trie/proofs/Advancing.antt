@@ -1,5 +1,6 @@
 -- A try at a node goes on by one step.
-use Rattle.std.proofs.Common.{◌≡◌, ℕ, zero, suc, add-one, ◌+◌, ◌-◌, ◌*◌, ◌^◌, ◌<◌, ◌≤◌, Bool, true, false, ltb, lt-ltb, le-ltb, if◌then◌else◌, IsTrue, ◌↔◌, List, [], ◌∷◌, get_or, set, get_or-set_same, get_or-set_other, length-set, sym, refl, ap, ◌∙◌, subst, ⊎_elim, arith}
+use Rattle.std.proofs.Common.{◌≡◌, ℕ, zero, suc, add-one, ◌+◌, ◌-◌, ◌*◌, ◌^◌, ◌<◌, ◌≤◌, Bool, true, false, ltb, lt-ltb, le-ltb, if◌then◌else◌, List, [], ◌∷◌, get_or, set, get_or-set_same, get_or-set_other, length-set, sym, refl, ap, ◌∙◌, subst, ⊎_elim, arith}
+use Rattle.aug_words.proofs.Passes.{plainly}
 use Rattle.std.proofs.lemmas.Bool.{cases_eq}
 use Rattle.std.proofs.lemmas.List.{append-nil}
 use Rattle.aug_monoid.specs.Parts.{Parts}
@@ -13,7 +14,7 @@ use Rattle.aug_core.specs.declared.view.SeatView.{SeatView}
 use Rattle.aug_core.proofs.FaceLemmas.{left_in, right_in}
 use Rattle.aug_core.proofs.Refreshing.{has_entry}
 use Rattle.aug_core.proofs.Sizes.{twice}
-use Rattle.aug_words.specs.Seats.{LoadsRecordWord}
+use Rattle.aug_words.specs.Seats.{LoadsRecordWord, NamesOwn, TriedNode}
 use Rattle.aug_trie.specs.inside.Goes.{HasRoom, Took, Goes, IsPartOf, part_steps, try_steps, Looks}
 use Rattle.aug_trie.specs.inside.Points.{reading_words, child_at, field_after, five_over, IsOverLeaves, AfterLeft, AfterRight, AfterWords, AfterStores, TryAt, TryOver}
 use Rattle.aug_trie.specs.declared.turns.points.Reading.{Reading}
@@ -23,7 +24,7 @@ use Rattle.aug_trie.specs.declared.turns.points.Point.TheVariants.{Node, Left, R
 use Rattle.aug_trie.proofs.Going.{took_none, took_one, took_on, may_store_room, goes_self, goes_on, goes_storing, room_on}
 use Rattle.aug_trie.proofs.Looking.{goes_looking}
 use Rattle.aug_trie.proofs.Looked.{looks_on, looks_one, guards_looking, says_looking}
-use Rattle.aug_trie.proofs.Publishing.{may_publish, published, goes_tried, own_again}
+use Rattle.aug_trie.proofs.Publishing.{may_publish, published, goes_tried, own_again, names_own}
 use Rattle.aug_trie.proofs.Telling.{guards_named, part_of_leaf, part_of_node}
 use Rattle.aug_trie.proofs.Whole.{says, tries, even, part_few}
 use Rattle.aug_core.proofs.PrefixLemmas.{book_refl, book_trans}
@@ -297,15 +298,15 @@ module _ {A B : Type 0} (parts_a : Parts A) (parts_b : Parts B) (v : SeatView) (
     room_told : HasRoom held.told number 1
     room_told = room_on f [] v held.told number 1 g_told t.room
 
-    pub may_try : IsFilled f old q r.from number
-    may_try = subst (λ (z : SeatView). IsFilled f z q r.from number) (sym is_full) (may_publish f held.told number r.five room_told q r.from g_told.knows_table.laid_out.keeps_records held.says)
+    pub may_try : NamesOwn f old q r.from number
+    may_try = names_own f old q r.from number knows_old may_store_word (subst (λ (z : SeatView). IsFilled f z q r.from number) (sym is_full) (may_publish f held.told number r.five room_told q r.from g_told.knows_table.keeps_records held.says))
 
     -- and the node's word exchanged, or not
-    pub try_over : (w : SeatView) (found : ℕ) (done : Bool) → (IsTrue done ↔ (found ≡ r.from)) → TriesNode f old q r.from number found w → TryOver f v q number done w
-    try_over w found done decided tried = let l = held.loaded.lefts in let first = l.first in let second = held.loaded.second in
+    pub try_over : (w : SeatView) (done : Bool) → TriedNode f old q r.from number done w → TryOver f v q number done w
+    try_over w done told = let found : ℕ = told.found in let decided = told.decided in let tried = told.told number (plainly old knows_old.keeps_records number) in let l = held.loaded.lefts in let first = l.first in let second = held.loaded.second in
         let gw = goes_tried f old w q r.from number found done decided tried knows_old in
         let p = published f held.told number r.five room_told w q r.from found done (subst (λ (z : Shape). IsInner z q) (sym g_told.shaped) t.inner) (left_in parts_a parts_b) (right_in parts_a parts_b) decided
-        (subst (λ (z : SeatView). TriesNode f z q r.from number found w) is_full tried) in
+        (subst (λ (z : SeatView). TriesNode f z q r.from number number found w) is_full tried) in
         let g_filled : Goes f 0 [] held.told old = subst (Goes f 0 [] held.told) (sym held.stands) (goes_stored f held.told number r.five r.count g_told.knows_table) in
         let to_w = goes_on f 0 (number + 1) (number + 1) [] held.told old w (omega arith) (omega arith) g_filled gw in
         let n : ℕ = part_steps v.shape (left_of v.shape q) in
@@ -313,7 +314,7 @@ module _ {A B : Type 0} (parts_a : Parts A) (parts_b : Parts B) (v : SeatView) (
         let took_old : Took held.told old record_words = subst (Took held.told old) full (subst (λ (z : SeatView). Took held.told z r.count) (sym held.stands) (took_stored f held.told number r.five r.count)) in record {
           goes = goes_on f 0 (number + 1) (number + 1) [] v old w (omega arith) (omega arith) g_old gw;
           took = took_on v old w (8 + 2 * n) 1 (try_steps n) (omega arith) (took_on v held.told old (3 + 2 * n) record_words (8 + 2 * n) (omega arith) took_told took_old) (took_one old w _ refl tried.stepped);
-          tries = tries f v first second held.third held.told w q r.from (get_or r.five 0 0) (get_or r.five 1 0) number done t.inner gw.knows_table (gw.shaped ∙ g_old.shaped) g_told.shaped
+          tries = tries f v first second held.third held.told w q r.from (get_or r.five 0 0) (get_or r.five 1 0) number done t.inner g_told.shaped
               l.node.goes.later l.goes.later held.loaded.goes.later (book_trans held.goes.later to_w.later) l.node.at_node l.at_left held.loaded.at_right p
               (λ bad. own_again f old w q r.from number found done decided tried knows_old bad (may_store_room old number room_old));
         }

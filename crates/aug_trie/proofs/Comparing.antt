@@ -38,7 +38,7 @@ use Rattle.aug_trie.specs.declared.queries.snapshot.Snapshot.{Snapshot}
 use Rattle.aug_trie.proofs.LeafWords.{pairs_of_serial}
 use Rattle.aug_trie.proofs.Passing.{pass_told}
 use Rattle.aug_trie.proofs.Snapshots.{entry_shown, cut_is}
-use Rattle.aug_trie.proofs.Trees.{inner_root, named_set, reads_by, still_by}
+use Rattle.aug_trie.proofs.Trees.{named_set, reads_by, still_by}
 use Rattle.aug_trie.proofs.Walking.{node_guarded, left_node, right_node, top_node}
 
 -- ---- down one tree
@@ -71,18 +71,18 @@ module _ {A B : Type 0} (parts_a : Parts A) (parts_b : Parts B) (v : SeatView) (
 
   -- the record of a node above the leaves may be read
   pub under_guarded : IsNodeUnder v.shape v.seen top (level + 1) place word → GuardsRecord v word
-  under_guarded t = node_guarded parts_a parts_b v kn.book (root_cut v.shape v.seen top) kn.laid_out.keeps_records level place word (below t).node
+  under_guarded t = node_guarded parts_a parts_b v kn.book (root_cut v.shape v.seen top) kn.keeps_records level place word (below t).node
 
   -- and its first two words name its children
   pub left_is_under : IsNodeUnder v.shape v.seen top (level + 1) place word → (r : ℕ) → Says v word 0 r → IsNodeUnder v.shape v.seen top level (2 * place) r
   left_is_under t r says = let n = below t in record {
-    node = left_node parts_a parts_b v kn.book (root_cut v.shape v.seen top) kn.laid_out.keeps_records level place word n.node r says;
+    node = left_node parts_a parts_b v kn.book (root_cut v.shape v.seen top) kn.keeps_records level place word n.node r says;
     under = left_index v.shape v.seen top level place n.node.q n.node.index n.node.part.word.level_fits n.node.part.word.is n.under;
   }
 
   pub right_is_under : IsNodeUnder v.shape v.seen top (level + 1) place word → (r : ℕ) → Says v word 1 r → IsNodeUnder v.shape v.seen top level (2 * place + 1) r
   right_is_under t r says = let n = below t in record {
-    node = right_node parts_a parts_b v kn.book (root_cut v.shape v.seen top) kn.laid_out.keeps_records level place word n.node r says;
+    node = right_node parts_a parts_b v kn.book (root_cut v.shape v.seen top) kn.keeps_records level place word n.node r says;
     under = right_index v.shape v.seen top level place n.node.q n.node.index n.node.part.word.level_fits n.node.part.word.is n.under;
   }
 
@@ -168,7 +168,7 @@ module _ {A B : Type 0} (parts_a : Parts A) (parts_b : Parts B) where
         is_tree_set = named_set f v s kn;
         cut_is = cut_is v.shape v.seen s has;
         node = record {
-          node = top_node parts_a parts_b v kn.book (root_cut v.shape v.seen top) s.number (inner_root parts_a parts_b v kn) (entry_shown v.shape v.seen s has) refl;
+          node = top_node parts_a parts_b v kn.book (root_cut v.shape v.seen top) s.number (entry_shown v.shape v.seen s has) refl;
           under = ap (λ (z : ℕ). index_under v.shape v.seen top z 0) none;
         };
       }

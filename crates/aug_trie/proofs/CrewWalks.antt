@@ -34,10 +34,10 @@ module _ {A B : Type 0} (parts_a : Parts A) (parts_b : Parts B) where
   abbrev f : ℕ → ℕ → List (ℕ × ℕ) → List ℕ
   f = face parts_a parts_b
 
-  -- the number of the root's newest record is that of the last cut
+  -- what names the root's newest record names the last cut
   module _ (v : SeatView) (held : Snapshot) (kn : KnowsTable f v) (named : NamesRoot v held.number) where
     shows : HasNamed v.shape v.seen held × (cut_named v.shape v.seen held ≡ root_cut v.shape v.seen named.index)
-    shows = shows_entry v.shape v.seen held named.index named.entry kn.named (inner_root parts_a parts_b v kn) named.newest.at named.named
+    shows = shows_entry f v.shape v.seen held named.index named.entry kn.book kn.named (inner_root parts_a parts_b v kn) named.newest.at named.named
 
     pub last_named : cut_named v.shape v.seen held ≡ last_cut (knows v).history
     last_named = shows.1 ∙ sym (last_is v.shape v.seen named.index named.newest.last)

@@ -42,14 +42,15 @@ use Rattle.aug_trie.proofs.Handing.{crew_begins, handed_out_is, handed_back_is, 
 use Rattle.aug_trie.proofs.Histories.{numbers_long}
 use Rattle.aug_trie.proofs.Keeping.{weighs_later}
 use Rattle.aug_trie.proofs.RoundLemmas.{of_round}
+use Rattle.aug_core.proofs.Fits.{round_table}
 
 module _ (face : ℕ → ℕ → List (ℕ × ℕ) → List ℕ) where
   -- the lead of a table that was just opened
   module _ (o : Opening) (laid_out : IsLayout o.shape) (set : IsKeySet o.shape.bits (keys_of o.members)) (fit : All FitsPair o.members) (few : length o.members ≤ o.shape.members) where
-    pub begins_crew : (past : List PastEra) (era base : ℕ) (lent words whole : List ℕ) → HoldsCrew face (opener face o past era base lent words whole) 0 0 0
-    begins_crew past era base lent words whole = record {
+    pub begins_crew : o.shape.reservations ≡ 0 → (past : List PastEra) (era base : ℕ) (lent words whole : List ℕ) → HoldsCrew face (opener face o past era base lent words whole) 0 0 0
+    begins_crew off past era base lent words whole = record {
       handed = 0;
-      is_crew = crew_begins face (opener face o past era base lent words whole) (opener_knows face o past era base lent words whole laid_out set fit (let long = length-keys_of o.members in omega arith)) refl refl;
+      is_crew = crew_begins face (opener face o past era base lent words whole) (round_table face (opener face o past era base lent words whole) off (opener_knows face o past era base lent words whole laid_out set fit (let long = length-keys_of o.members in omega arith))) refl refl;
       few = omega arith;
       back_is = refl;
       inserts_are = refl;
@@ -137,7 +138,7 @@ module _ (face : ℕ → ℕ → List (ℕ × ℕ) → List ℕ) where
       → HoldsCrew face old.view back inserts removals → old.view.spare ≡ Some lane → workers ≡ s.workers → lane ≢ workers → HandsLaneOut face old.view lead.view pass.view → lead.table ≡ old.table → pass.table ≡ old.table
       → shift ≡ s.bits → bits ≡ s.bits → next ≡ first_record s lane → next + lane_records s ≤ record_count s → updates ≡ s.updates → PassOut now lead pass free back inserts removals (1 * 2 ^ shift % 18446744073709551616) bits next updates
   pass_out store old lead pass s now table lane workers shift {free} {back} {inserts} {removals} {bits} {next} {updates} is one store_is shape holds spare workers_are other h lead_table pass_table shift_is bits_are first within updates_are =
-      let v : SeatView = old.view in let place : ℕ = own_lane_place (handed_out h.between) in let leaves : ℕ = 1 * 2 ^ shift % 18446744073709551616 in let shaped : v.shape ≡ s = (of_round store old now table shape.keeps_records holds.is_crew.knows_table.laid_out.keeps_records is one store_is).one_shape ∙ sym shape.laid_out in
+      let v : SeatView = old.view in let place : ℕ = own_lane_place (handed_out h.between) in let leaves : ℕ = 1 * 2 ^ shift % 18446744073709551616 in let shaped : v.shape ≡ s = (of_round store old now table shape.keeps_records holds.is_crew.knows_table.keeps_records is one store_is).one_shape ∙ sym shape.laid_out in
       let at : holds.handed ≡ lane = ap (λ (z : Option ℕ). unwrap_or z 0) (sym holds.is_crew.hands_out ∙ spare) in
       let low : holds.handed < v.shape.workers = let all : v.shape.workers ≡ s.workers = ap (λ (z : Shape). z.workers) shaped in let few = holds.few in omega arith in
       let most = (subst IsLayout shaped holds.is_crew.knows_table.laid_out).bits.1 in let full : leaves ≡ 2 ^ s.bits = one_shl shift 64 (omega arith) ∙ ap (λ (z : ℕ). 2 ^ z) shift_is in

@@ -69,7 +69,7 @@ module _ (face : ℕ → ℕ → List (ℕ × ℕ) → List ℕ) (v : SeatView) 
 
   changes_fit : length (changes_of v.held) < 2 ^ 32
   changes_fit = let few = all_held in let most = c.few in let laid = c.is_crew.knows_table.laid_out in let workers = laid.workers.1 in let updates = laid.updates.1 in
-      let le = changes_few v.held 131072 (λ a h p. let is = r.changes.tallied.each id a v h at p in let le = r.changes.tallied.few h.lane ((r.each_view id v at).holds a h p).exists in omega arith) in omega arith
+      let t = r.changes.tallied c.is_crew.knows_table.keeps_records in let le = changes_few v.held 131072 (λ a h p. let is = t.each id a v h at p in let le = t.few h.lane ((r.each_view id v at).holds a h p).exists in omega arith) in omega arith
 
   inserts_exact : inserts ≡ inserts_of (changes_of v.held)
   inserts_exact = let fit = changes_fit in let le : inserts_of (changes_of v.held) ≤ length (changes_of v.held) = filter_shorter (λ (z : Change). eqb (z.serial % 2) insertion) (changes_of v.held) in c.inserts_are ∙ mod-eq_of_lt (omega arith)
@@ -138,7 +138,7 @@ none_own bits (suc level) = let is = none_own bits level in omega arith
 
 -- a table of one worker with one update and no member can be laid out
 pub smallest : (bits : ℕ) → IsWithin 1 16 bits → IsLayout (shape_of bits 1 1 0)
-smallest bits within = let t = twice bits in let k = keys-within bits within.0 within.1 in let none = none_own bits bits in record { bits = within; workers = (omega arith, omega arith); updates = (omega arith, omega arith); words = omega arith; keeps_records = refl }
+smallest bits within = let t = twice bits in let k = keys-within bits within.0 within.1 in let none = none_own bits bits in record { bits = within; workers = (omega arith, omega arith); updates = (omega arith, omega arith); words = omega arith }
 
 pub no_keys : (bits : ℕ) → IsKeySet bits (keys_of [])
 no_keys bits = record { rising = λ k low. absurd (let e : k + 1 < 0 = low in omega arith); below = All-nil (λ k. k < 2 ^ bits) }

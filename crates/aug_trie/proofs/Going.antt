@@ -80,7 +80,7 @@ may_store_room v number room = room.owns number (omega arith) (omega arith)
 
 -- the pass may try a leaf, while it has updates left
 pub may_change : (v : SeatView) (next records : ℕ) → HasRoom v next records → length (changes_of v.held) + 2 ≤ 2 * v.shape.updates → MayChange v
-may_change v next records room few = let h = room.holds in record { lane = h.0; only = h.1; room = subst (λ (z : List Change). length z + 2 ≤ 2 * v.shape.updates) (only_changes v h.0 h.1) few }
+may_change v next records room few = let h = room.holds in record { lane = h.0; only = h.1; room = λ _. subst (λ (z : List Change). length z + 2 ≤ 2 * v.shape.updates) (only_changes v h.0 h.1) few }
 
 -- a load that showed the book is one step, in which no update began
 pub quiet_seeing : (v w : SeatView) (taken : StepTaken) → w ≡ seeing v w.seen taken → ArePrefixes v.seen w.seen → QuietStep v w
@@ -105,6 +105,21 @@ pub quiet_storing : (v w : SeatView) (place value : ℕ) → w ≡ storing v pla
 quiet_storing v w place value is = subst (QuietStep v) (sym is) (
   record { taken = store_record_word place value; steps = refl; later = book_refl v.seen; shaped = refl; same_members = refl; same_eras = refl; lane = own_lane_on (storing_in v.shape place value) v.held (λ h. refl) },
   refl,
+)
+
+-- and one by which a record was published
+pub quiet_publishing : (v w : SeatView) (number : ℕ) (taken : StepTaken) → w ≡ publishing v w.seen number taken → ArePrefixes v.seen w.seen → QuietStep v w
+quiet_publishing v w number taken is later = (
+  record {
+    taken = taken;
+    steps = ap (λ (z : SeatView). z.steps) is;
+    later = later;
+    shaped = ap (λ (z : SeatView). z.shape) is;
+    same_members = ap (λ (z : SeatView). z.members) is;
+    same_eras = ap eras_of is;
+    lane = ap (λ (z : SeatView). own_lane z.held) is ∙ own_lane_on (publishing_from number (last_replaced w.seen taken.place)) v.held (λ h. refl);
+  },
+  ap (λ (z : SeatView). z.began) is,
 )
 
 module _ (face : ℕ → ℕ → List (ℕ × ℕ) → List ℕ) where

@@ -31,9 +31,9 @@ use Rattle.std.proofs.lemmas.List.{length-map}
 pub history_long : (s : Shape) (book : Book) → length (root_history s book) ≡ length (history_of book (root_place s))
 history_long s book = length-map-range_with_len (root_cut s book) 0 (length (history_of book (root_place s)))
 
--- each of its cuts has a number
+-- each of its cuts has a name
 pub numbers_long : (s : Shape) (book : Book) → length (root_numbers s book) ≡ length (root_history s book)
-numbers_long s book = length-map (history_of book (root_place s)) (λ (e : Entry). e.number) ∙ sym (history_long s book)
+numbers_long s book = length-map (history_of book (root_place s)) (λ (e : Entry). e.word) ∙ sym (history_long s book)
 
 pub cut_at : (s : Shape) (book : Book) (i : ℕ) → Has book (root_place s) i → get_or (root_history s book) i [] ≡ root_cut s book i
 cut_at s book i h = get_or-map-range_with_len (root_cut s book) 0 (length (history_of book (root_place s))) i i [] h (omega arith)
@@ -97,7 +97,7 @@ module _ (face : ℕ → ℕ → List (ℕ × ℕ) → List ℕ) (v : SeatView) 
 
   -- its history begins with the opening cut
   pub first_cut : root_cut v.shape v.seen 0 ≡ opening_cut v.shape.bits v.members
-  first_cut = cut_later face v.shape opened (is_book face (opening_of v) (rises_from (keys_of v.members) kn.key_set.rising) kn.members_fit (let few = kn.few_members in let long = length-keys_of v.members in omega arith)) v.seen v.shape.bits 0 root 0 kn.opened (root_word v.shape) first_has
+  first_cut = cut_later face v.shape opened (is_book face (opening_of v) (rises_from (keys_of v.members) kn.key_set.rising) kn.members_fit (let few = kn.few_members in let long = length-keys_of v.members in omega arith) kn.book.numbers) v.seen v.shape.bits 0 root 0 kn.opened (root_word v.shape) first_has
       ∙ opening_first face (opening_of v) some_bits
 
   pub is_history : IsHistory v.shape.bits v.members (root_history v.shape v.seen)

@@ -60,22 +60,22 @@ module _ {A B : Type 0} (parts_a : Parts A) (parts_b : Parts B) (v : SeatView) (
 
     -- the record of an inner node may be read
     pub record_guarded : GuardsRecord v word
-    record_guarded = node_guarded parts_a parts_b v kn.book cut kn.laid_out.keeps_records (level - 1) place word below
+    record_guarded = node_guarded parts_a parts_b v kn.book cut kn.keeps_records (level - 1) place word below
 
     pub left_is : (r : ℕ) → Says v word 0 r → IsNodeAt v.shape v.seen cut (level - 1) (2 * place) r
-    left_is = left_node parts_a parts_b v kn.book cut kn.laid_out.keeps_records (level - 1) place word below
+    left_is = left_node parts_a parts_b v kn.book cut kn.keeps_records (level - 1) place word below
 
     pub right_is : (r : ℕ) → Says v word 1 r → IsNodeAt v.shape v.seen cut (level - 1) (2 * place + 1) r
-    right_is = right_node parts_a parts_b v kn.book cut kn.laid_out.keeps_records (level - 1) place word below
+    right_is = right_node parts_a parts_b v kn.book cut kn.keeps_records (level - 1) place word below
 
     pub count_fits : (n : ℕ) → Says v word 2 n → n ≤ 65536
-    count_fits n = count_few parts_a parts_b v kn.book cut kn.laid_out.keeps_records (level - 1) place word below n few_keys
+    count_fits n = count_few parts_a parts_b v kn.book cut kn.keeps_records (level - 1) place word below n few_keys
 
     -- and it is that of the cut's keys that it covers
     pub count_is : (n : ℕ) → Says v word 2 n → n ≡ length (range_of (set_of_cut cut) (place * 2 ^ level) ((place + 1) * 2 ^ level))
-    count_is n says = count_told parts_a parts_b v kn.book cut kn.laid_out.keeps_records (level - 1) place word below n says ∙ ap (λ (z : ℕ). length (range_of (set_of_cut cut) (place * 2 ^ z) ((place + 1) * 2 ^ z))) (sym one_up)
+    count_is n says = count_told parts_a parts_b v kn.book cut kn.keeps_records (level - 1) place word below n says ∙ ap (λ (z : ℕ). length (range_of (set_of_cut cut) (place * 2 ^ z) ((place + 1) * 2 ^ z))) (sym one_up)
 
     pub record_tells : (n x y : ℕ) → IsMonoid parts_a → IsMonoid parts_b → Says v word 2 n → Says v word 3 x → Says v word 4 y
         → IsTreeOf (summary_of parts_a parts_b) v.shape.bits cut level place (record { count = n; a = parts_a.from_word x; b = parts_b.from_word y })
     record_tells n x y laws_a laws_b says_n says_x says_y = subst (λ (z : ℕ). IsTreeOf (summary_of parts_a parts_b) v.shape.bits cut z place (record { count = n; a = parts_a.from_word x; b = parts_b.from_word y })) (sym one_up)
-        (node_told parts_a parts_b v kn.book cut kn.laid_out.keeps_records (level - 1) place word below n x y few_keys laws_a laws_b says_n says_x says_y)
+        (node_told parts_a parts_b v kn.book cut kn.keeps_records (level - 1) place word below n x y few_keys laws_a laws_b says_n says_x says_y)

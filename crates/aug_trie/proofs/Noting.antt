@@ -51,7 +51,7 @@ view_chain v = chain (past_rounds v.shape v.past) v.members (knows v).history
 module _ (f : ℕ → ℕ → List (ℕ × ℕ) → List ℕ) where
   -- a note knows its table as its maker does
   pub noted_table : (v : SeatView) → KnowsTable f v → KnowsTable f (noted v)
-  noted_table v kn = record { laid_out = kn.laid_out; key_set = kn.key_set; members_fit = kn.members_fit; few_members = kn.few_members; book = kn.book; named = kn.named; opened = kn.opened; fits = kn.fits }
+  noted_table v kn = record { keeps_records = kn.keeps_records; laid_out = kn.laid_out; key_set = kn.key_set; members_fit = kn.members_fit; few_members = kn.few_members; book = kn.book; named = kn.named; opened = kn.opened; fits = kn.fits }
 
   -- a view that took a note in, before it loads the root
   learning_table : (v n : SeatView) → KnowsTable f v → KnowsTable f (learning v n)

@@ -56,8 +56,8 @@ module _ (face : ℕ → ℕ → List (ℕ × ℕ) → List ℕ) (store : Store)
   opener_is = let shape : before.shape ≡ store.shape = sym (ap (λ (z : SeatView). z.shape) opened) ∙ together.one_shape in
       opened ∙ ap (λ (z : Shape). opener face (opening_with z list) before.past before.era base before.lent (table_part base (word_count z) before.whole) before.whole) shape
 
-  pub next_crew : HoldsCrew face lead.view 0 0 0
-  next_crew = subst (λ (z : SeatView). HoldsCrew face z 0 0 0) (sym opener_is) (begins_crew face o laid_out set fit few before.past before.era base before.lent (table_part base (word_count store.shape) before.whole) before.whole)
+  pub next_crew : store.shape.reservations ≡ 0 → HoldsCrew face lead.view 0 0 0
+  next_crew off = subst (λ (z : SeatView). HoldsCrew face z 0 0 0) (sym opener_is) (begins_crew face o laid_out set fit few off before.past before.era base before.lent (table_part base (word_count store.shape) before.whole) before.whole)
 
   -- the round is of its table, and opens with the list
   pub next_round : (now : RoundFacts) → lead.view.era ≡ now.era + 1 → table_of now ≡ facts_of store → round_of lead.table lead.view ≡ record now { era = now.era + 1; members = list }

@@ -6,7 +6,7 @@ use Rattle.std.proofs.lemmas.List.{append-nil, length-map, get_or-map}
 use Rattle.std.proofs.lemmas.List.Elements.{All-nil}
 use Rattle.aug_core.specs.Places.{Shape}
 use Rattle.aug_core.specs.Addresses.{IsInner, root_place}
-use Rattle.aug_core.specs.Book.{Book, history_of, At, NamesOnce}
+use Rattle.aug_core.specs.Book.{Book, history_of, At, NamesOnce, IsBook}
 use Rattle.aug_core.specs.Counts.{changes_of}
 use Rattle.aug_core.specs.inside.RootCuts.{root_cut}
 use Rattle.aug_core.specs.inside.EntryCuts.{entry_of}
@@ -14,7 +14,7 @@ use Rattle.aug_core.specs.Effects.{LoadsNode, opening_of}
 use Rattle.aug_core.specs.declared.view.Change.{Change}
 use Rattle.aug_core.specs.declared.view.Entry.{Entry}
 use Rattle.aug_core.specs.declared.view.SeatView.{SeatView}
-use Rattle.aug_core.proofs.Books.{at_below}
+use Rattle.aug_core.proofs.Books.{at_below, one_name}
 use Rattle.aug_core.proofs.OpeningCuts.{root_inner}
 use Rattle.aug_core.proofs.Sizes.{twice}
 use Rattle.aug_trie.specs.inside.Goes.{HasLeaves, Goes}
@@ -63,28 +63,28 @@ module _ (numbers : List ℕ) (held : Snapshot) where
 
 -- ---- the records of the root
 
--- the number of an entry of the root
-pub number_at : (s : Shape) (book : Book) (i : ℕ) (e : Entry) → At book (root_place s) i e → (i < length (root_numbers s book)) × (get_or (root_numbers s book) i 0 ≡ e.number)
-number_at s book i e at = let low = at_below (history_of book (root_place s)) i e at in let long = length-map (history_of book (root_place s)) (λ (z : Entry). z.number) in
-    (omega arith, get_or-map (λ (z : Entry). z.number) (history_of book (root_place s)) i (serial_entry 0 0 0) 0 low ∙ ap (λ (z : Entry). z.number) (entry_is book (root_place s) i e at))
+-- what names an entry of the root
+pub number_at : (s : Shape) (book : Book) (i : ℕ) (e : Entry) → At book (root_place s) i e → (i < length (root_numbers s book)) × (get_or (root_numbers s book) i 0 ≡ e.word)
+number_at s book i e at = let low = at_below (history_of book (root_place s)) i e at in let long = length-map (history_of book (root_place s)) (λ (z : Entry). z.word) in
+    (omega arith, get_or-map (λ (z : Entry). z.word) (history_of book (root_place s)) i (serial_entry 0 0 0) 0 low ∙ ap (λ (z : Entry). z.word) (entry_is book (root_place s) i e at))
 
 -- a snapshot of the root's has the number of the entry at its index
 abbrev pub entry_shown : (s : Shape) (book : Book) (held : Snapshot) → HasNamed s book held → IsSnapshotOf s book held.number
-entry_shown s book held has = let i = index_in (root_numbers s book) held in let low : i < length (history_of book (root_place s)) = (let long = length-map (history_of book (root_place s)) (λ (z : Entry). z.number) in omega arith) in
+entry_shown s book held has = let i = index_in (root_numbers s book) held in let low : i < length (history_of book (root_place s)) = (let long = length-map (history_of book (root_place s)) (λ (z : Entry). z.word) in omega arith) in
     let at = entry_at book (root_place s) i low in
-    record { index = i; entry = entry_of book (root_place s) i; at = at; numbered = sym (at_index (root_numbers s book) held has) ∙ (number_at s book i (entry_of book (root_place s) i) at).1 }
+    record { index = i; entry = entry_of book (root_place s) i; at = at; named = sym (at_index (root_numbers s book) held has) ∙ (number_at s book i (entry_of book (root_place s) i) at).1 }
 
 -- and its cut is that entry's
 pub cut_is : (s : Shape) (book : Book) (held : Snapshot) → HasNamed s book held → cut_named s book held ≡ root_cut s book (index_in (root_numbers s book) held)
 cut_is s book held has = let long = numbers_long s book in let same = history_long s book in cut_at s book (index_in (root_numbers s book) held) (omega arith)
 
 -- one with the number of an entry of the root shows that entry, for a record stands once in the root's history
-pub shows_entry : (s : Shape) (book : Book) (held : Snapshot) (i : ℕ) (e : Entry) → NamesOnce s book → IsInner s (root_place s) → At book (root_place s) i e → held.number ≡ e.number
+pub shows_entry : (face : ℕ → ℕ → List (ℕ × ℕ) → List ℕ) (s : Shape) (book : Book) (held : Snapshot) (i : ℕ) (e : Entry) → IsBook face s book → NamesOnce s book → IsInner s (root_place s) → At book (root_place s) i e → held.number ≡ e.word
     → HasNamed s book held × (cut_named s book held ≡ root_cut s book i)
-shows_entry s book held i e named inner at numbered =
-    let n = number_at s book i e at in let has : HasNamed s book held = index_low (root_numbers s book) held (length (root_numbers s book)) i n.0 (omega arith) (n.1 ∙ sym numbered) in
+shows_entry face s book held i e b once inner at named =
+    let n = number_at s book i e at in let has : HasNamed s book held = index_low (root_numbers s book) held (length (root_numbers s book)) i n.0 (omega arith) (n.1 ∙ sym named) in
     let t = entry_shown s book held has in
-    (has, cut_is s book held has ∙ ap (root_cut s book) (named.once (root_place s) t.index i t.entry e inner t.at at (sym t.numbered ∙ numbered)))
+    (has, cut_is s book held has ∙ ap (root_cut s book) (once.once (root_place s) t.index i t.entry e inner t.at at (one_name face s book b (root_place s) t.index i t.entry e inner t.at at (sym t.named ∙ named)).0))
 
 module _ (face : ℕ → ℕ → List (ℕ × ℕ) → List ℕ) where
   -- a pass that only looked is one still
@@ -111,7 +111,7 @@ module _ (face : ℕ → ℕ → List (ℕ × ℕ) → List ℕ) where
     held = record { number = r }
 
     shows : HasNamed v.shape w.seen held × (cut_named v.shape w.seen held ≡ root_cut v.shape w.seen t.index)
-    shows = shows_entry v.shape w.seen held t.index t.entry (t.sees.named p.knows_table.laid_out.keeps_records) (root_inner face (opening_of v) (some_bits face v p.knows_table)) t.newest.at t.found
+    shows = shows_entry face v.shape w.seen held t.index t.entry t.sees.book (t.sees.named p.knows_table.keeps_records) (root_inner face (opening_of v) (some_bits face v p.knows_table)) t.newest.at t.found
 
     shaped : w.shape ≡ v.shape
     shaped = ap (λ (z : SeatView). z.shape) t.stepped

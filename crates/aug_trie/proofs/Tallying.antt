@@ -151,7 +151,7 @@ module _ (face : ℕ → ℕ → List (ℕ × ℕ) → List ℕ) (s : St) (id n 
     lost_here : Lost lane
     lost_here = record {
       list = filter stays g.changes;
-      few = let short = filter_shorter stays g.changes in let is = r.changes.tallied.each i a w g sits ga in let le = r.changes.tallied.few g.lane ((r.each_view i w sits).holds a g ga).exists in omega arith;
+      few = let short = filter_shorter stays g.changes in let t = r.changes.tallied kn.keeps_records in let is = t.each i a w g sits ga in let le = t.few g.lane ((r.each_view i w sits).holds a g ga).exists in omega arith;
       none = λ key number f. let z = none_here key number f in let le = twice_less (test key number) stays g.changes in omega arith;
       past = λ key number lt. twice_none (test key number) stays
           (λ c is. let e1 = same_number key number c is in let e2 : serial_of last c.key ≡ serial_of last key = ap (serial_of last) (same_key key number c is) in

@@ -17,10 +17,11 @@ use Rattle.aug_trie.specs.inside.LeafPairs.{leaf_pairs}
 use Rattle.aug_trie.specs.inside.Goes.{Goes, IsPart, IsPartOf}
 use Rattle.aug_trie.proofs.LeafWords.{pairs_of_serial}
 use Rattle.aug_trie.proofs.Going.{goes_on, goes_stepping}
+use Rattle.aug_core.proofs.Books.{plainly_named}
 
 -- a record that an entry of a node has may be read
 pub guards_named : (f : ℕ → ℕ → List (ℕ × ℕ) → List ℕ) (v : SeatView) (node number : ℕ) → KnowsTable f v → IsInner v.shape node → HasEntry v.seen node number → GuardsRecord v number
-guards_named f v node number kn inner n = record { place = node; index = n.index; entry = n.entry; guards = record { inner = inner; at = n.at; covers = inl kn.laid_out.keeps_records }; numbered = sym (kn.book.named node n.index n.entry inner n.at) ∙ n.named }
+guards_named f v node number kn inner n = record { place = node; index = n.index; entry = n.entry; guards = record { inner = inner; at = n.at; covers = inl kn.keeps_records }; numbered = sym (plainly_named f v.shape v.seen kn.book kn.keeps_records node n.index n.entry inner n.at) ∙ n.named }
 
 pub guards_on : (v w : SeatView) (taken : StepTaken) (number : ℕ) → w ≡ stepping v taken → GuardsRecord v number → GuardsRecord w number
 guards_on v w taken number is h = guards_same v w number (ap (λ (z : SeatView). z.shape) is) (ap (λ (z : SeatView). z.seen) is) (ap (λ (z : SeatView). z.reserved) is) h
@@ -43,11 +44,11 @@ module _ {A B : Type 0} (parts_a : Parts A) (parts_b : Parts B) (laws_a : IsMono
   pub part_of_node : (v : SeatView) (node word x y z : ℕ) → 2 ^ v.shape.bits ≤ 65536 → KnowsTable both v → IsInner v.shape node → Says v word 2 x → Says v word 3 y → Says v word 4 z
       → IsPartOf parts_a parts_b v node word x (parts_a.from_word y) (parts_b.from_word z)
   part_of_node v node word x y z few kn inner says_x says_y says_z = record {
-    of = λ i e p is. let o = kn.book.over node i e inner p in let number : e.number ≡ word = sym (kn.book.named node i e inner p) ∙ is in
+    of = λ i e p is. let o = kn.book.over node i e inner p in let number : e.number ≡ word = sym (plainly_named both v.shape v.seen kn.book kn.keeps_records node i e inner p) ∙ is in
         let small = (are_small both v.shape v.seen kn.book few node i e inner.inside p).small in record {
-          count_is = says_x node i e (record { inner = inner; at = p; covers = inl kn.laid_out.keeps_records }) number ∙ ap (λ (w : List ℕ). get_or w 2 0) o.words_say ∙ count_in parts_a parts_b _ _ e.pairs;
-          a_is = ap parts_a.from_word (says_y node i e (record { inner = inner; at = p; covers = inl kn.laid_out.keeps_records }) number ∙ ap (λ (w : List ℕ). get_or w 3 0) o.words_say ∙ a_in parts_a parts_b _ _ e.pairs) ∙ of_word-fold_of laws_a e.pairs small;
-          b_is = ap parts_b.from_word (says_z node i e (record { inner = inner; at = p; covers = inl kn.laid_out.keeps_records }) number ∙ ap (λ (w : List ℕ). get_or w 4 0) o.words_say ∙ b_in parts_a parts_b _ _ e.pairs) ∙ of_word-fold_of laws_b e.pairs small;
+          count_is = says_x node i e (record { inner = inner; at = p; covers = inl kn.keeps_records }) number ∙ ap (λ (w : List ℕ). get_or w 2 0) o.words_say ∙ count_in parts_a parts_b _ _ e.pairs;
+          a_is = ap parts_a.from_word (says_y node i e (record { inner = inner; at = p; covers = inl kn.keeps_records }) number ∙ ap (λ (w : List ℕ). get_or w 3 0) o.words_say ∙ a_in parts_a parts_b _ _ e.pairs) ∙ of_word-fold_of laws_a e.pairs small;
+          b_is = ap parts_b.from_word (says_z node i e (record { inner = inner; at = p; covers = inl kn.keeps_records }) number ∙ ap (λ (w : List ℕ). get_or w 4 0) o.words_say ∙ b_in parts_a parts_b _ _ e.pairs) ∙ of_word-fold_of laws_b e.pairs small;
         };
   }
 

@@ -9,7 +9,7 @@ use Rattle.aug_query.specs.Tree.{IsTreeSet}
 use Rattle.aug_core.specs.Faces.{face}
 use Rattle.aug_core.specs.Places.{Shape}
 use Rattle.aug_core.specs.Addresses.{IsInner, root_place}
-use Rattle.aug_core.specs.Book.{Book, ArePrefixes, NamesOnce}
+use Rattle.aug_core.specs.Book.{Book, ArePrefixes, NamesOnce, IsBook}
 use Rattle.aug_core.specs.Counts.{changes_of}
 use Rattle.aug_core.specs.Cuts.{Cut, weight_at}
 use Rattle.aug_core.specs.inside.RootCuts.{root_cut}
@@ -75,7 +75,7 @@ module _ {A B : Type 0} (parts_a : Parts A) (parts_b : Parts B) where
 
   -- the top of a snapshot's tree
   pub top_is : (v : SeatView) (held : Snapshot) → KnowsTable both v → HasNamed v.shape v.seen held → IsNodeAt v.shape v.seen (cut_named v.shape v.seen held) v.shape.bits 0 held.number
-  top_is v held kn has = top_node parts_a parts_b v kn.book (cut_named v.shape v.seen held) held.number (inner_root v kn) (entry_shown v.shape v.seen held has) (cut_is v.shape v.seen held has)
+  top_is v held kn has = top_node parts_a parts_b v kn.book (cut_named v.shape v.seen held) held.number (entry_shown v.shape v.seen held has) (cut_is v.shape v.seen held has)
 
   -- what a load tells of a node makes it a node of the pass
   pub has_node : (known : Known) (left : ℕ) (node : Node A B) → KnowsTable both known.view → HasNamed known.view.shape known.view.seen node.snapshot
@@ -99,7 +99,7 @@ module _ {A B : Type 0} (parts_a : Parts A) (parts_b : Parts B) where
     -- a snapshot shows the same entry as before
     shows_later : (held : Snapshot) → HasNamed s book held → HasNamed s later held × (cut_named s later held ≡ root_cut s later (index_in (root_numbers s book) held))
     shows_later held has = let t = entry_shown s book held has in
-        shows_entry s later held t.index t.entry (subst (λ (z : Shape). NamesOnce z later) shaped kn'.named) (inner_root old.view kn) (entry_stays grows (root_place s) t.index t.entry t.at) t.numbered
+        shows_entry both s later held t.index t.entry (subst (λ (z : Shape). IsBook both z later) shaped kn'.book) (subst (λ (z : Shape). NamesOnce z later) shaped kn'.named) (inner_root old.view kn) (entry_stays grows (root_place s) t.index t.entry t.at) t.named
 
     snapshot_on : (held : Snapshot) → HasNamed s book held → HasNamed new.view.shape later held
     snapshot_on held has = subst (λ (z : Shape). HasNamed z later held) (sym shaped) (shows_later held has).0

@@ -73,8 +73,8 @@ module _ (f : ℕ → ℕ → List (ℕ × ℕ) → List ℕ) where
       (λ miss. ([], goes_seeing f v w _ (told.miss miss).0 kn told.sees)) (cases_eq found (old_word a))
 
   -- a loaded word has the serial and the weight of the leaf's newest entry
-  pub loaded_serial : (v w : SeatView) (key word : ℕ) → IsLayout v.shape → key < 2 ^ v.shape.bits → (l : BeginsAtLeaf f v key word w) → (serial_in_word word ≡ l.index) × (weight_in_word word ≡ l.entry.weight)
-  loaded_serial v w key word laid low l = let is = l.sees.book.serials key l.index l.entry low l.newest.at in let same = l.found ∙ is.named in let few = (few_serials v.shape w.seen laid l.sees.fits).few key low in let long = l.newest.last in
+  pub loaded_serial : (v w : SeatView) (key word : ℕ) → v.shape.reservations ≡ 0 → IsLayout v.shape → key < 2 ^ v.shape.bits → (l : BeginsAtLeaf f v key word w) → (serial_in_word word ≡ l.index) × (weight_in_word word ≡ l.entry.weight)
+  loaded_serial v w key word off laid low l = let is = l.sees.book.serials key l.index l.entry low l.newest.at in let same = l.found ∙ is.named in let few = (few_serials v.shape w.seen laid (l.sees.fits off)).few key low in let long = l.newest.last in
       (ap serial_in_word same ∙ serial_of_leaf l.index l.entry.weight (omega arith) is.fits, ap weight_in_word same ∙ weight_of_leaf l.index l.entry.weight is.fits)
 
   small_key : (v : SeatView) (key : ℕ) → KnowsTable f v → key < 2 ^ v.shape.bits → key < 2 ^ 32
@@ -82,12 +82,12 @@ module _ (f : ℕ → ℕ → List (ℕ × ℕ) → List ℕ) where
 
   -- a loaded serial is far from the end of its half of the word
   pub serial_few : (v w : SeatView) (key word : ℕ) → key < 2 ^ v.shape.bits → KnowsTable f v → BeginsAtLeaf f v key word w → serial_in_word word < 2 ^ 31
-  serial_few v w key word low kn l = let is = (loaded_serial v w key word kn.laid_out low l).0 in let long = l.newest.last in let few = l.sees.fits.few key low in
+  serial_few v w key word low kn l = let is = (loaded_serial v w key word kn.keeps_records kn.laid_out low l).0 in let long = l.newest.last in let few = (l.sees.fits kn.keeps_records).few key low in
       let some = mul-le v.shape.workers (2 * v.shape.updates) 64 131072 kn.laid_out.workers.1 (let up = kn.laid_out.updates.1 in omega arith) in omega (arith, is, long, few, some)
 
   -- the leaf is known to have had the serial and the weight that the request goes from
   knows_serial : (v w : SeatView) (key word : ℕ) (request : Request) → key < 2 ^ v.shape.bits → KnowsTable f v → BeginsAtLeaf f v key word w → KnowsSerial w key (advance_from request key word)
-  knows_serial v w key word request low kn l = let is = loaded_serial v w key word kn.laid_out low l in
+  knows_serial v w key word request low kn l = let is = loaded_serial v w key word kn.keeps_records kn.laid_out low l in
       record { entry = l.entry; at = subst (λ (z : ℕ). At w.seen key z l.entry) (sym (serial_is request key word ∙ is.0)) l.newest.at; weighs = sym (weight_is request key word ∙ is.1) }
 
   -- and may be exchanged as it says
@@ -101,8 +101,8 @@ module _ (f : ℕ → ℕ → List (ℕ × ℕ) → List ℕ) where
   }
 
   -- the root showed no serial past the one that was loaded
-  at_most : (v w : SeatView) (key word : ℕ) → IsLayout v.shape → key < 2 ^ v.shape.bits → BeginsAtLeaf f v key word w → ShowsAtMost v.shape v.seen key (serial_in_word word)
-  at_most v w key word laid low l = let serial = (loaded_serial v w key word laid low l).0 in record {
+  at_most : (v w : SeatView) (key word : ℕ) → v.shape.reservations ≡ 0 → IsLayout v.shape → key < 2 ^ v.shape.bits → BeginsAtLeaf f v key word w → ShowsAtMost v.shape v.seen key (serial_in_word word)
+  at_most v w key word off laid low l = let serial = (loaded_serial v w key word off laid low l).0 in record {
     at_most = λ i n h. let t = shows_leaf v.shape v.seen key v.shape.bits i n h in let le = newest_is_last w.seen key l.index t.0 l.entry t.1 l.newest (entry_stays l.sees.later key t.0 t.1 t.2) in let e = t.3 in omega (arith, serial, le, e);
   }
 
@@ -129,20 +129,20 @@ module _ (f : ℕ → ℕ → List (ℕ × ℕ) → List ℕ) where
     first = goes_begun v w0 key word kn loaded
 
     at_leaf : serial_in_word word ≡ loaded.index
-    at_leaf = (loaded_serial v w0 key word kn.laid_out low loaded).0
+    at_leaf = (loaded_serial v w0 key word kn.keeps_records kn.laid_out low loaded).0
 
     -- the leaf's entry with the serial that was loaded has the weight that was loaded, now and later
     weighed_on : (book : Book) → ArePrefixes w0.seen book → WeighsAt book key (serial_in_word word) (weight_in_word word)
     weighed_on book later = record {
       entry = loaded.entry;
       at = entry_stays later key (serial_in_word word) loaded.entry (subst (λ (z : ℕ). At w0.seen key z loaded.entry) (sym at_leaf) loaded.newest.at);
-      weighs = sym (loaded_serial v w0 key word kn.laid_out low loaded).1;
+      weighs = sym (loaded_serial v w0 key word kn.keeps_records kn.laid_out low loaded).1;
     }
 
     -- no earlier view was shown a serial past the one that was loaded
     at_most_from : (u : SeatView) → u.shape ≡ v.shape → ArePrefixes u.seen v.seen → ShowsAtMost u.shape u.seen key (serial_in_word word)
     at_most_from u same before = subst (λ (z : Shape). ShowsAtMost z u.seen key (serial_in_word word)) (sym same)
-        (record { at_most = λ i n h. (at_most v w0 key word kn.laid_out low loaded).at_most i n (shows_later v.shape v.seen u.seen key v.shape.bits i n before h) })
+        (record { at_most = λ i n h. (at_most v w0 key word kn.keeps_records kn.laid_out low loaded).at_most i n (shows_later v.shape v.seen u.seen key v.shape.bits i n before h) })
 
     -- the word that was loaded refuses the update. What it comes to from an earlier view to a later one, which shows what the leaf had reached
     pub came_back : (used : ℕ) (u z : SeatView) → u.shape ≡ v.shape → ArePrefixes u.seen v.seen → ArePrefixes w0.seen z.seen → goes_from request word ≡ false → Lifts v.shape w0.seen z.seen key v.shape.bits → Goes f used [] u z → CameTo f used u key request z word (outcome_at_once request)
@@ -164,7 +164,7 @@ module _ (f : ℕ → ℕ → List (ℕ × ℕ) → List ℕ) where
 
       -- in a round the leaf had the very serial that was loaded
       exactly : tried.found ≡ old_word a → (w1 ≡ changing w0 w1.seen (made_by key a) (try_leaf key (old_word a) (new_word a) tried.found)) × (told.index ≡ new_serial a) × (a.replaces ≡ true → IsPassed w1.seen key (a.serial + 1))
-      exactly = hits_exactly f w0 key a tried.found w1 first.knows_table.laid_out (subst (λ (z : Shape). key < 2 ^ z.bits) (sym shaped0) low) told
+      exactly = hits_exactly f w0 key a tried.found w1 first.knows_table.laid_out first.knows_table.keeps_records (subst (λ (z : Shape). key < 2 ^ z.bits) (sym shaped0) low) told
 
       missed : tried.found ≢ word → tried.found ≢ old_word a
       missed other same = other (same ∙ sym from)

@@ -26,7 +26,7 @@ use Rattle.aug_core.specs.inside.RootCuts.{root_cut}
 use Rattle.aug_core.specs.Effects.{KnowsTable}
 use Rattle.aug_core.specs.declared.view.Entry.{Entry}
 use Rattle.aug_core.specs.declared.view.SeatView.{SeatView}
-use Rattle.aug_core.proofs.Books.{at_below}
+use Rattle.aug_core.proofs.Books.{at_below, plainly_named}
 use Rattle.aug_core.proofs.Levels.{inner_word, leaf_word}
 use Rattle.aug_core.proofs.EntryCuts.{entry_at, entry_is, root_part, left_part, right_part, part_words, part_pairs}
 use Rattle.aug_core.proofs.FaceLemmas.{left_in, right_in, count_in, a_in, b_in}
@@ -99,7 +99,7 @@ module _ {A B : Type 0} (parts_a : Parts A) (parts_b : Parts B) where
   abbrev ShowSeen : Shape → Book → AtRest → Type 0
   ShowSeen s book rest = (q i field : ℕ) (e : Entry) → IsInner s q → At book q i e → field < record_words → word_in rest e.number field ≡ get_or e.words field 0
 
-  module _ (s : Shape) (book : Book) (b : IsBook both s book) (words : List ℕ) (seen : ShowSeen s book (record { shape = s; words = words })) (cut : Cut) where
+  module _ (s : Shape) (off : s.reservations ≡ 0) (book : Book) (b : IsBook both s book) (words : List ℕ) (seen : ShowSeen s book (record { shape = s; words = words })) (cut : Cut) where
     abbrev rest : AtRest
     rest = record { shape = s; words = words }
 
@@ -118,7 +118,7 @@ module _ {A B : Type 0} (parts_a : Parts A) (parts_b : Parts B) where
     version_at zero place q i p = leaf_at place q i p
     version_at (suc level) place q i p = let inner = inner_word s level place q p.word in let e : Entry = entry_of book q i in let at = entry_at book q i p.there in
         let l : Entry = entry_of book (left_of s q) e.left in let r : Entry = entry_of book (right_of s q) e.right in
-        let number : e.number ≡ e.word = sym (b.named q i e inner at) in let below = b.below q i e inner at in let here : List (ℕ × ℕ) = pairs_below pairs (suc level) place in
+        let number : e.number ≡ e.word = sym (plainly_named both s book b off q i e inner at) in let below = b.below q i e inner at in let here : List (ℕ × ℕ) = pairs_below pairs (suc level) place in
         let read : (field : ℕ) → field < record_words → word_in rest e.word field ≡ get_or (both l.word r.word here) field 0 = λ field low.
         ap (λ (z : ℕ). word_in rest z field) (sym number) ∙ seen q i field e inner at low ∙ ap (λ (z : List ℕ). get_or z field 0) (part_words both s book b cut level place q i p) in
         let left : word_in rest e.word 0 ≡ l.word = read 0 (omega arith) ∙ left_in parts_a parts_b l.word r.word here in
@@ -150,7 +150,7 @@ module _ {A B : Type 0} (parts_a : Parts A) (parts_b : Parts B) where
     there = at_below (history_of v.seen (root_place v.shape)) n.index n.entry n.newest.at
 
     named : (entry_of v.seen (root_place v.shape) n.index).word ≡ number
-    named = ap (λ (z : Entry). z.word) (entry_is v.seen (root_place v.shape) n.index n.entry n.newest.at) ∙ kn.book.named (root_place v.shape) n.index n.entry inner n.newest.at ∙ sym n.named
+    named = ap (λ (z : Entry). z.word) (entry_is v.seen (root_place v.shape) n.index n.entry n.newest.at) ∙ sym n.named
 
     same : record { shape = v.shape; words = rest.words } ≡ rest
     same = λ i. record { shape = sym shaped i; words = rest.words }
@@ -160,7 +160,7 @@ module _ {A B : Type 0} (parts_a : Parts A) (parts_b : Parts B) where
 
     version : IsVersion both rest (pairs_of_cut last) v.shape.bits 0 number
     version = subst (λ (z : AtRest). IsVersion both z (pairs_of_cut last) v.shape.bits 0 number) same (subst (λ (z : ℕ). IsVersion both (record { shape = v.shape; words = rest.words }) (pairs_of_cut last) v.shape.bits 0 z) named
-        (version_at v.shape v.seen kn.book rest.words (subst (ShowSeen v.shape v.seen) (sym same) seen) last v.shape.bits 0 (root_place v.shape) n.index
+        (version_at v.shape kn.keeps_records v.seen kn.book rest.words (subst (ShowSeen v.shape v.seen) (sym same) seen) last v.shape.bits 0 (root_place v.shape) n.index
         (subst (λ (z : Cut). IsPartOfCut v.shape v.seen z v.shape.bits 0 (root_place v.shape) n.index) (sym is_last) (root_part both v.shape v.seen kn.book n.index there))))
 
     pub members_are : pairs_at_rest rest v.shape.bits 0 number ≡ pairs_of_cut last

@@ -17,7 +17,7 @@ use Rattle.aug_core.specs.inside.RootCuts.{root_cut}
 use Rattle.aug_core.specs.Effects.{GuardsRecord, Says}
 use Rattle.aug_core.specs.declared.view.Entry.{Entry}
 use Rattle.aug_core.specs.declared.view.SeatView.{SeatView}
-use Rattle.aug_core.proofs.Books.{at_below}
+use Rattle.aug_core.proofs.Books.{at_below, plainly_named}
 use Rattle.aug_core.proofs.Levels.{inner_word, leaf_word}
 use Rattle.aug_core.proofs.EntryCuts.{entry_at, entry_is, root_part, left_part, right_part, part_words, part_pairs, part_fits}
 use Rattle.aug_core.proofs.EntryKeys.{are_small}
@@ -57,12 +57,12 @@ module _ {A B : Type 0} (parts_a : Parts A) (parts_b : Parts B) where
 
   module _ (v : SeatView) (b : IsBook both v.shape v.seen) (cut : Cut) where
     -- the top of a snapshot's tree
-    abbrev pub top_node : (number : ℕ) → IsInner v.shape (root_place v.shape) → (t : IsSnapshotOf v.shape v.seen number) → cut ≡ root_cut v.shape v.seen t.index → IsNodeAt v.shape v.seen cut v.shape.bits 0 number
-    top_node number inner t cut_is = record {
+    abbrev pub top_node : (number : ℕ) → (t : IsSnapshotOf v.shape v.seen number) → cut ≡ root_cut v.shape v.seen t.index → IsNodeAt v.shape v.seen cut v.shape.bits 0 number
+    top_node number t cut_is = record {
       q = root_place v.shape;
       index = t.index;
       part = subst (λ (z : Cut). IsPartOfCut v.shape v.seen z v.shape.bits 0 (root_place v.shape) t.index) (sym cut_is) (root_part both v.shape v.seen b t.index (at_below _ t.index t.entry t.at));
-      named = ap (λ (z : Entry). z.word) (entry_is v.seen (root_place v.shape) t.index t.entry t.at) ∙ b.named (root_place v.shape) t.index t.entry inner t.at ∙ sym t.numbered;
+      named = ap (λ (z : Entry). z.word) (entry_is v.seen (root_place v.shape) t.index t.entry t.at) ∙ sym t.named;
     }
 
     -- whatever is told of a node's keys is told of the cut's tree
@@ -83,7 +83,7 @@ module _ {A B : Type 0} (parts_a : Parts A) (parts_b : Parts B) where
       at = entry_at v.seen t.q t.index t.part.there
 
       numbered : entry.number ≡ word
-      numbered = sym (b.named t.q t.index entry inner at) ∙ t.named
+      numbered = sym (plainly_named both v.shape v.seen b off t.q t.index entry inner at) ∙ t.named
 
       -- its record may be read
       pub node_guarded : GuardsRecord v word

@@ -7,13 +7,12 @@ use Rattle.aug_monoid.specs.inside.Laws.{IsMonoid}
 use Rattle.aug_core.specs.Places.{Shape}
 use Rattle.aug_core.specs.Addresses.{place_count, IsInner, left_of, right_of}
 use Rattle.aug_core.specs.Faces.{face}
-use Rattle.aug_core.specs.Book.{At, ArePrefixes, IsBook, NamesOnce}
+use Rattle.aug_core.specs.Book.{At, ArePrefixes, IsBook}
 use Rattle.aug_core.specs.inside.Refreshes.{HasEntry, HasNewest, SaysLoaded, Published}
 use Rattle.aug_core.specs.Effects.{KnowsTable, LoadsLeaf, LoadsNode, MayStore}
 use Rattle.aug_core.specs.declared.view.SeatView.{SeatView}
 use Rattle.aug_core.proofs.Sizes.{twice}
 use Rattle.aug_core.proofs.EntryKeys.{are_small}
-use Rattle.aug_core.proofs.Fits.{HasFewSerials, few_serials}
 use Rattle.aug_core.proofs.Refreshing.{is_loaded, refreshed, has_entry}
 use Rattle.aug_trie.specs.inside.Goes.{HasLeaves, HasRoom, Goes, Took, Tries, IsPartOf, part_steps, publish_steps, try_steps}
 use Rattle.aug_trie.specs.inside.Points.{TryOver}
@@ -29,8 +28,8 @@ pub leaf_loaded : (f : ℕ → ℕ → List (ℕ × ℕ) → List ℕ) (v w : Se
 leaf_loaded f v w key r low l = record { index = l.index; entry = l.entry; newest = l.newest; named = sym l.found; shown = l.shown }
 
 -- and one of a node
-pub node_loaded : (f : ℕ → ℕ → List (ℕ × ℕ) → List ℕ) (v w : SeatView) (q r : ℕ) → IsInner v.shape q → LoadsNode f v q r w → HasNewest w.seen q r
-node_loaded f v w q r inner l = record { index = l.index; entry = l.entry; newest = l.newest; named = l.sees.book.named q l.index l.entry inner l.newest.at ∙ sym l.found; shown = l.shown }
+pub node_loaded : (f : ℕ → ℕ → List (ℕ × ℕ) → List ℕ) (v w : SeatView) (q r : ℕ) → LoadsNode f v q r w → HasNewest w.seen q r
+node_loaded f v w q r l = record { index = l.index; entry = l.entry; newest = l.newest; named = sym l.found; shown = l.shown }
 
 module _ {A B : Type 0} (parts_a : Parts A) (parts_b : Parts B) where
   abbrev both : ℕ → ℕ → List (ℕ × ℕ) → List ℕ
@@ -66,10 +65,10 @@ module _ {A B : Type 0} (parts_a : Parts A) (parts_b : Parts B) where
         }
 
 -- what the try left
-pub tries : (f : ℕ → ℕ → List (ℕ × ℕ) → List ℕ) (v w0 w1 w2 w4 w : SeatView) (q old ln rn number : ℕ) (done : Bool) → IsInner v.shape q → KnowsTable f w → w.shape ≡ v.shape → w4.shape ≡ v.shape → ArePrefixes v.seen w0.seen → ArePrefixes w0.seen w1.seen → ArePrefixes w1.seen w2.seen → ArePrefixes w2.seen w.seen
+pub tries : (f : ℕ → ℕ → List (ℕ × ℕ) → List ℕ) (v w0 w1 w2 w4 w : SeatView) (q old ln rn number : ℕ) (done : Bool) → IsInner v.shape q → w4.shape ≡ v.shape → ArePrefixes v.seen w0.seen → ArePrefixes w0.seen w1.seen → ArePrefixes w1.seen w2.seen → ArePrefixes w2.seen w.seen
     → HasNewest w0.seen q old → HasNewest w1.seen (left_of v.shape q) ln → HasNewest w2.seen (right_of v.shape q) rn → Published w4.shape q old ln rn done w.seen → (done ≡ false → MayStore w number) → Tries v q number done w
-tries f v w0 w1 w2 w4 w q old ln rn number done inner kn shaped shaped4 c0 c01 c12 c23 at_node at_left at_right p again = record {
-  refreshed = refreshed f v.shape w0.seen w1.seen w2.seen w.seen q old ln rn inner c01 c12 c23 at_node at_left at_right v.seen done (book_at f v.shape w shaped kn) (subst (λ (z : Shape). NamesOnce z w.seen) shaped kn.named) (subst (λ (z : Shape). HasFewSerials z w.seen) shaped (few_serials w.shape w.seen kn.laid_out kn.fits)) c0 (subst (λ (z : Shape). Published z q old ln rn done w.seen) shaped4 p);
+tries f v w0 w1 w2 w4 w q old ln rn number done inner shaped4 c0 c01 c12 c23 at_node at_left at_right p again = record {
+  refreshed = refreshed f v.shape w0.seen w1.seen w2.seen w.seen q old ln rn inner c01 c12 c23 at_node at_left at_right v.seen done c0 (subst (λ (z : Shape). Published z q old ln rn done w.seen) shaped4 p);
   again = λ bad _. again bad;
 }
 
@@ -129,7 +128,7 @@ module _ {A B : Type 0} (parts_a : Parts A) (parts_b : Parts B) where
         over = λ w done five is g took p again. record {
           goes = goes_on f 0 (number + 1) (number + 1) [] v w4 w (omega arith) (omega arith) h4 g;
           took = took_refresh s q v w0 w1 w2 w3 w4 w inner s2 s3 t0 t1 t2 (subst (λ (z : ℕ). Took w2 w3 (part_steps w2.shape z)) el t3) (subst (λ (z : ℕ). Took w3 w4 (part_steps w3.shape z)) er t4) took;
-          tries = tries f v w0 w1 w2 w4 w q old left right number done inner g.knows_table (g.shaped ∙ s4) s4 g0.later g1.later g2.later (book_trans g3.later (book_trans g4.later g.later)) at_node at_left at_right
+          tries = tries f v w0 w1 w2 w4 w q old left right number done inner s4 g0.later g1.later g2.later (book_trans g3.later (book_trans g4.later g.later)) at_node at_left at_right
               (subst (λ (z : List ℕ). Published w4.shape q old (get_or z 0 0) (get_or z 1 0) done w.seen) is p) again;
         };
       }

@@ -1,5 +1,6 @@
 -- A lead that aims at a part, as `Draft::aim` tells it, and lays the next opening out there.
 use Rattle.std.proofs.Common.{◌≡◌, ◌≢◌, ◌⊎◌, ℕ, ◌+◌, ◌*◌, ◌^◌, ◌<◌, ◌≤◌, List, get_or, length, sym, ap, ◌∙◌, subst, [], arith, inl, inr, refl, ⊎_elim}
+use Rattle.aug_core.proofs.Fits.{round_table, book_as}
 use Rattle.atomic_table.specs.Seated.{TableId}
 use Rattle.aug_core.specs.Addresses.{root_place, level_of, place_on}
 use Rattle.aug_core.specs.Effects.{Sat}
@@ -12,30 +13,30 @@ use Rattle.aug_words.specs.inside.SeatState.{IsLead, IsLeadSeat, IsPlaced}
 use Rattle.aug_words.proofs.Aims.{lead_aimed, lead_clear}
 use Rattle.aug_words.proofs.Reopens.{Renews}
 use Rattle.aug_core.proofs.Levels.{level_is, root_word}
-use Rattle.aug_words.proofs.Leads.{root_inner}
-use Rattle.aug_words.proofs.Lays.{knows_steps}
 
 -- it lays that part out, where nobody reads if none is counted there
 pub record Aimed (f : ℕ → ℕ → List (ℕ × ℕ) → List ℕ) (a : TableId) (b next root other : ℕ) (shown : List ℕ) (p : Parts) (me : Sat) (s : Shape) (out : List ℕ) : Type 0 where
   pub shape : me.0.shape ≡ s
   pub wide : 2 ^ s.bits ≤ s.members
   pub room : 2 ^ me.0.shape.bits ≤ me.0.shape.members
+  pub keeps : me.0.shape.reservations ≡ 0
   pub lead : IsLead f a b next root other shown p me
   pub clear : get_or out p.next 0 ≡ 0 → IsClearPart (word_count me.0.shape) me.0.lent other
 
 pub aimed : (f : ℕ → ℕ → List (ℕ × ℕ) → List ℕ) (a : TableId) (b next root was : ℕ) (noted : List ℕ) (p : Parts) (me : Sat)
-    → IsLead f a b next root was noted p me → (s : Shape) → me.0.shape ≡ s → 2 ^ s.bits ≤ s.members → (n : ℕ) → n ≡ word_count s
+    → IsLead f a b next root was noted p me → (s : Shape) → me.0.shape ≡ s → 2 ^ s.bits ≤ s.members → s.reservations ≡ 0 → (n : ℕ) → n ≡ word_count s
     → (p' : Parts) (other : ℕ) (shown : List ℕ) → p'.own ≡ p.own → p'.out.items ≡ p.out.items
     → (p'.next < length p.out.items) × (p'.next ≢ p.own) → (p'.next ≡ p.next → (other ≡ was) × (shown ≡ noted))
     → (p'.next ≢ p.next → (other ≡ p'.next * n) × (length shown ≡ length noted) × ((slot : ℕ) → get_or shown slot 0 ≡ 0))
     → Aimed f a b next root other shown p' me s p.out.items
-aimed f a b next root was noted p me given s shape wide n sized p' other shown own out where_next same turned =
+aimed f a b next root was noted p me given s shape wide off n sized p' other shown own out where_next same turned =
     let room : 2 ^ me.0.shape.bits ≤ me.0.shape.members = subst (λ (z : Shape). 2 ^ z.bits ≤ z.members) (sym shape) wide in
     let there : p'.next ≢ p.next → (other ≡ p'.next * word_count me.0.shape) × (length shown ≡ length noted) × ((slot : ℕ) → get_or shown slot 0 ≡ 0) =
     λ ne. let t = turned ne in (t.0 ∙ ap (λ (z : ℕ). p'.next * z) (sized ∙ ap word_count (sym shape)), t.1, t.2) in record {
       shape = shape;
       wide = wide;
       room = room;
+      keeps = ap (λ (z : Shape). z.reservations) shape ∙ off;
       lead = lead_aimed f a b next root was noted p me given p' other shown own out where_next same there;
       clear = λ free. lead_clear f a b next root was noted p me given p' other shown own out where_next same there room free;
     }
@@ -70,7 +71,7 @@ module _ {f : ℕ → ℕ → List (ℕ × ℕ) → List ℕ} {a : TableId} {b n
     shaped = refl;
     wide = subst (λ (z : TableId). me.0.base + word_count me.0.shape ≤ z.words) one placed.wide;
     records_are = begins ∙ (λ i. placed.base_is i + record_start (sym aims.shape i) 0);
-    knows = seated.knows;
+    knows = round_table f me.0 aims.keeps seated.knows;
     room = aims.room;
   }
 
@@ -83,8 +84,8 @@ module _ {f : ℕ → ℕ → List (ℕ × ℕ) → List ℕ} {a : TableId} {b n
 
     -- from the root's newest record on
     pub aimed_named : NamesEntry me.0.seen top root
-    aimed_named = let n = seated.names_root in let bits = seated.knows.laid_out.bits in let inner = root_inner me.0.shape bits.0 bits.1 in
-        subst (λ (z : ℕ). NamesEntry me.0.seen z root) (sym (at ∙ ap root_place (sym aims.shape))) record { index = n.index; entry = n.entry; at = n.newest.at; named = seated.knows.book.named (root_place me.0.shape) n.index n.entry inner n.newest.at ∙ sym n.named }
+    aimed_named = let n = seated.names_root in
+        subst (λ (z : ℕ). NamesEntry me.0.seen z root) (sym (at ∙ ap root_place (sym aims.shape))) record { index = n.index; entry = n.entry; at = n.newest.at; named = sym n.named }
 
     pub aimed_below : ShownBelow f s me.0.seen (words_in other s me.0) shown (level_of s top) (place_on s top)
     aimed_below = subst (λ (z : ℕ × ℕ). ShownBelow f s me.0.seen (words_in other s me.0) shown z.0 z.1) (λ i. (sym level i, sym place i))
@@ -100,7 +101,7 @@ module _ {f : ℕ → ℕ → List (ℕ × ℕ) → List ℕ} {a : TableId} {b n
           live = seated.live;
           no_slot = refl;
           hands_out = seated.hands_out;
-          knows = knows_steps f me.0 me'.0.whole me'.0.steps seated.knows;
+          knows = book_as f me.0 refl refl refl seated.knows;
           names_root = let n = seated.names_root in record { index = n.index; entry = n.entry; newest = n.newest; named = n.named };
         } in
         let still : IsLead f a b next root other noted p (w, []) = (

@@ -11,7 +11,7 @@ use Rattle.aug_core.specs.Records.{Lists}
 use Rattle.aug_core.specs.inside.ClearParts.{IsClearPart}
 use Rattle.aug_core.specs.declared.step.StepTaken.{StepTaken}
 use Rattle.aug_core.specs.declared.view.SeatView.{SeatView}
-use Rattle.aug_core.proofs.Fits.{knows_lent, knows_same}
+use Rattle.aug_core.proofs.Fits.{book_as, knows_same}
 use Rattle.aug_core.proofs.ReaderCounts.{lists_without}
 use Rattle.aug_words.specs.Leads.{IsNotTaken, MayOpen}
 use Rattle.aug_words.specs.declared.parts.Parts.{Parts}
@@ -116,7 +116,7 @@ module _ (face : ℕ → ℕ → List (ℕ × ℕ) → List ℕ) (a a' t : Table
       exists = seat.exists;
       follows = seat.follows;
       lends = lends;
-      knows = knows_lent face me.0 readers seat.knows;
+      knows = book_as face me.0 refl refl refl seat.knows;
     };
   }
 

@@ -1,6 +1,6 @@
 -- What the calls that lay a part out hand on to each other, over plain values.
 
-use Rattle.std.proofs.Common.{◌≡◌, ℕ, ◌+◌, ◌-◌, ◌*◌, ◌^◌, ◌<◌, ◌≤◌, List, [], ◌∷◌, length, get_or, set, ap, ◌∙◌, subst}
+use Rattle.std.proofs.Common.{◌≡◌, ℕ, ◌+◌, ◌-◌, ◌*◌, ◌^◌, ◌<◌, ◌≤◌, List, [], ◌∷◌, length, get_or, set, ap, sym, ◌∙◌, subst}
 use Rattle.std.proofs.Common.{arith}
 use Rattle.aug_core.specs.Addresses.{IsInner, place_count}
 use Rattle.aug_core.specs.Places.{Shape, lane_place, record_start, word_count}
@@ -9,8 +9,11 @@ use Rattle.aug_core.specs.declared.view.LaneState.TheVariants.{Free}
 use Rattle.aug_core.proofs.Sizes.{twice}
 use Rattle.aug_words.specs.inside.Builds.{WritesFive}
 use Rattle.aug_core.specs.inside.OwnNumbers.{own_number}
-use Rattle.aug_words.specs.inside.Laying.{FreesLanes, LaysNode, next_record, next_word}
+use Rattle.aug_words.specs.inside.Laying.{FreesLanes, NamesEntry, LaysNode, next_record, next_word}
 use Rattle.aug_words.proofs.Lays.{frees_more}
+use Rattle.aug_core.specs.Effects.{KnowsTable}
+use Rattle.aug_core.specs.declared.view.SeatView.{SeatView}
+use Rattle.aug_core.proofs.Books.{plainly_named}
 
 -- a node's own record and then its word are stored as the code computes them
 pub lays_node : (s : Shape) (q start leaves number x y : ℕ) (five old mid new : List ℕ) → leaves ≡ 2 ^ s.bits
@@ -33,6 +36,10 @@ lays_node s q start leaves number x y five old mid new many left right at own wr
 -- what is no leaf is an inner node
 pub inner_by : (s : Shape) (q leaves : ℕ) → leaves ≡ 2 ^ s.bits → leaves ≤ q → q < place_count s → IsInner s q
 inner_by s q leaves many past inside = record { past_leaves = omega (arith, many, past); inside = inside }
+
+-- in a round the word of a node is its record's number
+pub numbered_in : (f : ℕ → ℕ → List (ℕ × ℕ) → List ℕ) (s : Shape) (v : SeatView) (q word : ℕ) → v.shape ≡ s → KnowsTable f v → IsInner s q → (n : NamesEntry v.seen q word) → n.entry.number ≡ word
+numbered_in f s v q word shaped kn inner n = sym (plainly_named f v.shape v.seen kn.book kn.keeps_records q n.index n.entry (subst (λ (z : Shape). IsInner z q) (sym shaped) inner) n.at) ∙ n.named
 
 -- and there is a note of it
 pub slot_in : (s : Shape) (q leaves n : ℕ) → leaves ≡ 2 ^ s.bits → leaves ≤ q → q < place_count s → n ≡ 2 ^ s.bits → q - leaves < n

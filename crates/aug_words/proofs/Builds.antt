@@ -1,6 +1,7 @@
 -- The words of a table are filled node by node.
 
 use Rattle.std.proofs.Common.{true, false, ◌≡◌, ℕ, zero, suc, ◌+◌, ◌-◌, ◌*◌, ◌%◌, ◌^◌, ◌<◌, ◌≤◌, ◌≢◌, ◌⊎◌, inl, inr, max, Bool, ◌||◌, eqb, eq-eqb, ne_eqb, leb, le-leb, le-ltb, lt-ltb, if◌then◌else◌, List, [], ◌∷◌, ◌++◌, length, get_or, set, take, replicate, All, refl, sym, ap, ◌∙◌, subst, ⊎_elim, arith, length-set, length-append, get_or-set_other, get_or-set_same}
+use Rattle.aug_core.specs.Layout.{IsLayout}
 use Rattle.std.proofs.lemmas.Bool.{cases_eq, cases_lt, lt-leb}
 use Rattle.std.proofs.lemmas.List.{take_all, take_more, take-append-le, get_or-append_right, get_or_read}
 use Rattle.std.proofs.lemmas.List.Elements.{All-filter, All-contains}
@@ -401,13 +402,14 @@ pub last_nodes : (s : Shape) → level_start s (suc s.bits) ≡ place_count s
 last_nodes s = let g : suc s.bits - suc s.bits ≡ 0 = omega arith in let k : 2 ^ (suc s.bits - suc s.bits) ≡ 1 = ap (λ (z : ℕ). 2 ^ z) g in let t = twice s.bits in omega arith
 
 -- the words open a table when all nodes are built
-pub built_is_opened : (face : ℕ → ℕ → List (ℕ × ℕ) → List ℕ) (o : Opening) (words : List ℕ) → IsKeySet o.shape.bits (keys_of o.members) → All FitsPair o.members → length (keys_of o.members) ≤ o.shape.members → o.shape.reservations ≡ 0
+pub built_is_opened : (face : ℕ → ℕ → List (ℕ × ℕ) → List ℕ) (o : Opening) (words : List ℕ) → IsKeySet o.shape.bits (keys_of o.members) → All FitsPair o.members → length (keys_of o.members) ≤ o.shape.members → (o.shape.reservations ≡ 0) ⊎ (2 ^ o.shape.bits ≤ o.shape.members) → IsLayout o.shape
     → IsBuilt face o o.shape.bits (place_count o.shape) words → IsOpened face o words
-built_is_opened face o words set fit few off built = record {
+built_is_opened face o words set fit few room laid_out built = record {
   key_set = set;
   members_fit = fit;
   few = few;
-  room = inl off;
+  room = room;
+  numbers = λ used. let most = laid_out.words in omega arith;
   wide = built.long;
   named = built.named;
   records = λ q k inner small. built.records q inner.past_leaves inner.inside k small;
@@ -422,12 +424,12 @@ blank_zeros i zero = refl
 blank_zeros zero (suc n) = refl
 blank_zeros (suc i) (suc n) = blank_zeros i n
 
-pub built_opens : (face : ℕ → ℕ → List (ℕ × ℕ) → List ℕ) (o : Opening) (words all : List ℕ) → IsKeySet o.shape.bits (keys_of o.members) → All FitsPair o.members → length (keys_of o.members) ≤ o.shape.members → o.shape.reservations ≡ 0
+pub built_opens : (face : ℕ → ℕ → List (ℕ × ℕ) → List ℕ) (o : Opening) (words all : List ℕ) → IsKeySet o.shape.bits (keys_of o.members) → All FitsPair o.members → length (keys_of o.members) ≤ o.shape.members → (o.shape.reservations ≡ 0) ⊎ (2 ^ o.shape.bits ≤ o.shape.members) → IsLayout o.shape
     → IsBuilt face o o.shape.bits (place_count o.shape) words → IsPadded words all → Ruled face o.shape (opening all [] (newcomer face record { opening = o; words = length all }))
-built_opens face o words all set fit few off built padded =
+built_opens face o words all set fit few room laid_out built padded =
     let long = built.long in let zeros : List ℕ = replicate padded.zeros 0 in
     let here : table_part 0 (word_count o.shape) all ≡ words = ap (take (word_count o.shape)) padded.is ∙ take-append-le (word_count o.shape) words zeros (omega arith) ∙ take_all (word_count o.shape) words (omega arith) in
-    first_opening face o (length all) all refl (subst (IsOpened face o) (sym here) (built_is_opened face o words set fit few off built))
+    first_opening face o (length all) all refl (subst (IsOpened face o) (sym here) (built_is_opened face o words set fit few room laid_out built))
     (λ i high. ap (λ (z : List ℕ). get_or z i 0) here ∙ built.blank i high)
     (λ i past. ap (λ (z : List ℕ). get_or z i 0) padded.is ∙ get_or-append_right words zeros (length words) i 0 refl (omega arith) ∙ blank_zeros (i - length words) padded.zeros)
 

@@ -1,15 +1,14 @@
 -- A chunk of a part that is laid out: what lies in it, when it is as an opening demands, and what its two halves come to.
-use Rattle.std.proofs.Common.{◌≡◌, ℕ, zero, suc, ◌+◌, ◌-◌, ◌*◌, ◌/◌, ◌%◌, ◌^◌, ◌<◌, ◌≤◌, ◌≢◌, ◌⊎◌, inl, inr, Bool, true, false, le-leb, eqb, if◌then◌else◌, List, [], ◌∷◌, ◌++◌, length, get_or, set, refl, sym, ap, ◌∙◌, subst, ⊎_elim, arith, length-set, get_or-set_other, get_or-set_same}
-use Rattle.std.proofs.Math.Nat.{two-pow-succ, mul-add, mul_assoc, mul-le-mul_right, min-eq_left}
+use Rattle.std.proofs.Common.{◌≡◌, ℕ, suc, ◌+◌, ◌-◌, ◌*◌, ◌/◌, ◌%◌, ◌^◌, ◌<◌, ◌≤◌, ◌≢◌, ◌⊎◌, inl, inr, Bool, true, false, eqb, if◌then◌else◌, List, [], ◌∷◌, ◌++◌, length, get_or, set, refl, sym, ap, ◌∙◌, subst, ⊎_elim, arith, length-set, get_or-set_other, get_or-set_same}
+use Rattle.std.proofs.Math.Nat.{two-pow-succ, mul-add, mul_assoc, mul-le-mul_right}
 use Rattle.std.proofs.lemmas.Nat.{pow-add}
-use Rattle.std.proofs.Math.Pow.{pow_mono}
 use Rattle.std.proofs.lemmas.Bool.{lt-ltb, le-ltb, cases_lt, cases_order}
 use Rattle.aug_model.specs.Keys.{is_member, keys_of}
 use Rattle.aug_model.specs.Queries.{weight_in}
 use Rattle.aug_model.proofs.Pairs.{weight-none}
 use Rattle.aug_model.proofs.Ranges.{rises_from}
 use Rattle.aug_monoid.specs.Parts.{Parts}
-use Rattle.aug_core.specs.Places.{Shape, level_start, opening_count, own_records, record_start, word_count, record_words}
+use Rattle.aug_core.specs.Places.{Shape, level_start, record_start, word_count, record_words}
 use Rattle.aug_core.specs.Addresses.{place_count, IsInner, left_of, right_of, level_of, place_on}
 use Rattle.aug_core.specs.Book.{Book, At, ArePrefixes, IsBook, NamesOnce, StandsOver, word_of_leaf}
 use Rattle.aug_core.specs.Cuts.{Cut, pairs_of_cut}
@@ -17,11 +16,11 @@ use Rattle.aug_core.specs.Eras.{opening_with}
 use Rattle.aug_core.specs.Faces.{face}
 use Rattle.aug_core.specs.inside.EntryCuts.{IsPartOfCut}
 use Rattle.aug_core.specs.inside.WordPlaces.{IsWord}
-use Rattle.aug_core.specs.Opening.{Opening, has_room, opening_number, opening_pairs, opening_words}
+use Rattle.aug_core.specs.Opening.{Opening, opening_number, opening_pairs, opening_words}
 use Rattle.aug_core.specs.declared.view.Entry.{Entry}
-use Rattle.aug_core.proofs.Sizes.{twice, own_none, own_more}
+use Rattle.aug_core.proofs.Sizes.{twice}
 use Rattle.aug_core.proofs.FaceLemmas.{left_in as left_is, right_in as right_is, count_in, a_in, b_in, face_is}
-use Rattle.aug_core.proofs.Levels.{Above, above, on_level, room_above, leaf_level, leaf_word, level_inside, level_is, one_level}
+use Rattle.aug_core.proofs.Levels.{Above, above, on_level, leaf_level, leaf_word, level_inside, level_is, one_level}
 use Rattle.aug_core.proofs.Below.{own_low, room_number, number_of_leaf, pairs_are, pairs_of_leaf}
 use Rattle.aug_core.proofs.Books.{at_below}
 use Rattle.aug_core.proofs.Fits.{HasFewSerials}

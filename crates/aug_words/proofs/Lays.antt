@@ -50,9 +50,9 @@ pub whole : (s : Shape) (q : ℕ) → q < place_count s → InChunk s s.bits 0 q
 whole s q inside = let on = on_level s q inside in let fits = on.place_fits in record { level = level_of s q; place = place_on s q; here = on; low = on.level_fits; from_first = omega arith; to_last = omega arith }
 
 -- once all of it is laid out, the shared records are filled and all lanes are free, the part is as the opening demands
-pub laid_opens : (face : ℕ → ℕ → List (ℕ × ℕ) → List ℕ) (o : Opening) (u v w : List ℕ) → 2 ^ o.shape.bits ≤ o.shape.members → IsKeySet o.shape.bits (keys_of o.members) → All FitsPair o.members → length u ≡ word_count o.shape
+pub laid_opens : (face : ℕ → ℕ → List (ℕ × ℕ) → List ℕ) (o : Opening) (u v w : List ℕ) → o.shape.reservations ≡ 0 → 2 ^ o.shape.bits ≤ o.shape.members → IsKeySet o.shape.bits (keys_of o.members) → All FitsPair o.members → length u ≡ word_count o.shape
     → ((q : ℕ) → q < place_count o.shape → IsReady face o u q) → SharesRecords face o.shape o.shape.bits u v → FreesLanes o.shape o.shape.workers v w → IsOpened face o w
-laid_opens face o u v w room set fit wide ready shares frees =
+laid_opens face o u v w off room set fit wide ready shares frees =
     let t = twice o.shape.bits in
     -- words before the lanes and behind the shared records stay
     let low : (i : ℕ) → i < place_count o.shape → get_or w i 0 ≡ get_or u i 0 = λ i inside. frees.before i (omega arith) ∙ shares.others i (inl (omega arith)) in
@@ -61,6 +61,7 @@ laid_opens face o u v w room set fit wide ready shares frees =
       members_fit = fit;
       few = (let few = IsKeySet-few o.shape.bits (keys_of o.members) set in omega arith);
       room = inr room;
+      numbers = λ used. absurd (omega arith);
       wide = frees.long ∙ shares.long ∙ wide;
       named = λ q inside. low q inside ∙ (ready q inside).word;
       records = λ q k inner small. let number = room_number o room q inner in
@@ -152,7 +153,7 @@ module _ (base : ℕ) (s : Shape) where
 -- ---- a lead that brings it up to what it has seen
 
 pub knows_steps : (f : ℕ → ℕ → List (ℕ × ℕ) → List ℕ) (v : SeatView) (whole : List ℕ) (steps : List StepTaken) → KnowsTable f v → KnowsTable f record v { whole = whole; steps = steps }
-knows_steps f v whole steps kn = record { laid_out = kn.laid_out; key_set = kn.key_set; members_fit = kn.members_fit; few_members = kn.few_members; book = kn.book; named = kn.named; opened = kn.opened; fits = kn.fits }
+knows_steps f v whole steps kn = record { keeps_records = kn.keeps_records; laid_out = kn.laid_out; key_set = kn.key_set; members_fit = kn.members_fit; few_members = kn.few_members; book = kn.book; named = kn.named; opened = kn.opened; fits = kn.fits }
 
 module _ (base : ℕ) (s : Shape) where
   pub beside_on : (u v w : SeatView) → StepsBeside base s u v → StepsBeside base s v w → StepsBeside base s u w

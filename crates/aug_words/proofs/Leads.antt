@@ -1,5 +1,5 @@
 -- The seat of a lead, and the table that it sits at.
-use Rattle.std.proofs.Common.{◌≡◌, ℕ, ◌+◌, ◌^◌, ◌<◌, ◌≤◌, List, [], ◌∷◌, ◌++◌, ◌-◌, ◌*◌, length, map, min, set, get_or, All, Option, Some, option_map, sym, refl, ap, ◌∙◌, subst, arith, inl}
+use Rattle.std.proofs.Common.{◌≡◌, ℕ, ◌+◌, ◌^◌, ◌<◌, ◌≤◌, List, [], ◌++◌, ◌-◌, ◌*◌, length, map, min, set, get_or, All, Option, Some, option_map, sym, refl, ap, ◌∙◌, subst, arith, inl}
 use Rattle.std.specs.Prelude.{unwrap_or}
 use Rattle.aug_core.specs.Lanes.{lane_records, first_record, new_lane}
 use Rattle.aug_core.specs.Addresses.{IsInner, root_place}
@@ -16,9 +16,8 @@ use Rattle.aug_core.proofs.PlaceLemmas.{keys-within}
 use Rattle.aug_core.proofs.Sizes.{twice}
 use Rattle.aug_core.proofs.Books.{goes_on_from_both}
 use Rattle.aug_core.proofs.Clients.{new_pass_may_store, new_pass_may_change}
-use Rattle.aug_core.specs.Eras.{seen_in}
 use Rattle.aug_core.proofs.Eras.{seen_now}
-use Rattle.aug_core.proofs.Fits.{knows_shown, knows_lent, knows_same, knows_told, knows_taken}
+use Rattle.aug_core.proofs.Fits.{book_shown, book_as}
 use Rattle.atomic_table.specs.Seated.{TableId}
 use Rattle.aug_core.specs.Places.{Shape}
 use Rattle.aug_core.specs.Opening.{Opening, opening_number, opening_entry}
@@ -91,7 +90,7 @@ module _ (face : ℕ → ℕ → List (ℕ × ℕ) → List ℕ) (a a' : TableId
     live = ap (λ (z : SeatView). z.live) is ∙ seat.live;
     no_slot = empty;
     hands_out = ap (λ (z : SeatView). z.spare) is ∙ seat.hands_out;
-    knows = knows_shown face me.0 me'.0 seat.knows did.sees (ap (λ (z : SeatView). z.shape) is) (ap (λ (z : SeatView). z.members) is);
+    knows = book_shown face me.0 me'.0 seat.knows did.sees (ap (λ (z : SeatView). z.shape) is) (ap (λ (z : SeatView). z.members) is);
     names_root = record {
       index = did.index;
       entry = did.entry;
@@ -106,7 +105,7 @@ module _ (face : ℕ → ℕ → List (ℕ × ℕ) → List ℕ) (a a' : TableId
     live = seat.live;
     no_slot = refl;
     hands_out = seat.hands_out;
-    knows = knows_same face me.0 me.0.live me.0.also me.0.held me.0.spare me.0.began (me.0.steps ++ taken ∷ []) seat.knows;
+    knows = book_as face me.0 refl refl refl seat.knows;
     names_root = let at = seat.names_root in record { index = at.index; entry = at.entry; newest = at.newest; named = at.named };
   })
 
@@ -116,7 +115,7 @@ module _ (face : ℕ → ℕ → List (ℕ × ℕ) → List ℕ) (a a' : TableId
     live = seat.live;
     no_slot = seat.no_slot;
     hands_out = ap (option_map (λ n. n + 1)) seat.hands_out;
-    knows = knows_same face me.0 me.0.live me.0.also me.0.held (option_map (λ n. n + 1) me.0.spare) me.0.began me.0.steps seat.knows;
+    knows = book_as face me.0 refl refl refl seat.knows;
     names_root = let at = seat.names_root in record { index = at.index; entry = at.entry; newest = at.newest; named = at.named };
   })
 
@@ -129,7 +128,7 @@ module _ (face : ℕ → ℕ → List (ℕ × ℕ) → List ℕ) (a a' : TableId
         live = seat.live;
         no_slot = seat.no_slot;
         hands_out = seat.hands_out;
-        knows = knows_lent face record me.0 { also = w.seen; held = me.0.held ++ w.held } (me.0.lent ++ map (λ _. me.0.base) w.lent) (knows_same face me.0 me.0.live w.seen (me.0.held ++ w.held) me.0.spare me.0.began me.0.steps seat.knows);
+        knows = book_as face me.0 refl refl refl seat.knows;
         names_root = let at = seat.names_root in record { index = at.index; entry = at.entry; newest = at.newest; named = at.named };
       })
 
@@ -143,7 +142,7 @@ module _ (face : ℕ → ℕ → List (ℕ × ℕ) → List ℕ) (a a' : TableId
         live = seat.live;
         no_slot = seat.no_slot;
         hands_out = seat.hands_out;
-        knows = knows_lent face me.0 (without w.base me.0.lent) seat.knows;
+        knows = book_as face me.0 refl refl refl seat.knows;
         names_root = let at = seat.names_root in record { index = at.index; entry = at.entry; newest = at.newest; named = at.named };
       })
 
@@ -153,7 +152,7 @@ module _ (face : ℕ → ℕ → List (ℕ × ℕ) → List ℕ) (a a' : TableId
     live = seat.live;
     no_slot = seat.no_slot;
     hands_out = seat.hands_out;
-    knows = knows_told face me.0 (seen_in me.0.era w).seen (Some (learnt_of w)) seat.knows;
+    knows = book_as face me.0 refl refl refl seat.knows;
     names_root = let at = seat.names_root in record { index = at.index; entry = at.entry; newest = at.newest; named = at.named };
   })
 
@@ -177,7 +176,7 @@ new_pass face next root place lead me seat low empty is =
       exists = low;
       follows = refl;
       lends = record { count = inl refl; few = omega arith; here = λ b has. absurd (some-ne-none b (sym has.1)) };
-      knows = knows_taken face lead.0 place seat.knows;
+      knows = book_as face lead.0 refl refl refl seat.knows;
     }
 
 -- what is known once a note was taken in and the root was loaded

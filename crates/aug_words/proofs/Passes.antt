@@ -1,23 +1,29 @@
 -- The seat of a pass after a step.
-use Rattle.std.proofs.Common.{◌≡◌, ℕ, ◌+◌, ◌*◌, ◌<◌, ◌≤◌, List, [], ◌∷◌, ◌++◌, refl, sym, ap, ◌∙◌, subst, ⊎_elim}
+use Rattle.std.proofs.Common.{arith, ◌≡◌, ℕ, ◌+◌, ◌*◌, ◌<◌, ◌≤◌, List, [], ◌∷◌, ◌++◌, refl, sym, ap, ◌∙◌, subst, ⊎_elim, Some, None}
+use Rattle.std.specs.Prelude.{Option}
+use Rattle.aug_words.specs.Reservations.{HasReservations}
+use Rattle.aug_core.specs.inside.Reclaims.{MayReserve}
+use Rattle.aug_core.specs.declared.view.Reserved.{Reserved}
+use Rattle.aug_core.specs.Reclaiming.{reaching, Reserves, releasing, retiring, retiring_in, scanning, scanning_in}
 use Rattle.atomic_table.specs.Seated.{TableId}
 use Rattle.aug_core.specs.Places.{Shape, lane_place, record_start, record_count, record_words, word_count}
 use Rattle.aug_core.specs.Book.{Book}
 use Rattle.std.proofs.lemmas.Bool.{cases_eq}
-use Rattle.aug_core.specs.Effects.{Sat, stepping, old_word, new_word, made_by, with_changes, last_replaced, publishing_from, Sees, LoadsLeaf, BeginsAtLeaf, LoadsNode, TriesLeaf, TriesNode, GuardsRecord, KnowsTable, MayStore, ReadsRecord, on_first, storing_in, going_from, storing, beginning}
+use Rattle.aug_core.specs.Effects.{Sat, stepping, old_word, new_word, made_by, with_changes, last_replaced, publishing_from, Sees, LoadsLeaf, BeginsAtLeaf, LoadsNode, TriesLeaf, TriesNode, GuardsRecord, KnowsBook, birth_of, word_by, MayStore, ReadsRecord, on_first, storing_in, going_from, storing, beginning, own_lane}
 use Rattle.aug_core.specs.Eras.{IsAtWork}
 use Rattle.aug_core.specs.inside.LaneStates.{HasTakenLane}
-use Rattle.aug_core.specs.Kinds.{load_leaf, try_leaf, load_node, try_node, load_record_word, store_record_word}
+use Rattle.aug_core.specs.Kinds.{load_leaf, try_leaf, load_node, try_node, load_record_word, store_record_word, store_reservation}
 use Rattle.aug_core.specs.declared.step.StepTaken.{StepTaken}
 use Rattle.aug_core.specs.declared.view.Beginning.{Beginning}
 use Rattle.aug_core.specs.declared.view.Advance.{Advance}
 use Rattle.aug_core.specs.declared.view.Held.{Held}
 use Rattle.aug_core.specs.declared.view.LaneState.TheVariants.{Taken}
 use Rattle.aug_core.specs.declared.view.SeatView.{SeatView}
-use Rattle.aug_core.proofs.Fits.{knows_shown, knows_same}
+use Rattle.aug_core.proofs.Fits.{book_shown, book_as}
 use Rattle.aug_core.proofs.Eras.{holds_lane}
 use Rattle.aug_words.specs.inside.SeatState.{IsPlaced, SitsAt, IsPassSeat, HasPassSeat, LendsHere}
 use Rattle.aug_words.specs.Seats.{AreTogether, Known, MayLoad, LoadsRecordWord, Store}
+use Rattle.aug_core.proofs.Books.{plain_word}
 
 -- a seat that stayed in its part
 pub placed_on : (t : TableId) (b : ℕ) (v w : SeatView) → IsPlaced t b v → w.shape ≡ v.shape → w.base ≡ v.base → IsPlaced t b w
@@ -29,11 +35,15 @@ placed_on t b v w p shape base = record {
   starts = base ∙ p.starts ∙ ap (λ (z : Shape). p.part * word_count z) (sym shape);
 }
 
--- a seat that belongs to a table sits there
+-- a seat that belongs to a table has its shape
+pub one_shape : (k now : Known) (store words : Store) → k ≡ now → store ≡ words → AreTogether words now → store.shape ≡ k.view.shape
+one_shape k now store words is stored together = ap (λ (s : Store). s.shape) stored ∙ sym together.one_shape ∙ sym (ap (λ (z : Known). z.view.shape) is)
+
+-- and sits there
 pub sits_at : (k now : Known) (store words : Store) (base lanes records : ℕ) → k ≡ now → store ≡ words → AreTogether words now → IsPlaced k.table base k.view → lanes ≡ lane_place store.shape 0 → records ≡ record_start store.shape 0
     → SitsAt k.table store.table base (base + lanes) (base + records) k.view
 sits_at k now store words base lanes records is stored together placed l r =
-    let shape : store.shape ≡ k.view.shape = ap (λ (s : Store). s.shape) stored ∙ sym together.one_shape ∙ sym (ap (λ (z : Known). z.view.shape) is) in
+    let shape = one_shape k now store words is stored together in
     let seated : k.table ≡ store.table = ap (λ (z : Known). z.table) is ∙ together.one_table ∙ sym (ap (λ (s : Store). s.table) stored) in
     record {
       seated = seated;
@@ -42,8 +52,12 @@ sits_at k now store words base lanes records is stored together placed l r =
       records_are = λ i. placed.base_is i + (r ∙ ap (λ (s : Shape). record_start s 0) shape) i;
     }
 
+-- in a round a record is named by its number
+pub plainly : (v : SeatView) → v.shape.reservations ≡ 0 → (number : ℕ) → number ≡ word_by v number
+plainly v off number = sym (plain_word v.shape (birth_of v) number off)
+
 -- a record that a view guards is one of the table, and so is one that it may store
-pub guarded_inside : (face : ℕ → ℕ → List (ℕ × ℕ) → List ℕ) (v : SeatView) (number : ℕ) → KnowsTable face v → GuardsRecord v number → number < record_count v.shape
+pub guarded_inside : (face : ℕ → ℕ → List (ℕ × ℕ) → List ℕ) (v : SeatView) (number : ℕ) → KnowsBook face v → GuardsRecord v number → number < record_count v.shape
 guarded_inside face v number knows g = subst (λ (z : ℕ). z < record_count v.shape) g.numbered (knows.book.below g.place g.index g.entry g.guards.inner g.guards.at)
 
 pub stores_inside : (v : SeatView) (number : ℕ) → MayStore v number → number < record_count v.shape
@@ -74,7 +88,7 @@ module _ (face : ℕ → ℕ → List (ℕ × ℕ) → List ℕ) (a a' t : Table
       exists = subst (λ (z : Shape). lane < z.workers) (sym same) seat.exists;
       follows = ap (λ (z : SeatView). z.spare) is ∙ seat.follows;
       lends = subst (λ (z : SeatView). LendsHere lent z.base z.lent) (sym is) seat.lends;
-      knows = knows_shown face me.0 me'.0 seat.knows sees same (ap (λ (z : SeatView). z.members) is);
+      knows = book_shown face me.0 me'.0 seat.knows sees same (ap (λ (z : SeatView). z.members) is);
     };
   }
 
@@ -97,15 +111,16 @@ module _ (face : ℕ → ℕ → List (ℕ × ℕ) → List ℕ) (a a' t : Table
       (ap (on_first (with_changes made)) seat.only) seat.named seat.taken empty (did.hit hit).0.changed did.sees)
       (λ miss. watched me.0.began (me.0.steps ++ taken ∷ []) empty (did.miss miss).0 did.sees) (cases_eq found (old_word a))
 
-  pub pass_tried_node : (q old number found : ℕ) → me'.1 ≡ [] → TriesNode face me.0 q old number found me'.0 → HasPassSeat face a' t b l r lane lent me'
-  pass_tried_node q old number found empty did = let seat = is_pass.seat in let taken : StepTaken = try_node q old number found in ⊎_elim
+  pub pass_tried_node : (q old number new found : ℕ) → me'.1 ≡ [] → TriesNode face me.0 q old number new found me'.0 → HasPassSeat face a' t b l r lane lent me'
+  pass_tried_node q old number new found empty did = let seat = is_pass.seat in let taken : StepTaken = try_node q old new found in ⊎_elim
       (λ (hit : found ≡ old). let mark = last_replaced me'.0.seen q in shown (publishing_from number mark seat.held) (on_first (publishing_from number mark) me.0.held) me'.0.seen me.0.began (me.0.steps ++ taken ∷ [])
       (ap (on_first (publishing_from number mark)) seat.only) seat.named seat.taken empty (did.hit hit).0 did.sees)
       (λ miss. watched me.0.began (me.0.steps ++ taken ∷ []) empty (did.miss miss).0 did.sees) (cases_eq found old)
 
   -- a pass that was shown nothing of the book
-  kept : (h : Held) (held : List Held) (steps : List StepTaken) → held ≡ h ∷ [] → h.lane ≡ lane → h.state ≡ Taken → me'.1 ≡ [] → me'.0 ≡ record me.0 { held = held; steps = steps } → HasPassSeat face a' t b l r lane lent me'
-  kept h held steps only named taken empty is = let seat = is_pass.seat in record {
+  kept : (h : Held) (held : List Held) (reserved : Option Reserved) (reached : ℕ) (steps : List StepTaken) → held ≡ h ∷ [] → h.lane ≡ lane → h.state ≡ Taken → me'.1 ≡ [] → me'.0 ≡ record me.0 { held = held; reserved = reserved; reached = reached; steps = steps }
+      → HasPassSeat face a' t b l r lane lent me'
+  kept h held reserved reached steps only named taken empty is = let seat = is_pass.seat in record {
     sits = sits_on a a' t b l r me.0 me'.0 is_pass.sits one (ap (λ (z : SeatView). z.shape) is) (ap (λ (z : SeatView). z.base) is);
     seat = subst (IsPassSeat face lane lent) (λ i. (sym is i, sym empty i)) record {
       live = seat.live;
@@ -117,21 +132,47 @@ module _ (face : ℕ → ℕ → List (ℕ × ℕ) → List ℕ) (a a' t : Table
       exists = seat.exists;
       follows = seat.follows;
       lends = seat.lends;
-      knows = knows_same face me.0 me.0.live me.0.also held me.0.spare me.0.began steps seat.knows;
+      knows = book_as face me.0 refl refl refl seat.knows;
     };
   }
 
   pub pass_loaded : (place word : ℕ) → (me'.1 ≡ []) × ReadsRecord me.0 place word me'.0 → HasPassSeat face a' t b l r lane lent me'
-  pass_loaded place word did = let seat = is_pass.seat in kept seat.held me.0.held (me.0.steps ++ load_record_word place word ∷ []) seat.only seat.named seat.taken did.0 did.1.stepped
+  pass_loaded place word did = let seat = is_pass.seat in kept seat.held me.0.held me.0.reserved me.0.reached (me.0.steps ++ load_record_word place word ∷ []) seat.only seat.named seat.taken did.0 did.1.stepped
 
   pub pass_stored : (place value : ℕ) → (me'.1 ≡ []) × (me'.0 ≡ storing me.0 place value) → HasPassSeat face a' t b l r lane lent me'
   pass_stored place value did = let seat = is_pass.seat in
-      kept (storing_in me.0.shape place value seat.held) (on_first (storing_in me.0.shape place value) me.0.held) (me.0.steps ++ store_record_word place value ∷ []) (ap (on_first (storing_in me.0.shape place value)) seat.only) seat.named seat.taken did.0 did.1
+      kept (storing_in me.0.shape place value seat.held) (on_first (storing_in me.0.shape place value) me.0.held) me.0.reserved me.0.reached (me.0.steps ++ store_record_word place value ∷ []) (ap (on_first (storing_in me.0.shape place value)) seat.only) seat.named seat.taken did.0 did.1
+
+  -- ---- at a table that uses records again
+
+  pub pass_reached : (era : ℕ) (taken : StepTaken) → me'.1 ≡ [] → me'.0 ≡ reaching me.0 era taken → HasPassSeat face a' t b l r lane lent me'
+  pass_reached era taken empty is = let seat = is_pass.seat in kept seat.held me.0.held me.0.reserved era (me.0.steps ++ taken ∷ []) seat.only seat.named seat.taken empty is
+
+  pub pass_reserved : (place era : ℕ) → (me'.1 ≡ []) × Reserves me.0 place era me'.0 → HasPassSeat face a' t b l r lane lent me'
+  pass_reserved place era did = let seat = is_pass.seat in kept seat.held me.0.held (Some did.1.now) me.0.reached (me.0.steps ++ store_reservation place era ∷ []) seat.only seat.named seat.taken did.0 did.1.stepped
+
+  pub pass_released : (place : ℕ) → (me'.1 ≡ []) × (me'.0 ≡ releasing me.0 place) → HasPassSeat face a' t b l r lane lent me'
+  pass_released place did = let seat = is_pass.seat in kept seat.held me.0.held None me.0.reached (me.0.steps ++ store_reservation place 0 ∷ []) seat.only seat.named seat.taken did.0 did.1
+
+  pub pass_retired : (era : ℕ) (taken : StepTaken) → me'.1 ≡ [] → me'.0 ≡ retiring me.0 era taken → HasPassSeat face a' t b l r lane lent me'
+  pass_retired era taken empty is = let seat = is_pass.seat in
+      kept (retiring_in era seat.held) (on_first (retiring_in era) me.0.held) me.0.reserved era (me.0.steps ++ taken ∷ []) (ap (on_first (retiring_in era)) seat.only) seat.named seat.taken empty is
+
+  pub pass_scanned : (slot era : ℕ) (taken : StepTaken) → me'.1 ≡ [] → me'.0 ≡ scanning me.0 slot era taken → HasPassSeat face a' t b l r lane lent me'
+  pass_scanned slot era taken empty is = let seat = is_pass.seat in
+      kept (scanning_in slot era seat.held) (on_first (scanning_in slot era) me.0.held) me.0.reserved me.0.reached (me.0.steps ++ taken ∷ []) (ap (on_first (scanning_in slot era)) seat.only) seat.named seat.taken empty is
 
 module _ (face : ℕ → ℕ → List (ℕ × ℕ) → List ℕ) (lane lent : ℕ) (me : Sat) (seat : IsPassSeat face lane lent me) where
   -- a pass's lane is taken
   pub has_taken : HasTakenLane me.0
   has_taken = record { lane = seat.held; only = seat.only; taken = seat.taken }
+
+  pub own_lane_is : lane ≡ own_lane me.0.held
+  own_lane_is = sym seat.named ∙ ap own_lane (sym seat.only)
+
+  -- and has a reservation, where each lane has one
+  pub has_reservation : HasReservations me.0 → MayReserve me.0
+  has_reservation slots = record { lane = seat.held; only = seat.only; has_slot = subst (λ (z : ℕ). z < me.0.shape.reservations) (sym seat.named) (let low = seat.exists in omega arith) }
 
   -- so that it is at work
   pub works_on : IsAtWork me.0

@@ -1,5 +1,6 @@
 -- The lead of a table that was opened again, over plain values.
 use Rattle.std.proofs.Common.{◌≡◌, ℕ, ◌+◌, ◌*◌, ◌^◌, ◌≤◌, ◌⊎◌, ⊎_elim, inl, inr, List, [], length, get_or, refl, sym, ap, ◌∙◌, subst}
+use Rattle.aug_core.proofs.Fits.{round_table}
 use Rattle.atomic_table.specs.Seated.{TableId}
 use Rattle.aug_core.specs.Addresses.{root_place}
 use Rattle.aug_core.specs.Cuts.{pairs_of_cut}
@@ -31,7 +32,7 @@ module _ {f : ℕ → ℕ → List (ℕ × ℕ) → List ℕ} {a : TableId} {bas
   lead = aims.lead
 
   known : KnowsTable f me.0
-  known = lead.1.knows
+  known = round_table f me.0 aims.keeps lead.1.knows
 
   names : NamesRoot me.0 root
   names = lead.1.names_root

@@ -6,7 +6,7 @@ use Rattle.aug_core.specs.Places.{Shape, record_start}
 use Rattle.aug_core.specs.Addresses.{root_place}
 use Rattle.aug_core.specs.Book.{IsNewest}
 use Rattle.aug_core.specs.Kinds.{load_record_word}
-use Rattle.aug_core.specs.Effects.{stepping, GuardsRecord, MayStore, Says, SaysOwn, IsAdvance, KnowsSerial, old_word, new_word, TriesLeaf, TriesNode}
+use Rattle.aug_core.specs.Effects.{stepping, GuardsRecord, MayStore, word_by, Says, SaysOwn, IsAdvance, KnowsSerial, old_word, new_word, TriesLeaf, IsFilled, TriesNode}
 use Rattle.aug_core.specs.declared.view.Advance.{Advance}
 use Rattle.aug_core.specs.declared.view.Entry.{Entry}
 use Rattle.aug_core.specs.declared.view.SeatView.{SeatView}
@@ -59,12 +59,12 @@ pub record MayAdvance (v : SeatView) (key old new : ℕ) : Type 0 where
   pub to : new ≡ new_word advance
   pub known : KnowsSerial v key advance
 
--- the number is that of the newest record of the root that the view has seen
+-- the word names the newest record of the root that the view has seen
 pub record NamesRoot (v : SeatView) (number : ℕ) : Type 0 where
   pub index : ℕ
   pub entry : Entry
   pub newest : IsNewest v.seen (root_place v.shape) index entry
-  pub named : number ≡ entry.number
+  pub named : number ≡ entry.word
 
 module _ (face : ℕ → ℕ → List (ℕ × ℕ) → List ℕ) where
   -- the answer says whether the leaf's word was the old one
@@ -73,8 +73,15 @@ module _ (face : ℕ → ℕ → List (ℕ × ℕ) → List ℕ) where
     pub decided : IsTrue done ↔ (found ≡ old)
     pub told : (a : Advance) → IsAdvance a → KnowsSerial v key a → old ≡ old_word a → new ≡ new_word a → TriesLeaf face v key a found w
 
-  -- the answer says whether the node's word was the old number
-  pub record TriedNode (v : SeatView) (q old number : ℕ) (done : Bool) (w : SeatView) : Type 0 where
+  -- the word names a record of the view's own, which was filled from what was loaded of the node and of its children
+  pub record NamesOwn (v : SeatView) (q old new : ℕ) : Type 0 where
+    pub number : ℕ
+    pub named : new ≡ word_by v number
+    pub own : MayStore v number
+    pub filled : IsFilled face v q old number
+
+  -- the answer says whether the node's word was the old one
+  pub record TriedNode (v : SeatView) (q old new : ℕ) (done : Bool) (w : SeatView) : Type 0 where
     pub found : ℕ
     pub decided : IsTrue done ↔ (found ≡ old)
-    pub told : TriesNode face v q old number found w
+    pub told : (number : ℕ) → new ≡ word_by v number → TriesNode face v q old number new found w

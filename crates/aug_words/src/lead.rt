@@ -4,7 +4,7 @@ ghost use Rattle.aug_core.specs.Faces.{face};
 ghost use Rattle.aug_core.specs.Addresses.{root_place};
 ghost use Rattle.aug_core.specs.Places.{lane_place, word_count};
 ghost use Rattle.aug_core.specs.Fields.{field_offset};
-ghost use Rattle.aug_core.specs.Effects.{GuardsRecord, KnowsTable, taking, finishing, own_lane_place};
+ghost use Rattle.aug_core.specs.Effects.{GuardsRecord, KnowsBook, KnowsTable, taking, finishing, own_lane_place};
 ghost use Rattle.aug_core.specs.Renewals.{Surveys};
 ghost use Rattle.aug_core.specs.inside.LaneStates.{MayTake, HasTakenLane};
 ghost use Rattle.aug_words.specs.Leads.{HandsLaneOut, MayOpen, Prepares, TakesLaneBack, TakesReader};
@@ -96,7 +96,7 @@ impl<A: Monoid, B: Monoid> Lead<A, B> {
     /// How many lanes were handed out.
     pub fn handed(&self) -> u32
         ensures value { self.now.view.spare ≡ Some result }
-        ensures knows { KnowsTable (face A.parts B.parts) self.now.view }
+        ensures knows { KnowsBook (face A.parts B.parts) self.now.view }
     {
         self.next
     }
@@ -105,7 +105,7 @@ impl<A: Monoid, B: Monoid> Lead<A, B> {
     /// that it knows.
     pub fn root(&self) -> u64
         ensures value { NamesRoot self.now.view result }
-        ensures knows { KnowsTable (face A.parts B.parts) self.now.view }
+        ensures knows { self.now.view.shape.reservations ≡ 0 → KnowsTable (face A.parts B.parts) self.now.view }
     {
         self.root
     }
@@ -147,6 +147,7 @@ impl<A: Monoid, B: Monoid> Lead<A, B> {
     pub fn prepare(&mut self, words: &Words<A, B>, nodes: u32) -> bool
         requires together { AreTogether words.now self.old }
         requires room { 2 ^ self.old.view.shape.bits ≤ self.old.view.shape.members }
+        requires keeps { self.old.view.shape.reservations ≡ 0 }
         ensures { StaysAt self.old self.new (Prepares (face A.parts B.parts) self.old.view self.new.view) }
     {
         self.survey(words);

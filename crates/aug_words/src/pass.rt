@@ -4,10 +4,10 @@ ghost use Rattle.aug_core.specs.Places.{record_start, record_words};
 ghost use Rattle.aug_core.specs.Faces.{face};
 ghost use Rattle.aug_core.specs.Addresses.{IsInner};
 ghost use Rattle.aug_core.specs.Fields.{field_offset};
-ghost use Rattle.aug_core.specs.Effects.{HoldsOnly, MayStore, MayChange, KnowsTable, LoadsLeaf, BeginsAtLeaf, LoadsNode, IsFilled, storing};
+ghost use Rattle.aug_core.specs.Effects.{HoldsOnly, MayStore, MayChange, KnowsBook, LoadsLeaf, BeginsAtLeaf, LoadsNode, storing};
 ghost use Rattle.aug_core.specs.declared.view.Held.{Held};
 ghost use Rattle.aug_core.specs.declared.view.LaneState.TheVariants.{Taken};
-ghost use Rattle.aug_words.specs.Seats.{Known, MayLoad, LoadsRecordWord, MayAdvance, StaysAt, TriedLeaf, TriedNode};
+ghost use Rattle.aug_words.specs.Seats.{Known, MayLoad, LoadsRecordWord, MayAdvance, NamesOwn, StaysAt, TriedLeaf, TriedNode};
 
 use atomic_table::Seat;
 use aug_core::{
@@ -57,7 +57,7 @@ impl<'r, A: Monoid, B: Monoid> WordPass<'r, A, B> {
     pub fn lane(&self) -> u32
         ensures value { (held : Held) → HoldsOnly self.now.view held → held.lane ≡ result }
         ensures taken { (held : Held) → HoldsOnly self.now.view held → held.state ≡ Taken }
-        ensures knows { KnowsTable (face A.parts B.parts) self.now.view }
+        ensures knows { KnowsBook (face A.parts B.parts) self.now.view }
     {
         self.lane
     }
@@ -95,7 +95,7 @@ impl<'r, A: Monoid, B: Monoid> WordPass<'r, A, B> {
         found == old
     }
 
-    /// Loads a node's word, the number of its newest record. `node` is the word's place, as `Layout::node` gives it.
+    /// Loads a node's word, which names its newest record. `node` is the word's place, as `Layout::node` gives it.
     pub fn load_node(&mut self, node: usize) -> u64
         requires { IsInner self.old.view.shape node }
         ensures { StaysAt self.old self.new (LoadsNode (face A.parts B.parts) self.old.view node result self.new.view) }
@@ -104,18 +104,17 @@ impl<'r, A: Monoid, B: Monoid> WordPass<'r, A, B> {
             .load::<LoadAnyNode<A, B>>(&mut self.seat, self.base + node)
     }
 
-    /// Replaces a node's record by one of the pass's own, if the node still has the record that is given. True if it did: then
-    /// the pass's record is published.
-    pub fn try_node(&mut self, node: usize, from: u64, number: u64) -> bool
+    /// Replaces a node's word by one that names a record of the pass's own, if the node still has the word that is given. True if it did: then
+    /// the pass's record is published. In a round the word is the record's number, and otherwise it has the era that the pass reserved above that.
+    pub fn try_node(&mut self, node: usize, from: u64, to: u64) -> bool
         requires inner { IsInner self.old.view.shape node }
-        requires own { MayStore self.old.view number }
-        requires filled { IsFilled (face A.parts B.parts) self.old.view node from number }
-        ensures { StaysAt self.old self.new (TriedNode (face A.parts B.parts) self.old.view node from number result self.new.view) }
+        requires own { NamesOwn (face A.parts B.parts) self.old.view node from to }
+        ensures { StaysAt self.old self.new (TriedNode (face A.parts B.parts) self.old.view node from to result self.new.view) }
     {
         let place = self.base + node;
         let found = self
             .words
-            .compare_exchange::<TryAnyNode<A, B>>(&mut self.seat, place, from, number);
+            .compare_exchange::<TryAnyNode<A, B>>(&mut self.seat, place, from, to);
         found == from
     }
 

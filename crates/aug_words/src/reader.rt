@@ -56,6 +56,7 @@ impl<'r, A: Monoid, B: Monoid> WordPass<'r, A, B> {
     /// Lends a reader, which has seen what the pass has seen. As many may be out as the caller likes. To lend it and to take it back costs a load of the
     /// table's first word each, which tells nothing.
     pub fn lend(&mut self) -> WordReader<A, B>
+        requires keeps { self.old.view.shape.reservations ≡ 0 }
         ensures table { self.new.table ≡ self.old.table }
         ensures lends { self.new.view ≡ lending self.old.view }
         ensures reader_table { result.table ≡ self.old.table }

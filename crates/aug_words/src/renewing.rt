@@ -24,6 +24,7 @@ fn reopen<A: Monoid, B: Monoid>(
     requires table { seat.old.table_id ≡ words.now.table_id }
     requires some { base < words.now.table_id.words }
     requires laid_out { IsLayout seat.old.me.0.shape }
+    requires keeps { seat.old.me.0.shape.reservations ≡ 0 }
     requires live { seat.old.me.0.live ≡ true }
     requires no_slot { seat.old.me.1 ≡ [] }
     requires all { HoldsAll seat.old.me.0 }
@@ -42,6 +43,7 @@ impl<A: Monoid, B: Monoid> Words<A, B> {
     pub fn open_again(&self, lead: Lead<A, B>) -> Lead<A, B>
         requires together { AreTogether self.now lead }
         requires room { 2 ^ self.now.shape.bits ≤ self.now.shape.members }
+        requires keeps { self.now.shape.reservations ≡ 0 }
         requires all { HoldsAll lead.view }
         requires free { MayOpen lead }
         ensures together { AreTogether self.now result }

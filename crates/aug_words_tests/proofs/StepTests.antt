@@ -1,5 +1,5 @@
 -- What the test of two passes on one node needs: a table of 1 bit has the leaves 0 and 1, and the node 2 over them.
-use Rattle.std.proofs.Common.{inl, ◌≡◌, ◌≢◌, ℕ, Bool, true, false, ◌+◌, ◌-◌, ◌*◌, ◌/◌, ◌%◌, ◌^◌, ◌<◌, ◌≤◌, eqb, if◌then◌else◌, List, [], ◌∷◌, ◌++◌, get_or, refl, sym, ap, ◌∙◌, subst, arith}
+use Rattle.std.proofs.Common.{inl, ◌≡◌, ℕ, Bool, true, false, ◌+◌, ◌-◌, ◌*◌, ◌/◌, ◌%◌, ◌^◌, ◌<◌, ◌≤◌, eqb, if◌then◌else◌, List, [], ◌∷◌, ◌++◌, get_or, refl, sym, ap, ◌∙◌, subst, arith}
 use Rattle.aug_core.specs.Places.{Shape, shape_of, own_records}
 use Rattle.aug_core.specs.Addresses.{IsInner, left_of, right_of}
 use Rattle.aug_core.specs.Book.{IsSerial, IsBook, IsNewest}
@@ -45,8 +45,8 @@ module _ (face : ℕ → ℕ → List (ℕ × ℕ) → List ℕ) (v w : SeatView
   of_leaf = began.sees.book.serials key began.index began.entry inside began.newest.at
 
   -- the word has the lower bits of the newest serial, which is small
-  pub serial_is : (word / 2 ^ 32 ≡ began.index % 2 ^ 32) × (began.index ≤ 1 + v.shape.workers * (2 * v.shape.updates))
-  serial_is = let leaf = of_leaf in let found = began.found in let named = leaf.named in let fits = leaf.fits in let last = began.newest.last in let few = began.sees.fits.few key inside in (omega arith, omega arith)
+  pub serial_is : (word / 2 ^ 32 ≡ began.index % 2 ^ 32) × (v.shape.reservations ≡ 0 → began.index ≤ 1 + v.shape.workers * (2 * v.shape.updates))
+  serial_is = let leaf = of_leaf in let found = began.found in let named = leaf.named in let fits = leaf.fits in let last = began.newest.last in (omega arith, λ off. let few = (began.sees.fits off).few key inside in omega arith)
 
   -- a key that is not there may come in
   pub may_insert : (weight : ℕ) → word / 2 ^ 32 % 2 ≡ 0 → weight < 2 ^ 32 → MayAdvance w key word ((word / 2 ^ 32 + 1) * 2 ^ 32 + weight)
@@ -59,8 +59,8 @@ module _ (face : ℕ → ℕ → List (ℕ × ℕ) → List ℕ) (v w : SeatView
   }
 
   -- and one that is there may get another weight, in a table for one update
-  pub may_replace : (weight : ℕ) → word / 2 ^ 32 % 2 ≡ 1 → v.shape.workers * (2 * v.shape.updates) ≡ 2 → weight < 2 ^ 32 → MayAdvance w key word ((word / 2 ^ 32 + 2) * 2 ^ 32 + weight)
-  may_replace weight odd few fits = let leaf = of_leaf in let serial = serial_is.0 in let low = serial_is.1 in record {
+  pub may_replace : (weight : ℕ) → word / 2 ^ 32 % 2 ≡ 1 → v.shape.reservations ≡ 0 → v.shape.workers * (2 * v.shape.updates) ≡ 2 → weight < 2 ^ 32 → MayAdvance w key word ((word / 2 ^ 32 + 2) * 2 ^ 32 + weight)
+  may_replace weight odd off few fits = let leaf = of_leaf in let serial = serial_is.0 in let low = serial_is.1 off in record {
     advance = record { serial = began.index; weight = began.entry.weight; replaces = true; new_weight = weight };
     is_advance = record { fits = leaf.fits; new_fits = fits; from_there = λ _. (let is : began.index % 2 ≡ 1 = omega arith in is); weighs_nothing = λ e. absurd (true≢false e) };
     from = began.found ∙ leaf.named;
@@ -102,7 +102,7 @@ module _ (face : ℕ → ℕ → List (ℕ × ℕ) → List ℕ) (v v1 v2 v3 : S
   book3 = subst (λ (z : Shape). IsBook face z v3.seen) shape2 at_right.sees.book
 
   abbrev has_node : HasNewest v1.seen 2 from
-  has_node = record { index = node.index; entry = node.entry; newest = node.newest; named = node.sees.book.named 2 node.index node.entry (node_inner v.shape one) node.newest.at ∙ sym node.found; shown = node.shown }
+  has_node = record { index = node.index; entry = node.entry; newest = node.newest; named = sym node.found; shown = node.shown }
 
   -- five words over the two leaves may be published
   module _ (five : List ℕ) (are : five ≡ face left right (there 0 left ++ there 1 right)) (first : get_or five 0 0 ≡ left) (second : get_or five 1 0 ≡ right) where

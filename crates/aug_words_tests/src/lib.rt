@@ -6,6 +6,8 @@ mod assertions;
 #[cfg(test)]
 mod opening;
 #[cfg(test)]
+mod reclaiming;
+#[cfg(test)]
 mod replacing;
 #[cfg(test)]
 mod requests;

@@ -79,6 +79,7 @@ fn refill<A: Monoid, B: Monoid>(pass: &mut WordPass<'_, A, B>, number: u64) -> u
 // An exchange of the node's word to the own record, which was filled for it.
 fn publish<A: Monoid, B: Monoid>(pass: &mut WordPass<'_, A, B>, from: u64, number: u64) -> bool
     requires bits { pass.old.view.shape.bits ≡ 1 }
+    requires round { pass.old.view.shape.reservations ≡ 0 }
     requires own { MayStore pass.old.view number }
     requires filled { IsFilled (face A.parts B.parts) pass.old.view 2 from number }
     ensures same { (pass.new.table ≡ pass.old.table) × (pass.new.view.shape ≡ pass.old.view.shape) }

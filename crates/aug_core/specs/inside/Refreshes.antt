@@ -2,7 +2,7 @@
 use Rattle.std.specs.Prelude.{◌≡◌, ◌≢◌, ℕ, zero, suc, ◌+◌, ◌≤◌, Bool, false, IsTrue, List, ◌++◌, length, slice_index}
 use Rattle.aug_core.specs.Places.{Shape, record_start}
 use Rattle.aug_core.specs.Addresses.{left_of, right_of}
-use Rattle.aug_core.specs.Book.{Book, history_of, At, IsNewest, IsLoaded}
+use Rattle.aug_core.specs.Book.{Book, history_of, At, IsNewest, IsLastNamed, IsLoaded}
 use Rattle.aug_core.specs.Effects.{storing}
 use Rattle.aug_core.specs.declared.view.Entry.{Entry}
 use Rattle.aug_core.specs.declared.view.SeatView.{SeatView}
@@ -42,7 +42,7 @@ abbrev pub stored : SeatView → ℕ → List ℕ → ℕ → SeatView
 stored v number words zero = v
 stored v number words (suc k) = storing (stored v number words k) (record_start (stored v number words k).shape number + k) (slice_index words k)
 
--- the node's newest entry stands over children of these words, if it was published; otherwise it is another entry than the one that was loaded
+-- the node's newest entry stands over the last entries of its children with these words, if it was published; otherwise it is another entry than the one that was loaded
 pub record Published (s : Shape) (q old left_word right_word : ℕ) (done : Bool) (book : Book) : Type 0 where
   pub index : ℕ
   pub entry : Entry
@@ -53,7 +53,8 @@ pub record Published (s : Shape) (q old left_word right_word : ℕ) (done : Bool
   pub right_at : At book (right_of s q) entry.right right_child
   pub left_is : IsTrue done → left_child.word ≡ left_word
   pub right_is : IsTrue done → right_child.word ≡ right_word
-  pub missed : done ≡ false → old ≢ entry.number
+  pub last : IsTrue done → IsLastNamed book (left_of s q) entry.left left_child × IsLastNamed book (right_of s q) entry.right right_child
+  pub missed : done ≡ false → old ≢ entry.word
 
 -- a try that succeeded made the node cover what was seen before it, and after one that did not the node has an entry more
 pub record Refreshed (s : Shape) (seen : Book) (q : ℕ) (done : Bool) (book : Book) : Type 0 where

@@ -14,9 +14,9 @@ use Rattle.aug_trie.specs.Knowledge.{Knowledge, IsKnowledge}
 abbrev pub root_history : Shape → Book → List Cut
 root_history s book = map (root_cut s book) (range_with_len 0 (length (history_of book (root_place s))))
 
--- the numbers of the root's records, one for each of these cuts
+-- what names the root's records, one for each of these cuts: in a round their numbers
 abbrev pub root_numbers : Shape → Book → List ℕ
-root_numbers s book = map (λ entry. entry.number) (history_of book (root_place s))
+root_numbers s book = map (λ entry. entry.word) (history_of book (root_place s))
 
 -- what a view knows
 abbrev pub knows : SeatView → Knowledge

@@ -22,9 +22,9 @@ cut_named s book held = slice_index_or (root_history s book) (index_in (root_num
 abbrev pub HasNamed : Shape → Book → Snapshot → Type 0
 HasNamed s book held = index_in (root_numbers s book) held < length (root_numbers s book)
 
--- the number is that of an entry of the root
+-- the number names an entry of the root
 pub record IsSnapshotOf (s : Shape) (book : Book) (number : ℕ) : Type 0 where
   pub index : ℕ
   pub entry : Entry
   pub at : At book (root_place s) index entry
-  pub numbered : number ≡ entry.number
+  pub named : number ≡ entry.word

@@ -93,6 +93,7 @@ impl<'r, A: Monoid, B: Monoid> SnapshotWalk<CrewWords<'r, A, B>, A, B> {
     ) -> SnapshotWalk<CrewWords<'r, A, B>, A, B>
         requires together { AreTogether words.now lead }
         requires bits { bits ≡ lead.view.shape.bits }
+        requires knows { KnowsTable (face A.parts B.parts) lead.view }
         ensures words { result.words ≡ lead }
         ensures newest { NamesRoot lead.view result.snapshot.number }
         ensures knows { KnowsTable (face A.parts B.parts) lead.view }

@@ -69,6 +69,7 @@ impl<A: Monoid, B: Monoid> Ended<A, B> {
     pub(crate) fn at_rest(words: Words<A, B>, lead: Lead<A, B>, bits: u32) -> Self
         requires together { AreTogether words lead }
         requires bits { bits ≡ lead.view.shape.bits }
+        requires keeps { lead.view.shape.reservations ≡ 0 }
         ensures bits { result.bits ≡ bits }
         ensures members { result.members ≡ pairs_of_cut (last_cut (knows lead.view).history) }
         ensures no_inserts { result.inserts ≡ 0 }

@@ -183,6 +183,7 @@ impl<A: Monoid, B: Monoid> Round<A, B> {
         requires keys { IsKeySet layout.bits (keys_of members.now) }
         requires fit { All FitsPair members.now }
         requires few { length members.now ≤ layout.members }
+        requires keeps { layout.reservations ≡ 0 }
         requires parts { 2 ≤ parts }
         ensures { IfOk result (λ t. BeginsIn layout.members members.now layout.bits layout.workers layout.updates t.0 t.1) }
     {

@@ -4,7 +4,7 @@ use Rattle.atomic_table.specs.Seated.{TableId}
 use Rattle.aug_core.specs.Places.{Shape, lane_place, record_start, word_count}
 use Rattle.aug_core.specs.Layout.{IsLayout}
 use Rattle.aug_core.specs.Book.{At}
-use Rattle.aug_core.specs.Effects.{Sat, HoldsOnly, KnowsTable}
+use Rattle.aug_core.specs.Effects.{Sat, HoldsOnly, KnowsBook, KnowsTable}
 use Rattle.aug_core.specs.Readers.{times_in}
 use Rattle.aug_core.specs.Records.{Lists}
 use Rattle.aug_core.specs.declared.opening.TableKey.{TableKey}
@@ -82,7 +82,7 @@ module _ (face : ℕ → ℕ → List (ℕ × ℕ) → List ℕ) where
     pub named : held.lane ≡ lane
     pub taken : held.state ≡ Taken
     pub exists : lane < me.0.shape.workers
-    pub knows : KnowsTable face me.0
+    pub knows : KnowsBook face me.0
     pub follows : me.0.spare ≡ None
     pub lends : LendsHere lent me.0.base me.0.lent
 
@@ -111,7 +111,7 @@ module _ (face : ℕ → ℕ → List (ℕ × ℕ) → List ℕ) where
     pub live : me.0.live ≡ true
     pub no_slot : me.1 ≡ []
     pub hands_out : me.0.spare ≡ Some next
-    pub knows : KnowsTable face me.0
+    pub knows : KnowsBook face me.0
     pub names_root : NamesRoot me.0 root
 
   -- what holds for a lead: it works in a part of its table, has all words beside that, has noted what is laid out of the part that begins at `other`, and

@@ -1,7 +1,7 @@
-use Rattle.std.proofs.Common.{rules, ◌≡◌, ℕ, ◌+◌, ◌-◌, ◌<◌, inr, List, ◌++◌, length, min, take, drop, map, w64, to_z, pos, ap, refl, sym, ◌∙◌, subst, arith}
+use Rattle.std.proofs.Common.{rules, ◌≡◌, ℕ, ◌+◌, ◌-◌, ◌<◌, inr, List, ◌++◌, length, min, take, drop, map, w64, to_z, pos, ap, sym, ◌∙◌, subst, arith}
 use Rattle.aug_model.specs.Keys.{SetFacts}
 use Rattle.aug_live.specs.LiveHandles.{set_of_look}
-use Rattle.aug_c.proofs.Listing.{Written, none_written, page_written, more_left, all_listed, listed_keys, listed_weights, full_keys, full_weights, less_room, at_none, at_some}
+use Rattle.aug_c.proofs.Listing.{Written, page_written, more_left, all_listed, listed_keys, listed_weights, at_none, at_some}
 use Rattle.aug_c.proofs.array_listing.list.Goals as goal
 
 -- what a page was written as
@@ -45,19 +45,3 @@ loop-listed-preserved g c =
       written = subst (λ (n : ℕ). Written members c.args.look.now c.args.key c.args.keys.now c.args.weights.now (p.listed + n) c.page-page.new.look c.write_members.new.out c.write_members-in-loop-listed.new.out) (sym c.len-listed.ensures.value) done;
       rest = more_left members c.args.look.now c.args.key c.args.keys.now c.args.weights.now p.listed p.from c.in-Some.next c.len-listed.result p.look p.keys p.weights inv.written inv.rest (c.len-listed.ensures.value ∙ full) more;
     }
-
-pub returns-clause-keys : goal.returns-clause-keys
-returns-clause-keys g c = let p = c.loop-listed in let code : to_z w64 (length p.keys) ≡ pos (length p.keys) = search rules in
-    full_keys (λ (s : SetFacts) (k : ℕ). g.O.Order.members s k) c.args.look.now c.args.key c.args.keys.now c.args.weights.now p.listed p.look p.keys p.weights (to_z w64 (length p.keys)) p.invariant.written p.auto.keys c.loop-listed-test.false code
-
-pub returns-clause-weights : goal.returns-clause-weights
-returns-clause-weights g c = let p = c.loop-listed in
-    full_weights (λ (s : SetFacts) (k : ℕ). g.O.Order.members s k) c.args.look.now c.args.key c.args.keys.now c.args.weights.now p.listed p.look p.keys p.weights p.invariant.written p.auto.keys c.loop-listed-test.false c.requires
-
-pub loop-listed-init : goal.loop-listed-init
-loop-listed-init g c = record { written = none_written (λ (s : SetFacts) (k : ℕ). g.O.Order.members s k) c.args.look.now c.args.key c.args.keys.now c.args.weights.now; rest = refl }
-
-pub loop-listed-smaller : goal.loop-listed-smaller
-loop-listed-smaller g c =
-    let full = at_some c.page-page.result.1 c.in-Some.next (λ (n : ℕ). length c.page-page.result.0.items ≡ 32) c.in-Some.is c.page-page.ensures.full in
-    less_room (length c.loop-listed.keys) (length c.write_members.new.out) c.loop-listed.listed c.len-listed.result c.write_members.auto.out c.loop-listed-test.true (c.len-listed.ensures.value ∙ full)

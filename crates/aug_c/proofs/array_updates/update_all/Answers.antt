@@ -1,11 +1,7 @@
 use Rattle.std.proofs.Common.{◌∙◌, ap, refl}
 use Rattle.aug_c.specs.Handles.{state_in}
 use Rattle.aug_c.proofs.Calls.{same_code, update_call}
-use Rattle.aug_c.proofs.Owning.{owned}
 use Rattle.aug_c.proofs.array_updates.update_all.Goals as goal
-
-pub invariant_of-held : goal.invariant_of-held
-invariant_of-held c = owned c.held.inside.access c.update_all_by_access.new.access c.held.inside.look c.update_all_by_access.ensures.lane c.held.invariant
 
 pub returns-in-User : goal.returns-in-User
 returns-in-User c = let code = same_code c.update_all_by_access.result c.update_all_by_access.type_inv in

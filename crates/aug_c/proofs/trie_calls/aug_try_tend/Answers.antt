@@ -1,16 +1,8 @@
 use Rattle.std.proofs.Common.{rules, ◌∙◌, ap, refl}
 use Rattle.aug_c.specs.Handles.{state_in}
 use Rattle.aug_c.specs.TrieCalls.{TendsTrie}
-use Rattle.aug_c.proofs.Calls.{not_none}
-use Rattle.aug_c.proofs.Opening.{on_trie, other_trie}
+use Rattle.aug_c.proofs.Opening.{on_trie}
 use Rattle.aug_c.proofs.trie_calls.aug_try_tend.Goals as goal
 
 pub returns-in-Trie-clause-tends : goal.returns-in-Trie-clause-tends
 returns-in-Trie-clause-tends c = on_trie TendsTrie _ _ _ c.in-Trie.opened c.tend.new.trie _ c.tend.result (ap state_in c.as_slot.ensures.value ∙ c.in-Trie.is) refl (search rules) c.tend.ensures
-
-pub returns-in_default : goal.returns-in_default
-returns-in_default c = record {
-  tends = other_trie TendsTrie _ c.args.trie.now c.as_slot.result.now _ c.as_slot.ensures.value c.in_default.not-Trie refl tt;
-  tag = refl;
-  foreign = λ none. absurd (not_none c.args.trie.now.held.value (c.is_open.ensures.0 c.if-not-is_open.false) none);
-}

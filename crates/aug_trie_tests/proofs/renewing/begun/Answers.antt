@@ -10,7 +10,7 @@ own = refl
 
 -- a table of 4 bits with two lanes of two updates each can be laid out
 laid_out : IsLayout (shape_of 4 2 2 16)
-laid_out = record { bits = (omega arith, omega arith); workers = (omega arith, omega arith); updates = (omega arith, omega arith); words = omega (arith, own); keeps_records = refl }
+laid_out = record { bits = (omega arith, omega arith); workers = (omega arith, omega arith); updates = (omega arith, omega arith); words = omega (arith, own) }
 
 pub begin_for_all-requires-clause-laid_out : goal.begin_for_all-requires-clause-laid_out
 begin_for_all-requires-clause-laid_out c = let bits : c.in_ok-nothing.nothing.bits ≡ 4 = ap (λ (s : SetFacts). s.bits) c.in_ok-nothing.ensures.empty in subst (λ (z : ℕ). IsLayout (shape_of z 2 2 (2 ^ z))) (sym bits) laid_out

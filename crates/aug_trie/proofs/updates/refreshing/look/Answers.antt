@@ -29,8 +29,8 @@ pub returns-else-place-leaves-clause-took : goal.returns-else-place-leaves-claus
 returns-else-place-leaves-clause-took g c = let l = c.load_node.ensures.view in took_one c.args.pass.now.view c.load_node.new.self.view (load_node c.args.place c.load_node.result) refl (ap (λ (z : SeatView). z.steps) l.stepped)
 
 pub returns-else-place-leaves-clause-newest : goal.returns-else-place-leaves-clause-newest
-returns-else-place-leaves-clause-newest g c = let are = c.requires.over.leaves.are in let past = c.if-place-leaves.false in
-    node_loaded (face g.A.Monoid.parts g.B.Monoid.parts) c.args.pass.now.view c.load_node.new.self.view c.args.place c.load_node.result record { past_leaves = omega arith; inside = c.requires.place } c.load_node.ensures.view
+returns-else-place-leaves-clause-newest g c =
+    node_loaded (face g.A.Monoid.parts g.B.Monoid.parts) c.args.pass.now.view c.load_node.new.self.view c.args.place c.load_node.result c.load_node.ensures.view
 
 pub returns-then-place-leaves-clause-step : goal.returns-then-place-leaves-clause-step
 returns-then-place-leaves-clause-step g c = let l = c.load_leaf.ensures.view in record { table = c.load_leaf.ensures.table; view = quiet_seeing c.args.pass.now.view c.load_leaf.new.self.view _ l.stepped l.sees.later }

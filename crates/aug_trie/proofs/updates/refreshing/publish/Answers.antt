@@ -20,10 +20,9 @@ pub store_record_word-requires-5 : goal.store_record_word-requires-5
 store_record_word-requires-5 g c = let m = g.A.Monoid.parts in let n = g.B.Monoid.parts in may_store_on m n c.requires.room (stored_on m n _ _ c.store_record_word-4.ensures.view (stored_on m n _ _ c.store_record_word-3.ensures.view (stored_on m n _ _ c.store_record_word-2.ensures.view (stored_on m n _ _ c.store_record_word.ensures.view (goes_self (face m n) c.args.pass.now.view c.requires.knows)))))
 
 pub try_node-requires-clause-own : goal.try_node-requires-clause-own
-try_node-requires-clause-own g c = let m = g.A.Monoid.parts in let n = g.B.Monoid.parts in may_store_on m n c.requires.room (stored_on m n _ _ c.store_record_word-5.ensures.view (stored_on m n _ _ c.store_record_word-4.ensures.view (stored_on m n _ _ c.store_record_word-3.ensures.view (stored_on m n _ _ c.store_record_word-2.ensures.view (stored_on m n _ _ c.store_record_word.ensures.view (goes_self (face m n) c.args.pass.now.view c.requires.knows))))))
-
-pub try_node-requires-clause-filled : goal.try_node-requires-clause-filled
-try_node-requires-clause-filled g c = may_publish_filled g.A.Monoid.parts g.B.Monoid.parts c.args.five c.requires.room c.store_record_word.ensures.view c.store_record_word-2.ensures.view c.store_record_word-3.ensures.view c.store_record_word-4.ensures.view c.store_record_word-5.ensures.view c.requires.knows.laid_out.keeps_records c.requires.loaded
+try_node-requires-clause-own g c = let m = g.A.Monoid.parts in let n = g.B.Monoid.parts in
+    may_publish_filled m n c.args.five c.requires.room c.store_record_word.ensures.view c.store_record_word-2.ensures.view c.store_record_word-3.ensures.view c.store_record_word-4.ensures.view c.store_record_word-5.ensures.view
+    (stored_on m n _ _ c.store_record_word-5.ensures.view (stored_on m n _ _ c.store_record_word-4.ensures.view (stored_on m n _ _ c.store_record_word-3.ensures.view (stored_on m n _ _ c.store_record_word-2.ensures.view (stored_on m n _ _ c.store_record_word.ensures.view (goes_self (face m n) c.args.pass.now.view c.requires.knows)))))) c.requires.loaded
 
 pub returns : goal.returns
 returns g c = let m = g.A.Monoid.parts in let n = g.B.Monoid.parts in let made = publishes m n c.args.five c.requires.room c.store_record_word.ensures.view c.store_record_word-2.ensures.view c.store_record_word-3.ensures.view c.store_record_word-4.ensures.view c.store_record_word-5.ensures.view c.requires.inner

@@ -19,7 +19,7 @@ aims : (g : _) (c : After-aim g) → let i = c.self.inside in let d = c.aim.new 
     Aimed (face g.A.Monoid.parts g.B.Monoid.parts) i.seat.table_id i.base i.next i.root d.self.base d.self.shown.items d.parts i.seat.me c.args.words.now.shape i.parts.out.items
 aims g c = let i = c.self.inside in let d = c.aim.new in let e = c.aim.ensures in let one = c.requires.together.one_shape in
     aimed (face g.A.Monoid.parts g.B.Monoid.parts) i.seat.table_id i.base i.next i.root _ _ i.parts i.seat.me c.self.invariant c.args.words.now.shape
-    (ap (λ (k : Known). k.view.shape) c.self.view_is ∙ ap (λ (z : SeatView). z.shape) c.survey-size.ensures.view.loaded.stepped ∙ one) (subst (λ (z : Shape). 2 ^ z.bits ≤ z.members) one c.requires.room)
+    (ap (λ (k : Known). k.view.shape) c.self.view_is ∙ ap (λ (z : SeatView). z.shape) c.survey-size.ensures.view.loaded.stepped ∙ one) (subst (λ (z : Shape). 2 ^ z.bits ≤ z.members) one c.requires.room) (subst (λ (z : Shape). z.reservations ≡ 0) one c.requires.keeps)
     _ (c.words-size.ensures.value ∙ ap (λ (z : Store). word_count z.shape) c.words.view_is) d.parts d.self.base d.self.shown.items e.own e.out e.next e.same e.turned
 
 pub invariant_of-self : goal.invariant_of-self

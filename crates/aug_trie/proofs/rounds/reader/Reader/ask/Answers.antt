@@ -17,7 +17,7 @@ use Rattle.aug_trie.proofs.rounds.reader.Reader.ask.Goals as goal
 pub of_reader-walk-requires-clause-together : goal.of_reader-walk-requires-clause-together
 of_reader-walk-requires-clause-together g c = let i = c.self.inside in
     reader_together (face g.A.Monoid.parts g.B.Monoid.parts) c.round.inside.words i.words c.in-Some.words c.args.self.now c.args.round.now c.round.invariant.keeps_records
-    (reader_told (face g.A.Monoid.parts g.B.Monoid.parts) i.words c.in-Some.words i.bits c.args.self.now c.self.invariant (sym c.take.ensures.value ∙ c.in-Some.is) c.self.view_is).1.laid_out.keeps_records (sym c.take.ensures.value ∙ c.in-Some.is) c.self.view_is c.requires.together c.round.view_is
+    (reader_told (face g.A.Monoid.parts g.B.Monoid.parts) i.words c.in-Some.words i.bits c.args.self.now c.self.invariant (sym c.take.ensures.value ∙ c.in-Some.is) c.self.view_is).1.keeps_records (sym c.take.ensures.value ∙ c.in-Some.is) c.self.view_is c.requires.together c.round.view_is
 
 pub of_reader-walk-requires-clause-walk : goal.of_reader-walk-requires-clause-walk
 of_reader-walk-requires-clause-walk g c = let i = c.self.inside in

@@ -16,7 +16,7 @@ use Rattle.aug_trie.proofs.rounds.round.Round.over.Goals as goal
 pub invariant_of-crew : goal.invariant_of-crew
 invariant_of-crew g c = let f = face g.A.Monoid.parts g.B.Monoid.parts in let e = c.in_ok-words.ensures in let o : Opening = record { shape = c.args.layout; members = c.args.members.now } in
     let laid : IsLayout o.shape = search rules in let room = c.requires.few in let is = e.lead in
-    record { known = c.in_ok-words.lead; there = refl; holds = subst (λ (z : SeatView). HoldsCrew f z 0 0 0) (sym is) (begins_crew f o laid c.requires.keys c.requires.fit (omega arith) [] 0 0 [] [] _); opens = λ is. absurd (false≢true is) }
+    record { known = c.in_ok-words.lead; there = refl; holds = subst (λ (z : SeatView). HoldsCrew f z 0 0 0) (sym is) (begins_crew f o laid c.requires.keys c.requires.fit (omega arith) c.requires.keeps [] 0 0 [] [] _); opens = λ is. absurd (false≢true is) }
 
 pub returns : goal.returns
 returns g c = let f = face g.A.Monoid.parts g.B.Monoid.parts in let e = c.in_ok-words.ensures in let o : Opening = record { shape = c.args.layout; members = c.args.members.now } in

@@ -6,8 +6,8 @@ use mathlib.Core.Option.{some, some-injective, some-ne-none}
 use lib.ListN.{get_elem?}
 use Rattle.atomic_table.proofs.Lists.{at_last}
 use Rattle.aug_core.specs.Places.{Shape, record_count}
-use Rattle.aug_core.specs.Addresses.{place_count, IsInner, left_of, right_of}
-use Rattle.aug_core.specs.Book.{Book, history_of, At, IsNewest, ArePrefixes, GoesOnFromBoth, StandsOver, IsSerial, word_of_node, IsBook, NamesOnce, IsFresh}
+use Rattle.aug_core.specs.Addresses.{IsInner, left_of, right_of}
+use Rattle.aug_core.specs.Book.{Book, history_of, At, IsNewest, ArePrefixes, GoesOnFromBoth, StandsOver, IsSerial, word_of_node, IsBook, IsFresh}
 use Rattle.aug_core.specs.declared.view.Entry.{Entry}
 use Rattle.aug_core.proofs.PrefixLemmas.{either_prefix, prefix_long, entry_stays}
 

@@ -1,5 +1,5 @@
 -- No serial is past the updates of all workers, and what a step that shows the whole book tells.
-use Rattle.std.proofs.Common.{◌∙◌, Option, ◌≡◌, ℕ, suc, ◌*◌, ◌^◌, ◌<◌, ◌≤◌, Bool, true, false, if◌then◌else◌, List, [], ◌∷◌, length, get_or, All, sym, subst, arith, suc-mul, mul-le-mul_right, ap}
+use Rattle.std.proofs.Common.{◌∙◌, ◌≡◌, ℕ, suc, ◌*◌, ◌^◌, ◌<◌, ◌≤◌, Bool, true, false, if◌then◌else◌, List, [], ◌∷◌, length, get_or, All, refl, sym, subst, arith, suc-mul, mul-le-mul_right, ap}
 use Rattle.std.specs.List.{sum_by}
 use Rattle.std.proofs.lemmas.List.Sums.{sum_by-cons}
 use Rattle.aug_core.specs.Places.{Shape}
@@ -12,11 +12,8 @@ use Rattle.aug_model.specs.Keys.{IsKeySet}
 use Rattle.aug_core.specs.Layout.{IsLayout}
 use Rattle.aug_core.specs.Opening.{opening_book}
 use Rattle.aug_core.specs.Records.{Fate, StandsAs, KeepsRecords}
-use Rattle.aug_core.specs.Effects.{KnowsBook, KnowsTable, Sees, taking, handed_out}
-use Rattle.aug_core.specs.declared.step.StepTaken.{StepTaken}
-use Rattle.aug_core.specs.declared.view.Beginning.{Beginning}
-use Rattle.aug_core.specs.declared.view.Held.{Held}
-use Rattle.aug_core.specs.declared.view.Learnt.{Learnt}
+use Rattle.aug_core.specs.Effects.{KnowsBook, Sees}
+use Rattle.aug_core.specs.inside.RoundTables.{KnowsTable}
 use Rattle.aug_core.specs.declared.view.SeatView.{SeatView}
 use Rattle.aug_core.proofs.Keeping.{one_standing}
 use Rattle.aug_core.proofs.PrefixLemmas.{book_trans}
@@ -80,34 +77,21 @@ module _ (face : ℕ → ℕ → List (ℕ × ℕ) → List ℕ) where
     in_round = subst (λ (z : Shape × Book). z.0.reservations ≡ 0 → NamesOnce z.0 z.1 × SerialsFit z.0 z.1) (λ i. (sym shaped i, sym seen i)) kn.in_round;
   }
 
+  -- and so it is of a round's
+  pub table_as : (v : SeatView) {w : SeatView} → w.shape ≡ v.shape → w.members ≡ v.members → w.seen ≡ v.seen → KnowsTable face v → KnowsTable face w
+  table_as v shaped same seen kn = round_table _ (ap (λ (z : Shape). z.reservations) shaped ∙ kn.keeps_records) (book_as v shaped same seen (any_table v kn))
+
   -- what a seat knows of its table it knows after a step that showed it the whole book
   pub book_shown : (v w : SeatView) → KnowsBook face v → Sees face v w → w.shape ≡ v.shape → w.members ≡ v.members → KnowsBook face w
-  book_shown v w kn sees shaped same = record {
-    laid_out = subst IsLayout (sym shaped) kn.laid_out;
-    key_set = subst (λ (z : ℕ × List (ℕ × ℕ)). IsKeySet z.0 (keys_of z.1)) (λ i. ((sym shaped i).bits, sym same i)) kn.key_set;
-    members_fit = subst (All FitsPair) (sym same) kn.members_fit;
-    few_members = subst (λ (z : ℕ × List (ℕ × ℕ)). length z.1 ≤ z.0) (λ i. ((sym shaped i).members, sym same i)) kn.few_members;
-    book = subst (λ (z : Shape). IsBook face z w.seen) (sym shaped) sees.book;
-    opened = subst (λ (z : Opening). ArePrefixes (opening_book face z) w.seen) (λ i. record { shape = sym shaped i; members = sym same i }) (book_trans kn.opened sees.later);
-    in_round = subst (λ (z : Shape). z.reservations ≡ 0 → NamesOnce z w.seen × SerialsFit z w.seen) (sym shaped) (λ off. (sees.named off, sees.fits off));
+  book_shown v w kn sees shaped same = book_as record v { seen = w.seen } shaped same refl record {
+    laid_out = kn.laid_out;
+    key_set = kn.key_set;
+    members_fit = kn.members_fit;
+    few_members = kn.few_members;
+    book = sees.book;
+    opened = book_trans kn.opened sees.later;
+    in_round = λ off. (sees.named off, sees.fits off);
   }
 
   pub knows_shown : (v w : SeatView) → KnowsTable face v → Sees face v w → w.shape ≡ v.shape → w.members ≡ v.members → KnowsTable face w
   knows_shown v w kn sees shaped same = round_table w (ap (λ (z : Shape). z.reservations) shaped ∙ kn.keeps_records) (book_shown v w (any_table v kn) sees shaped same)
-
-  -- and so it does after one that showed it nothing
-  pub knows_same : (v : SeatView) (live : Bool) (also : Book) (held : List Held) (spare : Option ℕ) (began : Beginning) (steps : List StepTaken) → KnowsTable face v
-      → KnowsTable face record v { live = live; also = also; held = held; spare = spare; began = began; steps = steps }
-  knows_same v live also held spare began steps kn = record { keeps_records = kn.keeps_records; laid_out = kn.laid_out; key_set = kn.key_set; members_fit = kn.members_fit; few_members = kn.few_members; book = kn.book; named = kn.named; opened = kn.opened; fits = kn.fits }
-
-  -- and for whomever it answers
-  pub knows_lent : (v : SeatView) (lent : List ℕ) → KnowsTable face v → KnowsTable face record v { lent = lent }
-  knows_lent v lent kn = record { keeps_records = kn.keeps_records; laid_out = kn.laid_out; key_set = kn.key_set; members_fit = kn.members_fit; few_members = kn.few_members; book = kn.book; named = kn.named; opened = kn.opened; fits = kn.fits }
-
-  -- and after it took something in
-  pub knows_told : (v : SeatView) (also : Book) (told : Option Learnt) → KnowsTable face v → KnowsTable face record v { also = also; told = told }
-  knows_told v also told kn = record { keeps_records = kn.keeps_records; laid_out = kn.laid_out; key_set = kn.key_set; members_fit = kn.members_fit; few_members = kn.few_members; book = kn.book; named = kn.named; opened = kn.opened; fits = kn.fits }
-
-  -- a view that was just handed a lane, and took it, knows of its table what the other knows
-  pub knows_taken : (v : SeatView) (place : ℕ) → KnowsTable face v → KnowsTable face (taking (handed_out v) place)
-  knows_taken v place kn = record { keeps_records = kn.keeps_records; laid_out = kn.laid_out; key_set = kn.key_set; members_fit = kn.members_fit; few_members = kn.few_members; book = kn.book; named = kn.named; opened = kn.opened; fits = kn.fits }

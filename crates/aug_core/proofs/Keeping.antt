@@ -21,6 +21,12 @@ one_standing s f q i j a b = ⊎_elim
     (λ (x : f ≡ standing q i). ⊎_elim (λ (y : f ≡ standing q j). let is : standing q i ≡ standing q j = sym x ∙ y in cc is) (λ y. let clash : standing q i ≡ at_opening = sym x ∙ y.1 in cc) b)
     (λ x. ⊎_elim (λ (y : f ≡ standing q j). let clash : at_opening ≡ standing q j = sym x.1 ∙ y in cc) (λ y. x.2 ∙ sym y.2) b) a
 
+-- and at one place, where records are used again
+pub one_place : (s : Shape) (f : Fate) (q p i j : ℕ) → 0 < s.reservations → StandsAs s f q i → StandsAs s f p j → (q ≡ p) × (i ≡ j)
+one_place s f q p i j used a b = ⊎_elim
+    (λ (x : f ≡ standing q i). ⊎_elim (λ (y : f ≡ standing p j). let is : standing q i ≡ standing p j = sym x ∙ y in (cc is, cc is)) (λ y. let off = y.0 in absurd (omega arith)) b)
+    (λ x. let off = x.0 in absurd (omega arith)) a
+
 pub stands_unowned : (s : Shape) (f : Fate) (q i lane : ℕ) (life : Life) → StandsAs s f q i → f ≢ owned_by lane life
 stands_unowned s f q i lane life stands is = ⊎_elim (λ (t : f ≡ standing q i). let clash : standing q i ≡ owned_by lane life = sym t ∙ is in cc) (λ t. let clash : at_opening ≡ owned_by lane life = sym t.1 ∙ is in cc) stands
 

@@ -15,7 +15,7 @@ use Rattle.aug_core.specs.Opening.{Opening}
 use Rattle.aug_core.specs.Rule.{NamesNewest, HoldsLane, Kept}
 use Rattle.aug_core.specs.Records.{Lists, Fate, standing, owned_by, StandsAs, HasWords, IsThere, IsClosed, floor_of, Waits, IsReplaced, KeepsView, OwnsRecord}
 use Rattle.aug_core.specs.Kinds.{try_node}
-use Rattle.aug_core.specs.Effects.{Sat, HoldsOnly, Owns, MayStore, birth_of, word_by, IsNoYounger, on_first, last_replaced, publishing_from, seeing, publishing, IsFilled, TriesNode, tried_node}
+use Rattle.aug_core.specs.Effects.{Sat, HoldsOnly, Owns, MayStore, birth_of, word_by, IsNoYounger, on_first, last_replaced, ReplacesOther, publishing_from, seeing, publishing, IsFilled, TriesNode, tried_node}
 use Rattle.aug_core.specs.inside.EraSteps.{WithEra}
 use Rattle.aug_core.specs.inside.LaneStates.{HasTakenLane}
 use Rattle.aug_core.specs.declared.step.StepTaken.{StepTaken}
@@ -32,8 +32,8 @@ use Rattle.aug_core.proofs.Owning.{listed_filter}
 use Rattle.aug_core.proofs.EntryCuts.{entry_is}
 use Rattle.aug_core.proofs.LastNamed.{LastOf, last_of}
 use Rattle.aug_core.proofs.Leaves.{word_apart}
-use Rattle.aug_core.proofs.Books.{grown, grown_at, at_grown, one_name, same_number, snoc_at, longer, no_shorter, one_entry, newest_here, there, grows}
-use Rattle.aug_core.proofs.Keeping.{one_standing, stands_unowned, holds_lane_on, view_on}
+use Rattle.aug_core.proofs.Books.{at_below, grown, grown_at, at_grown, one_name, same_number, snoc_at, longer, no_shorter, one_entry, newest_here, there, grows}
+use Rattle.aug_core.proofs.Keeping.{one_standing, one_place, stands_unowned, holds_lane_on, view_on}
 use Rattle.aug_core.proofs.Moves.{St, MayMove, moves_on, holds_on, knows_seeing, in_book, book', after, Publishes, tree_leaves, tree_slots, tree_moves, watches}
 use Rattle.aug_core.proofs.Stores.{alone, one_lane, is_taken}
 use Rattle.aug_core.proofs.States.{Did}
@@ -258,6 +258,27 @@ module _ (face : ℕ → ℕ → List (ℕ × ℕ) → List ℕ) (o : Opening) w
           there = subst (λ (z : ℕ). IsThere o.shape words' fate' q z t.entry) (sym place) there;
         }
 
+    -- it was no record of the lane's
+    other : get_or s.words q 0 ≡ old → 0 < o.shape.reservations → ReplacesOther o.shape h old (last_replaced longer_book q)
+    other hit used = let t = node_newest in let long = t.newest.last in let more = longer r.book q ib entry in let top = top_there in
+        let place : length (history_of longer_book q) - 2 ≡ t.index = omega arith in
+        let is = entry_is longer_book q (length (history_of longer_book q) - 2) t.entry (subst (λ (z : ℕ). At longer_book q z t.entry) (sym place) (entry_stays (grown r.book q ib entry) q t.index t.entry t.newest.at)) in record {
+          named = sym hit ∙ t.word ∙ r.tree.is_book.named q t.index t.entry inner t.newest.at ∙ ap (λ (z : Entry). word_of_node o.shape z.birth z.number) (sym is);
+          exists = subst (λ (z : Entry). z.number < record_count o.shape) (sym is) (r.tree.is_book.below q t.index t.entry inner t.newest.at);
+          not_owned = λ x listed same. stands_unowned o.shape (r.fate t.entry.number) q t.index h.lane x.life top.stands (ap r.fate (sym (same ∙ ap (λ (z : Entry). z.number) is)) ∙ (mine.owns x listed).fate_is);
+          not_replaced = λ d listed same. let was = (r.each_view id v at).records.replaced 0 h d held listed in
+              let one = one_place o.shape (r.fate t.entry.number) d.place q d.index t.index used (subst (λ (z : ℕ). StandsAs o.shape (r.fate z) d.place d.index) (was.numbered ∙ same ∙ ap (λ (z : Entry). z.number) is) was.there.stands) top.stands in
+              let below = at_below (history_of r.book q) (d.index + 1) was.next (subst (λ (z : ℕ). At r.book z (d.index + 1) was.next) one.0 was.followed) in let index = one.1 in absurd (omega arith);
+        }
+
+    pub followed : (last_replaced longer_book q).index + 1 ≡ length (history_of r.book q)
+    followed = let long = node_newest.newest.last in let more = longer r.book q ib entry in omega arith
+
+    -- as the view can tell of the lane that it holds
+    pub other_told : get_or s.words q 0 ≡ old → 0 < v.shape.reservations → (g : Held) → HoldsOnly v g → ReplacesOther v.shape g old (last_replaced longer_book q)
+    other_told hit used g its = subst (λ (z : Shape × Held). ReplacesOther z.0 z.1 old (last_replaced longer_book q))
+        (λ i. (sym shaped i, (alone h g 0 (subst (λ (z : List Held). get_elem? z 0 ≡ some g) (sym its ∙ only) refl)).1 i)) (other hit (subst (λ (z : Shape). 0 < z.reservations) shaped used))
+
     keeps_view : get_or s.words q 0 ≡ old → (steps : List StepTaken) → KeepsView o.shape words' fate' r.gone longer_book record v { seen = longer_book; held = lane' ∷ []; steps = steps }
     keeps_view hit steps = let k = view_on o.shape s.words r.fate r.gone r.book words' fate' longer_book (tree_leaves face o s r id v at q inner.inside entry fate' h.lane c.own.life free (published hit)) (tree_slots face o s r id v at q inner.inside entry fate' h.lane c.own.life free (published hit)) v (r.each_view id v at).records in record {
       reserved = λ x e. let t = k.reserved x e in (
@@ -345,6 +366,8 @@ module _ (face : ℕ → ℕ → List (ℕ × ℕ) → List ℕ) (o : Opening) w
               newest = newest_now s r id v at shaped h may.only taken0 number q inner' old c free;
               hit = λ _. (refl, refl, says s r id v at shaped h may.only taken0 number q inner' old c free);
               last = λ _. lasts s r id v at shaped h may.only taken0 number q inner' old c free;
+              other = λ used _ g its. other_told s r id v at shaped h may.only taken0 number q inner' old c free hit used g its;
+              followed = λ _. followed s r id v at shaped h may.only taken0 number q inner' old c free;
               miss = λ miss. absurd (miss hit);
             },
           ),
@@ -369,6 +392,8 @@ module _ (face : ℕ → ℕ → List (ℕ × ℕ) → List ℕ) (o : Opening) w
               newest = top.newest;
               hit = λ hit. absurd (miss hit);
               last = λ hit. absurd (miss hit);
+              other = λ _ hit. absurd (miss hit);
+              followed = λ hit. absurd (miss hit);
               miss = λ _. (refl, top.word);
             },
           ),

@@ -1,17 +1,17 @@
 -- What the steps show that only a table has which uses records again. A seat loads the era, or turns it to the next; it reserves an era that was reached, and
 -- lets go of it; what it replaced becomes its own with the era that it loads once the root shows later entries; and each load of a reservation
 -- passes those of its own records that this one does not hold.
-use Rattle.std.specs.Prelude.{◌≡◌, ℕ, ◌+◌, ◌≤◌, ◌==◌, Bool, false, nat_lt, nat_le, if◌then◌else◌, [], ◌∷◌, ◌++◌, map, slice_index, Some, None, ◌<◌, length}
-use Rattle.aug_core.specs.declared.view.Entry.{Entry}
-use Rattle.aug_core.specs.Book.{history_of, At}
-use Rattle.aug_core.specs.Addresses.{place_count, IsInner, left_of, right_of}
+use Rattle.std.specs.Prelude.{◌≡◌, ℕ, ◌+◌, ◌<◌, ◌≤◌, ◌==◌, Bool, false, nat_lt, nat_le, if◌then◌else◌, [], ◌∷◌, ◌++◌, length, map, slice_index, Some, None}
 use Rattle.std.specs.List.{range_with_len}
 use Rattle.atomic_table.specs.Table.{Step}
 use Rattle.aug_core.specs.Places.{record_words, reservation_place}
+use Rattle.aug_core.specs.Addresses.{place_count, IsInner, left_of, right_of}
+use Rattle.aug_core.specs.Book.{history_of, At}
 use Rattle.aug_core.specs.Records.{IsClosed, floor_of, Lists}
 use Rattle.aug_core.specs.Kinds.{load_era, turn_era, load_reservation, store_reservation}
 use Rattle.aug_core.specs.Effects.{Sat, on_first, own_lane}
 use Rattle.aug_core.specs.declared.step.StepTaken.{StepTaken}
+use Rattle.aug_core.specs.declared.view.Entry.{Entry}
 use Rattle.aug_core.specs.declared.view.Held.{Held}
 use Rattle.aug_core.specs.declared.view.Life.{Life}
 use Rattle.aug_core.specs.declared.view.Owned.{Owned}

@@ -10,3 +10,4 @@ pub mod Refreshes
 pub mod RootCuts
 pub mod Shows
 pub mod WordPlaces
+pub mod RoundTables

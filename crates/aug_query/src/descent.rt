@@ -30,7 +30,7 @@ pub use counts::{Rank, Size};
 pub use cursor::Cursor;
 pub use ends::{First, Greatest, Last, Least};
 pub use intervals::Range;
-pub use listing::{Keys, Pairs, put_pairs};
+pub use listing::{Keys, Pairs, append_pairs};
 pub use members::{Has, Weight};
 pub use neighbours::{After, Before};
 pub use pages::{MembersBelow, MembersFrom, Page};

@@ -7,7 +7,8 @@ use Rattle.aug_core.specs.Places.{Shape}
 use Rattle.aug_core.specs.Addresses.{root_place}
 use Rattle.aug_core.specs.Book.{ArePrefixes, IsBook}
 use Rattle.aug_core.specs.Counts.{change, changes_of}
-use Rattle.aug_core.specs.Effects.{KnowsTable, LoadsNode, made_by, new_serial}
+use Rattle.aug_core.specs.Effects.{LoadsNode, made_by, new_serial}
+use Rattle.aug_core.specs.inside.RoundTables.{KnowsTable}
 use Rattle.aug_core.specs.Cuts.{serial_of, IsAtMost}
 use Rattle.aug_core.specs.inside.RootCuts.{root_cut}
 use Rattle.aug_core.specs.inside.Shows.{NewestShows}

@@ -9,7 +9,8 @@ use Rattle.aug_core.specs.Places.{Shape, record_start, record_words}
 use Rattle.aug_core.specs.Faces.{face}
 use Rattle.aug_core.specs.Addresses.{place_count, IsInner, left_of, right_of}
 use Rattle.aug_core.specs.inside.Refreshes.{HasNewest, SaysLoaded, stored}
-use Rattle.aug_core.specs.Effects.{GuardsRecord, KnowsTable, Says, MayStore, IsFilled, TriesNode, storing}
+use Rattle.aug_core.specs.Effects.{GuardsRecord, Says, MayStore, IsFilled, TriesNode, storing}
+use Rattle.aug_core.specs.inside.RoundTables.{KnowsTable}
 use Rattle.aug_core.specs.declared.view.SeatView.{SeatView}
 use Rattle.aug_core.proofs.FaceLemmas.{left_in, right_in}
 use Rattle.aug_core.proofs.Refreshing.{has_entry}

@@ -4,7 +4,7 @@ use Rattle.atomic_table.specs.Seated.{TableId}
 use Rattle.aug_monoid.specs.Parts.{Parts}
 use Rattle.aug_model.specs.Folds.{summary_of}
 use Rattle.aug_core.specs.Counts.{changes_of}
-use Rattle.aug_core.specs.Effects.{KnowsTable}
+use Rattle.aug_core.specs.inside.RoundTables.{KnowsTable}
 use Rattle.aug_core.specs.Faces.{face}
 use Rattle.aug_words.specs.Seats.{Known}
 use Rattle.aug_trie.specs.Node.{Reads}

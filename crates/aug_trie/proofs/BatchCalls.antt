@@ -11,14 +11,14 @@ use Rattle.aug_core.specs.Places.{Shape}
 use Rattle.aug_core.specs.Book.{IsBook}
 use Rattle.aug_core.specs.Counts.{changes_of}
 use Rattle.aug_core.specs.Faces.{face}
-use Rattle.aug_core.specs.Effects.{KnowsTable}
+use Rattle.aug_core.specs.inside.RoundTables.{KnowsTable}
 use Rattle.aug_core.specs.inside.Shows.{Lifts}
 use Rattle.aug_core.specs.declared.step.StepTaken.{StepTaken}
 use Rattle.aug_core.specs.declared.view.Change.{Change}
 use Rattle.aug_core.specs.declared.view.Held.{Held}
 use Rattle.aug_core.specs.declared.view.LaneState.TheVariants.{Free}
 use Rattle.aug_core.specs.declared.view.SeatView.{SeatView}
-use Rattle.aug_core.proofs.Fits.{knows_same}
+use Rattle.aug_core.proofs.Fits.{table_as}
 use Rattle.aug_core.proofs.PrefixLemmas.{book_trans}
 use Rattle.aug_words.specs.Seats.{Known}
 use Rattle.aug_trie.specs.UpdateBatches.{BatchPart, no_part, DoesPart, DoesBatch, most_rises}
@@ -56,7 +56,7 @@ module _ (f : ℕ → ℕ → List (ℕ × ℕ) → List ℕ) where
   goes_alone u z made g = record {
     later = g.later;
     fresh = g.fresh;
-    knows_table = knows_same f z z.live z.also (made_alone z made).held z.spare z.began z.steps g.knows_table;
+    knows_table = table_as f z refl refl refl g.knows_table;
     shaped = g.shaped;
     same_members = g.same_members;
     same_eras = g.same_eras;
@@ -73,7 +73,7 @@ module _ (f : ℕ → ℕ → List (ℕ × ℕ) → List ℕ) where
     whole = goes_after f 0 used used gained [] gained v w z (omega arith) (omega arith) (append-nil gained) left up
 
     kn' : KnowsTable f (blank v)
-    kn' = knows_same f v v.live v.also [] v.spare v.began v.steps kn
+    kn' = table_as f v refl refl refl kn
 
     -- what its leaf had reached right after its steps there
     lifts_own : Lifts p.before.shape p.after.seen z.seen key p.before.shape.bits

@@ -11,14 +11,15 @@ use Rattle.aug_core.specs.Places.{Shape, node_place}
 use Rattle.aug_core.specs.Book.{Book}
 use Rattle.aug_core.specs.Counts.{changes_of}
 use Rattle.aug_core.specs.Cuts.{pairs_of_cut}
-use Rattle.aug_core.specs.Effects.{GuardsRecord, KnowsTable, Says}
+use Rattle.aug_core.specs.Effects.{GuardsRecord, Says}
+use Rattle.aug_core.specs.inside.RoundTables.{KnowsTable}
 use Rattle.aug_core.specs.Faces.{face}
 use Rattle.aug_core.specs.inside.EntryCuts.{entry_of}
 use Rattle.aug_core.specs.inside.RootCuts.{root_cut}
 use Rattle.aug_core.specs.declared.view.Entry.{Entry}
 use Rattle.aug_core.specs.declared.view.SeatView.{SeatView}
 use Rattle.aug_core.proofs.EntryCuts.{entry_at, part_pairs}
-use Rattle.aug_core.proofs.Fits.{knows_same}
+use Rattle.aug_core.proofs.Fits.{table_as}
 use Rattle.aug_core.proofs.Levels.{leaf_word}
 use Rattle.aug_query.specs.DescendBoth.{BothSets, DescendsBoth, differing_nodes}
 use Rattle.aug_query.proofs.Changing.{none_differ}
@@ -107,7 +108,7 @@ module _ (f : ℕ → ℕ → List (ℕ × ℕ) → List ℕ) where
   -- names are names still
   under_on : (n : ℕ) (v w : SeatView) (s : Snapshot) (level place word : ℕ) → Looks n v w → IsNamedUnder f v s level place word → IsNamedUnder f w s level place word
   under_on n v w s level place word l has = subst (λ (z : SeatView). IsNamedUnder f z s level place word) (sym l.is)
-      record { knows_table = knows_same f v v.live v.also v.held v.spare v.began (v.steps ++ l.more) has.knows_table; is_tree_set = has.is_tree_set; cut_is = has.cut_is; node = has.node }
+      record { knows_table = table_as f v refl refl refl has.knows_table; is_tree_set = has.is_tree_set; cut_is = has.cut_is; node = has.node }
 
   pub both_named_on : (n : ℕ) (v w : SeatView) (earlier later : Snapshot) (level place : ℕ) (words : ℕ × ℕ) → Looks n v w → IsNamedInBoth f v earlier later level place words → IsNamedInBoth f w earlier later level place words
   both_named_on n v w earlier later level place words l has = record { in_earlier = under_on n v w earlier level place words.0 l has.in_earlier; in_later = under_on n v w later level place words.1 l has.in_later }

@@ -6,11 +6,11 @@ use Rattle.aug_model.specs.Keys.{SetFacts, keys_of}
 use Rattle.aug_model.proofs.Boundaries.{IsKeySet-few}
 use Rattle.aug_model.proofs.Pairs.{length-keys_of}
 use Rattle.aug_query.specs.Tree.{IsTreeSet}
-use Rattle.aug_core.specs.Effects.{KnowsTable}
+use Rattle.aug_core.specs.inside.RoundTables.{KnowsTable}
 use Rattle.aug_core.specs.Faces.{face}
 use Rattle.aug_core.specs.inside.RootCuts.{root_cut}
 use Rattle.aug_core.specs.declared.view.SeatView.{SeatView}
-use Rattle.aug_core.proofs.Fits.{knows_same}
+use Rattle.aug_core.proofs.Fits.{table_as}
 use Rattle.aug_words.specs.Leads.{MayOpen}
 use Rattle.aug_words.specs.Seats.{Known, NamesRoot}
 use Rattle.aug_trie.specs.Crew.{CrewFacts, CrewReads, set_of_crew}
@@ -69,7 +69,7 @@ module _ {A B : Type 0} (parts_a : Parts A) (parts_b : Parts B) where
           holds = record {
             handed = h.handed;
             is_crew = record {
-              knows_table = knows_same f v v.live v.also v.held v.spare v.began (v.steps ++ l.more) h.is_crew.knows_table;
+              knows_table = table_as f v refl refl refl h.is_crew.knows_table;
               hands_out = h.is_crew.hands_out;
               took_back = refl;
               knowledge = let k = h.is_crew.knowledge in record { is_history = k.is_history; stands = k.stands };
@@ -86,7 +86,10 @@ module _ {A B : Type 0} (parts_a : Parts A) (parts_b : Parts B) where
 
   -- a crew that took its lead out, walked, and has it again
   module _ (lead : Option Known) (k : Known) (now : CrewFacts) {free : Bool} (back inserts removals : ℕ) (h : HasCrew f lead back inserts removals free) (there : lead ≡ Some k) (facts : crew_facts (known_in lead) free ≡ now)
-      (walk : Walking) (same : walk.words ≡ k) (newest : NamesRoot k.view walk.snapshot.number) (kn : KnowsTable f k.view) where
+      (walk : Walking) (same : walk.words ≡ k) (newest : NamesRoot k.view walk.snapshot.number) where
+    kn : KnowsTable f k.view
+    kn = (crew_told h there facts).0.is_crew.knows_table
+
     pub walked_set : set_seen walk.words.view walk.snapshot ≡ set_of_crew now
     walked_set = ap (λ (z : Known). set_seen z.view walk.snapshot) same ∙ set_of_last k free walk.snapshot kn newest ∙ ap set_of_crew (crew_told h there facts).1
 

@@ -7,7 +7,8 @@ use Rattle.aug_core.specs.Places.{Shape}
 use Rattle.aug_core.specs.Book.{ArePrefixes, IsFresh}
 use Rattle.aug_core.specs.Counts.{changes_of}
 use Rattle.aug_core.specs.Kinds.{store_record_word}
-use Rattle.aug_core.specs.Effects.{HoldsOnly, own_lane, on_first, storing_in, last_replaced, publishing_from, with_changes, stepping, storing, seeing, beginning, publishing, changing, KnowsTable, MayStore, MayChange, Sees}
+use Rattle.aug_core.specs.Effects.{HoldsOnly, own_lane, on_first, storing_in, last_replaced, publishing_from, with_changes, stepping, storing, seeing, beginning, publishing, changing, MayStore, MayChange, Sees}
+use Rattle.aug_core.specs.inside.RoundTables.{KnowsTable}
 use Rattle.aug_core.specs.declared.step.StepTaken.{StepTaken}
 use Rattle.aug_core.specs.declared.view.Change.{Change}
 use Rattle.aug_core.specs.declared.step.StepKind.{StepKind}
@@ -17,7 +18,7 @@ use Rattle.aug_core.specs.declared.view.Replaced.{Replaced}
 use Rattle.aug_core.specs.declared.view.SeatView.{SeatView}
 use Rattle.aug_core.proofs.Books.{fresh_now, fresh_on}
 use Rattle.aug_core.proofs.Clients.{may_store_same, may_store_on, may_store_changing, may_store_publishing}
-use Rattle.aug_core.proofs.Fits.{knows_shown, knows_same}
+use Rattle.aug_core.proofs.Fits.{knows_shown, table_as}
 use Rattle.aug_trie.specs.inside.RoundState.{eras_of}
 use Rattle.aug_trie.specs.inside.Points.{QuietStep}
 use Rattle.aug_trie.specs.inside.Goes.{HasRoom, Took, TookBetween, Goes}
@@ -164,7 +165,7 @@ module _ (face : ℕ → ℕ → List (ℕ × ℕ) → List ℕ) where
   goes_stepping v w taken is kn = subst (Goes face 0 [] v) (sym is) record {
     later = book_refl v.seen;
     fresh = fresh_now v.shape v.seen;
-    knows_table = knows_same face v v.live v.also v.held v.spare v.began (v.steps ++ taken ∷ []) kn;
+    knows_table = table_as face v refl refl refl kn;
     shaped = refl;
     same_members = refl;
     same_eras = refl;
@@ -179,7 +180,7 @@ module _ (face : ℕ → ℕ → List (ℕ × ℕ) → List ℕ) where
   goes_storing v w place value is kn = let f' : Held → Held = storing_in v.shape place value in subst (Goes face 0 [] v) (sym is) record {
     later = book_refl v.seen;
     fresh = fresh_now v.shape v.seen;
-    knows_table = knows_same face v v.live v.also (storing v place value).held v.spare v.began (storing v place value).steps kn;
+    knows_table = table_as face v refl refl refl kn;
     shaped = refl;
     same_members = refl;
     same_eras = refl;

@@ -5,12 +5,13 @@ use Rattle.std.proofs.lemmas.List.Elements.{All-nil, All-append}
 use Rattle.aug_core.specs.Addresses.{root_place}
 use Rattle.aug_core.specs.Lanes.{first_record, lane_records, new_lane}
 use Rattle.aug_core.specs.Counts.{changes_of}
-use Rattle.aug_core.specs.Effects.{HoldsOnly, KnowsTable, LoadsNode, in_state, on_first, handing_out, handed_out, taking, finishing, taking_back, MayStore}
+use Rattle.aug_core.specs.Effects.{HoldsOnly, LoadsNode, in_state, on_first, handing_out, handed_out, taking, finishing, taking_back, MayStore}
+use Rattle.aug_core.specs.inside.RoundTables.{KnowsTable}
 use Rattle.aug_core.specs.declared.view.Change.{Change}
 use Rattle.aug_core.specs.declared.view.Held.{Held}
 use Rattle.aug_core.specs.declared.view.LaneState.TheVariants.{Taken, Ended}
 use Rattle.aug_core.specs.declared.view.SeatView.{SeatView}
-use Rattle.aug_core.proofs.Fits.{knows_lent, knows_shown, knows_same, knows_taken}
+use Rattle.aug_core.proofs.Fits.{knows_shown, table_as}
 use Rattle.aug_core.proofs.Clients.{new_lane_owns}
 use Rattle.aug_trie.specs.inside.Goes.{HasRoom, HasLeaves}
 use Rattle.aug_trie.specs.History.{last_cut}
@@ -59,11 +60,11 @@ module _ (face : ℕ → ℕ → List (ℕ × ℕ) → List ℕ) where
     handed_out_is place = record { goes_on = knows_on face v w kn same_shape t.sees.later; same_changes = loaded_changes; pass_knows = refl }
 
     pub pass_table : (place : ℕ) → KnowsTable face (taking (handed_out w) place)
-    pass_table place = knows_taken face w place loaded_table
+    pass_table place = table_as face w refl refl refl loaded_table
 
     pub crew_out : (handed back : ℕ) → IsCrew face v handed back → IsCrew face (handing_out w) (handed + 1) back
     crew_out handed back c = let p : SeatView = handing_out w in record {
-      knows_table = knows_same face w p.live p.also p.held p.spare p.began p.steps loaded_table;
+      knows_table = table_as face w refl refl refl loaded_table;
       hands_out = ap (λ (z : SeatView). (handing_out z).spare) t.stepped ∙ ap (λ z. (handing_out record v { spare = z }).spare) c.hands_out;
       took_back = ap (λ (z : SeatView). length z.held) t.stepped ∙ c.took_back;
       knowledge = let k = loaded_knowledge c.knowledge in record { is_history = k.is_history; stands = k.stands };
@@ -101,8 +102,7 @@ module _ (face : ℕ → ℕ → List (ℕ × ℕ) → List ℕ) where
     pass_shape = back_shape ∙ sym one_shape
 
     pub back_table : KnowsTable face w
-    back_table = let u : SeatView = taking_back v (finishing p place) in
-        knows_shown face u w (knows_lent face record v { live = u.live; also = u.also; held = u.held; spare = u.spare; began = u.began; steps = u.steps } u.lent (knows_same face v u.live u.also u.held u.spare u.began u.steps kv)) t.sees back_shape (ap (λ (z : SeatView). z.members) t.stepped)
+    back_table = knows_shown face (taking_back v (finishing p place)) w (table_as face v refl refl refl kv) t.sees back_shape (ap (λ (z : SeatView). z.members) t.stepped)
 
     all_changes : changes_of w.held ≡ changes_of v.held ++ changes_of p.held
     all_changes = ap (λ (z : SeatView). changes_of z.held) t.stepped ∙ changes-append v.held (on_first (in_state Ended) p.held) ∙ ap (λ (z : List Change). changes_of v.held ++ z) (finished_changes p lane only)

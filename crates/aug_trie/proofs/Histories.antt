@@ -19,7 +19,8 @@ use Rattle.aug_core.specs.Prefixes.{IsPrefix}
 use Rattle.aug_trie.specs.History.{IsHistory, last_cut}
 use Rattle.aug_core.specs.inside.EntryCuts.{entry_of}
 use Rattle.aug_core.specs.inside.RootCuts.{root_cut}
-use Rattle.aug_core.specs.Effects.{KnowsTable, opening_of}
+use Rattle.aug_core.specs.Effects.{opening_of}
+use Rattle.aug_core.specs.inside.RoundTables.{KnowsTable}
 use Rattle.aug_trie.specs.inside.Knows.{root_history, root_numbers}
 use Rattle.aug_core.proofs.PrefixLemmas.{prefix_at}
 use Rattle.aug_core.proofs.Levels.{root_word}

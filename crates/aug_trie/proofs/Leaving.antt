@@ -4,7 +4,8 @@ use Rattle.std.proofs.lemmas.Bool.{cases_eq, cases_Bool, false≢true}
 use Rattle.std.proofs.lemmas.List.Elements.{All-nil}
 use Rattle.aug_core.specs.Book.{ArePrefixes}
 use Rattle.aug_core.specs.inside.Shows.{Lifts}
-use Rattle.aug_core.specs.Effects.{HoldsOnly, KnowsTable, BeginsAtLeaf, made_by}
+use Rattle.aug_core.specs.Effects.{HoldsOnly, BeginsAtLeaf, made_by}
+use Rattle.aug_core.specs.inside.RoundTables.{KnowsTable}
 use Rattle.aug_core.specs.declared.view.Change.{Change}
 use Rattle.aug_core.specs.declared.view.Held.{Held}
 use Rattle.aug_core.specs.declared.view.SeatView.{SeatView}

@@ -1,9 +1,9 @@
 -- A pass that lends a reader or takes one back is one still, and what a reader's queries come to.
 use Rattle.std.proofs.Common.{◌*◌, ◌≡◌, ℕ, Option, Some, List, refl, sym, ap, ◌∙◌, subst}
 use Rattle.aug_core.specs.Counts.{changes_of}
-use Rattle.aug_core.specs.Effects.{KnowsTable}
+use Rattle.aug_core.specs.inside.RoundTables.{KnowsTable}
 use Rattle.aug_core.specs.declared.view.SeatView.{SeatView}
-use Rattle.aug_core.proofs.Fits.{knows_lent}
+use Rattle.aug_core.proofs.Fits.{table_as}
 use Rattle.aug_words.specs.Seats.{Store, Known, AreTogether}
 use Rattle.aug_trie.specs.Pass.{PassFacts}
 use Rattle.aug_trie.specs.Round.{TableFacts, table_of}
@@ -29,7 +29,7 @@ module _ (f : ℕ → ℕ → List (ℕ × ℕ) → List ℕ) where
   lent_pass v lent leaves bits next left p = record {
     leaves_are = record { are = p.leaves_are.are; few = p.leaves_are.few };
     bits_are = p.bits_are;
-    knows_table = knows_lent f v lent p.knows_table;
+    knows_table = table_as f v refl refl refl p.knows_table;
     room = room_same v (record v { lent = lent }) next (left * bits) refl refl p.room;
     budget = p.budget;
     small = p.small;
@@ -49,7 +49,7 @@ module _ (f : ℕ → ℕ → List (ℕ × ℕ) → List ℕ) where
   lent_crew v w back inserts removals lent h = let c = h.is_crew in let k = c.knowledge in subst (λ (z : SeatView). HoldsCrew f z back inserts removals) (sym lent) record {
     handed = h.handed;
     is_crew = record {
-      knows_table = knows_lent f v w.lent c.knows_table;
+      knows_table = table_as f v refl refl refl c.knows_table;
       hands_out = c.hands_out;
       took_back = c.took_back;
       knowledge = record { is_history = k.is_history; stands = k.stands };

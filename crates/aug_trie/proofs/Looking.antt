@@ -9,10 +9,11 @@ use Rattle.aug_model.specs.declared.summary.Summary.{Summary}
 use Rattle.aug_core.specs.Faces.{face}
 use Rattle.aug_core.specs.Cuts.{Cut, set_of_cut, pairs_of_cut}
 use Rattle.aug_core.specs.Counts.{changes_of}
-use Rattle.aug_core.specs.Effects.{GuardsRecord, KnowsTable, Says}
+use Rattle.aug_core.specs.Effects.{GuardsRecord, Says}
+use Rattle.aug_core.specs.inside.RoundTables.{KnowsTable}
 use Rattle.aug_core.specs.declared.view.SeatView.{SeatView}
 use Rattle.aug_core.proofs.Books.{fresh_now}
-use Rattle.aug_core.proofs.Fits.{knows_same}
+use Rattle.aug_core.proofs.Fits.{table_as}
 use Rattle.aug_core.proofs.PlaceLemmas.{keys-within}
 use Rattle.aug_trie.specs.LeafWords.{weight_in_word}
 use Rattle.aug_trie.specs.inside.LeafPairs.{leaf_pairs}
@@ -28,7 +29,7 @@ pub goes_looking : (f : ℕ → ℕ → List (ℕ × ℕ) → List ℕ) (most : 
 goes_looking f most v w l kn = subst (Goes f 0 [] v) (sym l.is) record {
   later = book_refl v.seen;
   fresh = fresh_now v.shape v.seen;
-  knows_table = knows_same f v v.live v.also v.held v.spare v.began (v.steps ++ l.more) kn;
+  knows_table = table_as f v refl refl refl kn;
   shaped = refl;
   same_members = refl;
   same_eras = refl;

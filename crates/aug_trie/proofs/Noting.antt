@@ -9,12 +9,11 @@ use Rattle.aug_core.specs.Counts.{changes_of}
 use Rattle.aug_core.specs.Faces.{face}
 use Rattle.aug_core.specs.Prefixes.{IsPrefix}
 use Rattle.aug_core.specs.declared.view.PastEra.{PastEra}
-use Rattle.aug_core.specs.Pasts.{learnt_of}
 use Rattle.aug_core.specs.Learning.{learning}
-use Rattle.aug_core.specs.Eras.{seen_in}
-use Rattle.aug_core.specs.Effects.{KnowsTable, LoadsNode, noted}
+use Rattle.aug_core.specs.Effects.{LoadsNode, noted}
+use Rattle.aug_core.specs.inside.RoundTables.{KnowsTable}
 use Rattle.aug_core.specs.declared.view.SeatView.{SeatView}
-use Rattle.aug_core.proofs.Fits.{knows_shown, knows_told}
+use Rattle.aug_core.proofs.Fits.{knows_shown, table_as}
 use Rattle.aug_words.specs.Notes.{LearnsNote}
 use Rattle.aug_words.specs.Seats.{Known}
 use Rattle.aug_trie.specs.Crew.{CrewFacts, CrewLearns}
@@ -51,11 +50,11 @@ view_chain v = chain (past_rounds v.shape v.past) v.members (knows v).history
 module _ (f : ℕ → ℕ → List (ℕ × ℕ) → List ℕ) where
   -- a note knows its table as its maker does
   pub noted_table : (v : SeatView) → KnowsTable f v → KnowsTable f (noted v)
-  noted_table v kn = record { keeps_records = kn.keeps_records; laid_out = kn.laid_out; key_set = kn.key_set; members_fit = kn.members_fit; few_members = kn.few_members; book = kn.book; named = kn.named; opened = kn.opened; fits = kn.fits }
+  noted_table v kn = table_as f v refl refl refl kn
 
   -- a view that took a note in, before it loads the root
   learning_table : (v n : SeatView) → KnowsTable f v → KnowsTable f (learning v n)
-  learning_table v n kn = knows_told f v (seen_in v.era n).seen (Some (learnt_of n)) kn
+  learning_table v n kn = table_as f v refl refl refl kn
 
   -- is a pass, if it was one
   learning_pass : (v n : SeatView) (leaves bits next left : ℕ) → IsPass f v leaves bits next left → IsPass f (learning v n) leaves bits next left

@@ -4,7 +4,8 @@ use Rattle.std.proofs.lemmas.Bool.{cases_Bool}
 use Rattle.std.proofs.Math.Nat.{add-mul}
 use Rattle.aug_core.specs.Places.{Shape}
 use Rattle.aug_core.specs.Counts.{change, changes_of}
-use Rattle.aug_core.specs.Effects.{KnowsTable, made_by, new_serial}
+use Rattle.aug_core.specs.Effects.{made_by, new_serial}
+use Rattle.aug_core.specs.inside.RoundTables.{KnowsTable}
 use Rattle.aug_core.specs.Kinds.{load_leaf}
 use Rattle.aug_core.specs.declared.step.StepTaken.{StepTaken}
 use Rattle.aug_core.specs.declared.view.Change.{Change}

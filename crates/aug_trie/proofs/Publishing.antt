@@ -7,7 +7,8 @@ use Rattle.aug_monoid.specs.Parts.{Parts}
 use Rattle.aug_core.specs.Addresses.{IsInner}
 use Rattle.aug_core.specs.Faces.{face}
 use Rattle.aug_core.specs.inside.Refreshes.{SaysLoaded, Published}
-use Rattle.aug_core.specs.Effects.{storing, KnowsTable, MayStore, IsFilled, TriesNode}
+use Rattle.aug_core.specs.Effects.{storing, MayStore, IsFilled, TriesNode}
+use Rattle.aug_core.specs.inside.RoundTables.{KnowsTable}
 use Rattle.aug_core.specs.declared.view.SeatView.{SeatView}
 use Rattle.aug_core.specs.Places.{record_words, Shape}
 use Rattle.aug_core.proofs.FaceLemmas.{left_in, right_in}

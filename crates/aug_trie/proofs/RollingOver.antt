@@ -36,7 +36,7 @@ use Rattle.aug_trie.proofs.Handing.{loaded_table, loaded_knowledge}
 use Rattle.aug_trie.proofs.Keeping.{weighs_later}
 use Rattle.aug_trie.proofs.Risen.{opening-at_most, opens-some, last-at_most_final, same_end}
 use Rattle.aug_trie.proofs.Tallying.{none_lost_tallies}
-use Rattle.aug_words.proofs.Lays.{knows_steps}
+use Rattle.aug_core.proofs.Fits.{table_as}
 use Rattle.aug_core.specs.Book.{IsNewest}
 use Rattle.aug_core.specs.declared.view.Entry.{Entry}
 use Rattle.aug_core.specs.inside.RootCuts.{root_cut}
@@ -160,7 +160,7 @@ module _ (face : ℕ → ℕ → List (ℕ × ℕ) → List ℕ) (lead : Known) 
   prepared_holds = let c = holds.is_crew in let k = c.knowledge in subst (λ (z : SeatView). HoldsCrew face z back inserts removals) (sym stepped) record {
     handed = holds.handed;
     is_crew = record {
-      knows_table = knows_steps face lead.view v.whole v.steps c.knows_table;
+      knows_table = table_as face lead.view refl refl refl c.knows_table;
       hands_out = c.hands_out;
       took_back = c.took_back;
       knowledge = record { is_history = k.is_history; stands = k.stands };

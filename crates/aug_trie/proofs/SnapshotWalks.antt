@@ -1,9 +1,9 @@
 -- What a walk over a snapshot leaves as it was, and how a descent over it comes of the words that it loaded.
-use Rattle.std.proofs.Common.{◌≡◌, ℕ, ◌+◌, ◌*◌, ◌≤◌, List, ◌++◌, length, sym, refl, ap, ◌∙◌, subst, arith}
+use Rattle.std.proofs.Common.{◌≡◌, ℕ, ◌+◌, ◌*◌, ◌≤◌, List, length, sym, refl, ap, ◌∙◌, subst, arith}
 use Rattle.aug_core.specs.Cuts.{Cut, weight_at, set_of_cut}
-use Rattle.aug_core.specs.Effects.{KnowsTable}
+use Rattle.aug_core.specs.inside.RoundTables.{KnowsTable}
 use Rattle.aug_core.specs.declared.view.SeatView.{SeatView}
-use Rattle.aug_core.proofs.Fits.{knows_same}
+use Rattle.aug_core.proofs.Fits.{table_as}
 use Rattle.aug_model.specs.Keys.{list_of}
 use Rattle.aug_model.proofs.Pairs.{keys_of-pairs_of}
 use Rattle.aug_model.specs.NodeKeys.{keys_below}
@@ -23,12 +23,12 @@ keys_of_cut bits cut = keys_of-pairs_of (weight_at cut) (set_of_cut cut)
 module _ (f : ℕ → ℕ → List (ℕ × ℕ) → List ℕ) where
   -- a view that looked knows its table still
   pub knows_on : (n : ℕ) (v w : SeatView) → Looks n v w → KnowsTable f v → KnowsTable f w
-  knows_on n v w l kn = subst (KnowsTable f) (sym l.is) (knows_same f v v.live v.also v.held v.spare v.began (v.steps ++ l.more) kn)
+  knows_on n v w l kn = subst (KnowsTable f) (sym l.is) (table_as f v refl refl refl kn)
 
   -- names are names still
   pub named_on : (n : ℕ) (v w : SeatView) (s : Snapshot) (level place word : ℕ) → Looks n v w → IsNamed f v s level place word → IsNamed f w s level place word
   named_on n v w s level place word l has = subst (λ (z : SeatView). IsNamed f z s level place word) (sym l.is)
-      record { knows_table = knows_same f v v.live v.also v.held v.spare v.began (v.steps ++ l.more) has.knows_table; is_tree_set = has.is_tree_set; node = has.node }
+      record { knows_table = table_as f v refl refl refl has.knows_table; is_tree_set = has.is_tree_set; node = has.node }
 
   pub walk_on : (n : ℕ) (v w : SeatView) (s : Snapshot) (bits : ℕ) → Looks n v w → IsWalk f v s bits → IsWalk f w s bits
   walk_on n v w s bits l walk = record { bits_are = walk.bits_are ∙ ap (λ (z : SeatView). z.shape.bits) (sym l.is); top = named_on n v w s bits 0 s.number l walk.top }

@@ -24,7 +24,8 @@ use Rattle.aug_trie.specs.Knowledge.{StandsIn}
 use Rattle.aug_trie.specs.Tallies.{times, Tallies, Weighs, TalliesWithLost}
 use Rattle.aug_core.specs.inside.EntryCuts.{entry_of}
 use Rattle.aug_core.specs.inside.RootCuts.{root_cut}
-use Rattle.aug_core.specs.Effects.{KnowsTable, opening_of}
+use Rattle.aug_core.specs.Effects.{opening_of}
+use Rattle.aug_core.specs.inside.RoundTables.{KnowsTable}
 use Rattle.aug_trie.specs.inside.Knows.{knows}
 use Rattle.aug_core.proofs.Levels.{root_word}
 use Rattle.aug_core.proofs.CutsUnder.{cut_long, reached}

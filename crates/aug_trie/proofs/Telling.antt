@@ -7,7 +7,8 @@ use Rattle.aug_monoid.proofs.FoldLemmas.{fold_of-append, of_word-fold_of}
 use Rattle.aug_core.specs.Addresses.{IsInner}
 use Rattle.aug_core.specs.Faces.{face}
 use Rattle.aug_core.specs.inside.Refreshes.{HasEntry}
-use Rattle.aug_core.specs.Effects.{GuardsRecord, KnowsTable, Says, stepping}
+use Rattle.aug_core.specs.Effects.{GuardsRecord, Says, stepping}
+use Rattle.aug_core.specs.inside.RoundTables.{KnowsTable}
 use Rattle.aug_core.specs.declared.step.StepTaken.{StepTaken}
 use Rattle.aug_core.specs.declared.view.SeatView.{SeatView}
 use Rattle.aug_core.proofs.EntryKeys.{are_small}

@@ -13,7 +13,8 @@ use Rattle.aug_core.specs.Book.{Book, ArePrefixes, NamesOnce, IsBook}
 use Rattle.aug_core.specs.Counts.{changes_of}
 use Rattle.aug_core.specs.Cuts.{Cut, weight_at}
 use Rattle.aug_core.specs.inside.RootCuts.{root_cut}
-use Rattle.aug_core.specs.Effects.{KnowsTable, opening_of}
+use Rattle.aug_core.specs.Effects.{opening_of}
+use Rattle.aug_core.specs.inside.RoundTables.{KnowsTable}
 use Rattle.aug_core.specs.declared.view.SeatView.{SeatView}
 use Rattle.aug_core.proofs.Levels.{root_word}
 use Rattle.aug_core.proofs.CutsUnder.{cut_long}

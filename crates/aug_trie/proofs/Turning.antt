@@ -7,7 +7,8 @@ use Rattle.aug_model.specs.Folds.{summary_of}
 use Rattle.aug_core.specs.Faces.{face}
 use Rattle.aug_core.specs.Counts.{changes_of}
 use Rattle.aug_core.specs.Kinds.{load_leaf, try_leaf}
-use Rattle.aug_core.specs.Effects.{own_lane, KnowsTable}
+use Rattle.aug_core.specs.Effects.{own_lane}
+use Rattle.aug_core.specs.inside.RoundTables.{KnowsTable}
 use Rattle.aug_core.specs.declared.view.SeatView.{SeatView}
 use Rattle.aug_model.specs.declared.outcome.Outcome.{Outcome}
 use Rattle.aug_trie.specs.inside.Climbing.{Updated}

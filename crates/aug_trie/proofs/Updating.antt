@@ -6,7 +6,8 @@ use Rattle.aug_core.specs.Places.{Shape}
 use Rattle.aug_core.specs.Book.{Book, ArePrefixes, At, IsNewest, IsPassed}
 use Rattle.aug_core.specs.Kinds.{load_leaf, try_leaf}
 use Rattle.aug_core.specs.inside.Shows.{NewestShows, ShowsAtMost, Lifts}
-use Rattle.aug_core.specs.Effects.{HoldsOnly, KnowsTable, BeginsAtLeaf, TriesLeaf, changing, old_word, new_word, new_serial, made_by, KnowsSerial}
+use Rattle.aug_core.specs.Effects.{HoldsOnly, BeginsAtLeaf, TriesLeaf, changing, old_word, new_word, new_serial, made_by, KnowsSerial}
+use Rattle.aug_core.specs.inside.RoundTables.{KnowsTable}
 use Rattle.aug_core.specs.Layout.{IsLayout}
 use Rattle.aug_core.proofs.Fits.{few_serials}
 use Rattle.aug_core.proofs.Leaves.{hits_exactly}

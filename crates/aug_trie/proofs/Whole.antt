@@ -9,7 +9,8 @@ use Rattle.aug_core.specs.Addresses.{place_count, IsInner, left_of, right_of}
 use Rattle.aug_core.specs.Faces.{face}
 use Rattle.aug_core.specs.Book.{At, ArePrefixes, IsBook}
 use Rattle.aug_core.specs.inside.Refreshes.{HasEntry, HasNewest, SaysLoaded, Published}
-use Rattle.aug_core.specs.Effects.{KnowsTable, LoadsLeaf, LoadsNode, MayStore}
+use Rattle.aug_core.specs.Effects.{LoadsLeaf, LoadsNode, MayStore}
+use Rattle.aug_core.specs.inside.RoundTables.{KnowsTable}
 use Rattle.aug_core.specs.declared.view.SeatView.{SeatView}
 use Rattle.aug_core.proofs.Sizes.{twice}
 use Rattle.aug_core.proofs.EntryKeys.{are_small}

@@ -1,5 +1,5 @@
 -- A lead that looks for a part in which nobody reads.
-use Rattle.std.proofs.Common.{◌≡◌, ◌≢◌, ◌⊎◌, inl, inr, ℕ, zero, suc, ◌+◌, ◌-◌, ◌*◌, ◌/◌, ◌^◌, ◌<◌, ◌≤◌, List, [], ◌∷◌, ◌++◌, get_or, length, min, refl, sym, ap, ◌∙◌, subst, ⊎_elim, arith}
+use Rattle.std.proofs.Common.{◌≡◌, ◌≢◌, ◌⊎◌, inl, inr, ℕ, zero, suc, ◌+◌, ◌-◌, ◌*◌, ◌/◌, ◌^◌, ◌<◌, ◌≤◌, List, [], ◌∷◌, get_or, length, min, refl, sym, ap, ◌∙◌, subst, ⊎_elim, arith}
 use Rattle.std.proofs.Math.Nat.{min-le_right, mul-div_cancel}
 use Rattle.std.proofs.lemmas.Bool.{cases_eq}
 use mathlib.Core.Option.{some-injective}
@@ -11,7 +11,7 @@ use Rattle.aug_core.specs.Records.{Lists}
 use Rattle.aug_core.specs.inside.ClearParts.{IsClearPart}
 use Rattle.aug_core.specs.declared.step.StepTaken.{StepTaken}
 use Rattle.aug_core.specs.declared.view.SeatView.{SeatView}
-use Rattle.aug_core.proofs.Fits.{book_as, knows_same}
+use Rattle.aug_core.proofs.Fits.{book_as, table_as}
 use Rattle.aug_core.proofs.ReaderCounts.{lists_without}
 use Rattle.aug_words.specs.Leads.{IsNotTaken, MayOpen}
 use Rattle.aug_words.specs.declared.parts.Parts.{Parts}
@@ -160,5 +160,5 @@ module _ (face : ℕ → ℕ → List (ℕ × ℕ) → List ℕ) (a a' : TableId
     reads = seat.reads;
     no_lane = seat.no_lane;
     follows = seat.follows;
-    knows = knows_same face me.0 me.0.live me.0.also me.0.held me.0.spare me.0.began (me.0.steps ++ taken ∷ []) seat.knows;
+    knows = table_as face me.0 refl refl refl seat.knows;
   }

@@ -11,7 +11,7 @@ use Rattle.aug_words.specs.inside.Builds.{WritesFive}
 use Rattle.aug_core.specs.inside.OwnNumbers.{own_number}
 use Rattle.aug_words.specs.inside.Laying.{FreesLanes, NamesEntry, LaysNode, next_record, next_word}
 use Rattle.aug_words.proofs.Lays.{frees_more}
-use Rattle.aug_core.specs.Effects.{KnowsTable}
+use Rattle.aug_core.specs.inside.RoundTables.{KnowsTable}
 use Rattle.aug_core.specs.declared.view.SeatView.{SeatView}
 use Rattle.aug_core.proofs.Books.{plainly_named}
 

@@ -14,7 +14,7 @@ use Rattle.aug_monoid.specs.Weighted.{FitsPair}
 use Rattle.aug_core.specs.Addresses.{root_place}
 use Rattle.aug_core.specs.Book.{At, Book, history_of, IsBook}
 use Rattle.aug_core.specs.Cuts.{Cut, pairs_of_cut, serial_of, set_of_cut, weight_at}
-use Rattle.aug_core.specs.Effects.{KnowsTable}
+use Rattle.aug_core.specs.inside.RoundTables.{KnowsTable}
 use Rattle.aug_core.specs.Opening.{serial_entry}
 use Rattle.aug_core.specs.Places.{Shape}
 use Rattle.aug_core.specs.inside.EntryCuts.{entry_of}

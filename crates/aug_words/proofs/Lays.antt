@@ -22,10 +22,11 @@ use Rattle.aug_core.specs.declared.opening.TableKey.{TableKey}
 use Rattle.aug_core.specs.declared.step.StepTaken.{StepTaken}
 use Rattle.aug_core.specs.declared.view.LaneState.TheVariants.{Free}
 use Rattle.aug_core.specs.Lanes.{word_of_state}
-use Rattle.aug_core.specs.Effects.{Sat, Says, KnowsTable}
+use Rattle.aug_core.specs.Effects.{Sat, Says}
 use Rattle.aug_core.specs.inside.ClearParts.{IsClear}
 use Rattle.aug_core.specs.Eras.{table_part, Ruled}
 use Rattle.aug_core.proofs.Clients.{says_same}
+use Rattle.aug_core.proofs.Fits.{table_as}
 use Rattle.aug_core.proofs.Eras.{part_set, part_long, beside_set}
 use Rattle.aug_core.proofs.Renewals.{looks_beside, lays}
 use Rattle.atomic_table.specs.Table.{step, Allows}
@@ -152,9 +153,6 @@ module _ (base : ℕ) (s : Shape) where
 
 -- ---- a lead that brings it up to what it has seen
 
-pub knows_steps : (f : ℕ → ℕ → List (ℕ × ℕ) → List ℕ) (v : SeatView) (whole : List ℕ) (steps : List StepTaken) → KnowsTable f v → KnowsTable f record v { whole = whole; steps = steps }
-knows_steps f v whole steps kn = record { keeps_records = kn.keeps_records; laid_out = kn.laid_out; key_set = kn.key_set; members_fit = kn.members_fit; few_members = kn.few_members; book = kn.book; named = kn.named; opened = kn.opened; fits = kn.fits }
-
 module _ (base : ℕ) (s : Shape) where
   pub beside_on : (u v w : SeatView) → StepsBeside base s u v → StepsBeside base s v w → StepsBeside base s u w
   beside_on u v w a b = record {
@@ -197,7 +195,7 @@ module _ (base : ℕ) (s : Shape) where
       shaped = m.shaped;
       wide = m.wide;
       records_are = m.records_are;
-      knows = knows_steps f me.0 me'.0.whole me'.0.steps m.knows;
+      knows = table_as f me.0 refl refl refl m.knows;
       room = m.room;
     }
 

@@ -4,7 +4,8 @@ use Rattle.aug_core.proofs.Fits.{round_table}
 use Rattle.atomic_table.specs.Seated.{TableId}
 use Rattle.aug_core.specs.Addresses.{root_place}
 use Rattle.aug_core.specs.Cuts.{pairs_of_cut}
-use Rattle.aug_core.specs.Effects.{Sat, KnowsTable}
+use Rattle.aug_core.specs.Effects.{Sat}
+use Rattle.aug_core.specs.inside.RoundTables.{KnowsTable}
 use Rattle.aug_core.specs.Eras.{opening_with}
 use Rattle.aug_core.specs.Layout.{IsLayout}
 use Rattle.aug_core.specs.Opening.{Opening, opening_number}

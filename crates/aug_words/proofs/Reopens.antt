@@ -2,7 +2,8 @@
 use Rattle.std.proofs.Common.{◌≡◌, ℕ, ◌+◌, ◌-◌, ◌^◌, ◌<◌, ◌≤◌, ◌⊎◌, List, length, get_or, refl, sym, ap, ◌∙◌, subst, arith}
 use Rattle.aug_core.specs.Addresses.{place_count, root_place, level_of, place_on}
 use Rattle.aug_core.specs.Cuts.{Cut, pairs_of_cut}
-use Rattle.aug_core.specs.Effects.{KnowsTable, opening_of}
+use Rattle.aug_core.specs.Effects.{opening_of}
+use Rattle.aug_core.specs.inside.RoundTables.{KnowsTable}
 use Rattle.aug_core.specs.Opening.{Opening}
 use Rattle.aug_core.specs.Eras.{opening_with, table_part}
 use Rattle.aug_core.specs.Places.{Shape, word_count}

@@ -3,3 +3,4 @@ pub mod Builds
 pub mod Laying
 pub mod RestState
 pub mod SeatState
+pub mod Stocking

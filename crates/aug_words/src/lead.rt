@@ -4,7 +4,7 @@ ghost use Rattle.aug_core.specs.Faces.{face};
 ghost use Rattle.aug_core.specs.Addresses.{root_place};
 ghost use Rattle.aug_core.specs.Places.{lane_place, word_count};
 ghost use Rattle.aug_core.specs.Fields.{field_offset};
-ghost use Rattle.aug_core.specs.Effects.{GuardsRecord, KnowsBook, KnowsTable, taking, finishing, own_lane_place};
+ghost use Rattle.aug_core.specs.Effects.{GuardsRecord, KnowsBook, taking, finishing, own_lane_place};
 ghost use Rattle.aug_core.specs.Renewals.{Surveys};
 ghost use Rattle.aug_core.specs.inside.LaneStates.{MayTake, HasTakenLane};
 ghost use Rattle.aug_words.specs.Leads.{HandsLaneOut, MayOpen, Prepares, TakesLaneBack, TakesReader};
@@ -32,7 +32,7 @@ pub struct Lead<A: Monoid, B: Monoid> {
     pub(crate) base: usize,
     // The lane that is handed out next.
     pub(crate) next: u32,
-    // The number of the newest record of the root that the lead has seen.
+    // The root's word, as the lead last loaded it or as the table opened.
     pub(crate) root: u64,
     // What is laid out of the part in which the next era begins, if the table has room for all keys.
     pub(crate) draft: Draft,
@@ -95,17 +95,15 @@ fn finish_lane<A: Monoid, B: Monoid>(
 impl<A: Monoid, B: Monoid> Lead<A, B> {
     /// How many lanes were handed out.
     pub fn handed(&self) -> u32
-        ensures value { self.now.view.spare ≡ Some result }
-        ensures knows { KnowsBook (face A.parts B.parts) self.now.view }
+        ensures { self.now.view.spare ≡ Some result }
     {
         self.next
     }
 
-    /// The number of the root's record that its last load of the root found, or with which the table opened: the newest
-    /// that it knows.
+    /// The root's word that its last load of the root found, or with which the table opened: it names the newest record that it knows.
     pub fn root(&self) -> u64
         ensures value { NamesRoot self.now.view result }
-        ensures knows { self.now.view.shape.reservations ≡ 0 → KnowsTable (face A.parts B.parts) self.now.view }
+        ensures knows { KnowsBook (face A.parts B.parts) self.now.view }
     {
         self.root
     }
@@ -126,12 +124,12 @@ impl<A: Monoid, B: Monoid> Lead<A, B> {
         requires root { root ≡ self.old.view.base + root_place self.old.view.shape }
         ensures { StaysAt self.old self.new (Surveys (face A.parts B.parts) self.old.view (root_place self.old.view.shape) result self.new.view) }
     {
-        let number = words.load::<Survey<A, B>>(&mut self.seat, root);
-        self.root = number;
-        number
+        let found = words.load::<Survey<A, B>>(&mut self.seat, root);
+        self.root = found;
+        found
     }
 
-    /// Loads the root: the number of its newest record. The lead then knows all that was published, and with that the table met the rule. So once all
+    /// Loads the root's word, which names its newest record. The lead then knows all that was published, and with that the table met the rule. So once all
     /// passes are back, it knows all that they came to, while its table is still at work.
     pub fn survey(&mut self, words: &Words<A, B>) -> u64
         requires together { AreTogether words.now self.old }

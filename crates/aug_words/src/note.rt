@@ -54,7 +54,7 @@ impl<'r, A: Monoid, B: Monoid> WordPass<'r, A, B> {
         WordNote { seat }
     }
 
-    /// Takes in a note, and loads the root: the number of its newest record. The pass then knows all that it and the note had seen, where the
+    /// Takes in a note, and loads the root's word, which names its newest record. The pass then knows all that it and the note had seen, where the
     /// note is of its era. A note of an earlier era tells of one that is over.
     pub fn learn(&mut self, note: WordNote) -> u64
         requires table { note.table ≡ self.old.table }
@@ -65,7 +65,7 @@ impl<'r, A: Monoid, B: Monoid> WordPass<'r, A, B> {
         self.load_after_note()
     }
 
-    /// Learns what a reader had seen, as it learns a note of it, and loads the root: the number of its newest record. The reader stays as it is.
+    /// Learns what a reader had seen, as it learns a note of it, and loads the root's word. The reader stays as it is.
     pub fn follow(&mut self, reader: &mut WordReader<A, B>) -> u64
         requires table { reader.old.table ≡ self.old.table }
         ensures reader { reader.new ≡ reader.old }
@@ -121,7 +121,7 @@ impl<A: Monoid, B: Monoid> Lead<A, B> {
         ensures view { (found : ℕ) × LoadsNode (face A.parts B.parts) self.old.view (root_place self.old.view.shape) found self.new.view }
         ensures told { IfSome self.old.view.told (IsLearnt self.old.view.shape self.old.view.era self.old.view.past self.old.view.members) }
     {
-        let number = words.load::<LoadAfterNote<A, B>>(&mut self.seat, root);
-        self.root = number;
+        let found = words.load::<LoadAfterNote<A, B>>(&mut self.seat, root);
+        self.root = found;
     }
 }

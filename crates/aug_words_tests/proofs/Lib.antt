@@ -1,2 +1,3 @@
 mod StepTests
 mod LaneTests
+mod ReuseTests

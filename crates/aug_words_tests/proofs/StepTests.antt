@@ -1,10 +1,13 @@
 -- What the test of two passes on one node needs: a table of 1 bit has the leaves 0 and 1, and the node 2 over them.
-use Rattle.std.proofs.Common.{inl, ◌≡◌, ℕ, Bool, true, false, ◌+◌, ◌-◌, ◌*◌, ◌/◌, ◌%◌, ◌^◌, ◌<◌, ◌≤◌, eqb, if◌then◌else◌, List, [], ◌∷◌, ◌++◌, get_or, refl, sym, ap, ◌∙◌, subst, arith}
+use Rattle.std.proofs.Common.{inl, inr, ◌≡◌, ℕ, Bool, true, false, ◌+◌, ◌-◌, ◌*◌, ◌/◌, ◌%◌, ◌^◌, ◌<◌, ◌≤◌, eqb, if◌then◌else◌, List, [], ◌∷◌, ◌++◌, get_or, refl, sym, ap, ◌∙◌, subst, arith}
+use Rattle.aug_monoid.specs.Parts.{Parts}
+use Rattle.aug_core.specs.Faces.{face}
+use Rattle.aug_core.proofs.FaceLemmas.{left_in, right_in}
 use Rattle.aug_core.specs.Places.{Shape, shape_of, own_records}
 use Rattle.aug_core.specs.Addresses.{IsInner, left_of, right_of}
 use Rattle.aug_core.specs.Book.{IsSerial, IsBook, IsNewest}
 use Rattle.aug_core.specs.inside.Refreshes.{HasNewest, SaysLoaded}
-use Rattle.aug_core.specs.Effects.{MayStore, TriesLeaf, LoadsLeaf, BeginsAtLeaf, LoadsNode, IsFilled}
+use Rattle.aug_core.specs.Effects.{Covers, MayStore, TriesLeaf, LoadsLeaf, BeginsAtLeaf, LoadsNode, IsFilled}
 use Rattle.aug_core.specs.declared.view.Entry.{Entry}
 use Rattle.aug_core.specs.declared.view.SeatView.{SeatView}
 use Rattle.aug_core.proofs.Clients.{may_store_same, may_store_tried}
@@ -38,6 +41,13 @@ there_is : (key i word : ℕ) (e : Entry) → IsSerial key i e → e.word ≡ wo
 there_is key i word e is named =
     let of_leaf = is.named in let fits = is.fits in let odd : i % 2 ≡ word / 2 ^ 32 % 2 = omega arith in let weight : e.weight ≡ word % 2 ^ 32 = omega arith in
     is.there_if_odd ∙ (λ j. if eqb (odd j) 1 then (key, weight j) ∷ [] else [])
+
+-- the first two of five words over two children are those of the children
+pub first_is : {A B : Type 0} (a : Parts A) (b : Parts B) (five : List ℕ) (left right : ℕ) (pairs : List (ℕ × ℕ)) → five ≡ face a b left right pairs → get_or five 0 0 ≡ left
+first_is a b five left right pairs are = ap (λ (z : List ℕ). get_or z 0 0) are ∙ left_in a b left right pairs
+
+pub second_is : {A B : Type 0} (a : Parts A) (b : Parts B) (five : List ℕ) (left right : ℕ) (pairs : List (ℕ × ℕ)) → five ≡ face a b left right pairs → get_or five 1 0 ≡ right
+second_is a b five left right pairs are = ap (λ (z : List ℕ). get_or z 1 0) are ∙ right_in a b left right pairs
 
 -- what the first load of an update allows
 module _ (face : ℕ → ℕ → List (ℕ × ℕ) → List ℕ) (v w : SeatView) (key word : ℕ) (began : BeginsAtLeaf face v key word w) (inside : key < 2 ^ v.shape.bits) where
@@ -92,6 +102,9 @@ module _ (face : ℕ → ℕ → List (ℕ × ℕ) → List ℕ) (v v1 v2 v3 : S
   pub same_lane : v3.held ≡ v.held
   same_lane = ap (λ (z : SeatView). z.held) at_right.stepped ∙ ap (λ (z : SeatView). z.held) at_left.stepped ∙ ap (λ (z : SeatView). z.held) node.stepped
 
+  pub same_reserved : v3.reserved ≡ v.reserved
+  same_reserved = ap (λ (z : SeatView). z.reserved) at_right.stepped ∙ ap (λ (z : SeatView). z.reserved) at_left.stepped ∙ ap (λ (z : SeatView). z.reserved) node.stepped
+
   pub still_stores : (number : ℕ) → MayStore v number → MayStore v3 number
   still_stores number may = may_store_same v v3 number shape3 same_lane may
 
@@ -118,7 +131,7 @@ module _ (face : ℕ → ℕ → List (ℕ × ℕ) → List ℕ) (v v1 v2 v3 : S
     below_right : at_right.entry.pairs ≡ there 1 right
     below_right = let e : 2 ^ v.shape.bits ≡ 2 = ap (λ (b : ℕ). 2 ^ b) one in there_is 1 at_right.index right at_right.entry (book3.serials 1 at_right.index at_right.entry (omega arith) at_right.newest.at) (sym at_right.found)
 
-    says : SaysLoaded face v.shape v3.seen 2 from five
+    abbrev says : SaysLoaded face v.shape v3.seen 2 from five
     says = record {
       is_loaded = is_loaded face v.shape v1.seen v2.seen v3.seen v3.seen 2 from (get_or five 0 0) (get_or five 1 0) (node_inner v.shape one) at_left.sees.later at_right.sees.later (book_refl v3.seen) has_node has_left has_right node.sees.book;
       left_named = has_left.named;
@@ -126,6 +139,14 @@ module _ (face : ℕ → ℕ → List (ℕ × ℕ) → List ℕ) (v v1 v2 v3 : S
       five_are = are ∙ (λ i. face (sym first i) (sym second i) (sym below_left i ++ sym below_right i));
     }
 
-    pub may_publish : v.shape.reservations ≡ 0 → (number : ℕ) (may : MayStore v3 number) → IsFilled face (filled_view v3 number five) 2 from number
-    may_publish off number may = let off3 : v3.shape.reservations ≡ 0 = ap (λ (z : Shape). z.reservations) shape3 ∙ off in
-        is_filled v3 number five may face 2 from (subst (λ (z : Shape). SaysLoaded face z v3.seen 2 from five) (sym shape3) says) (inl off3) (inl off3) (inl off3)
+    -- leaves were made in no era
+    unborn : (at_left.entry.birth ≡ 0) × (at_right.entry.birth ≡ 0)
+    unborn = let e : 2 ^ v.shape.bits ≡ 2 = ap (λ (b : ℕ). 2 ^ b) one in ((book2.serials 0 at_left.index at_left.entry (omega arith) at_left.newest.at).unborn, (book3.serials 1 at_right.index at_right.entry (omega arith) at_right.newest.at).unborn)
+
+    pub may_publish : (number : ℕ) (may : MayStore v3 number) → Covers v3 2 node.index node.entry → IsFilled face (filled_view v3 number five) 2 from number
+    may_publish number may covers = let born = unborn in let a = born.0 in let b = born.1 in
+        is_filled v3 number five may face 2 from (subst (λ (z : Shape). SaysLoaded face z v3.seen 2 from five) (sym shape3) says) covers (inr (omega arith)) (inr (omega arith))
+
+  -- in a round there is nothing to ask
+  pub covers_round : v.shape.reservations ≡ 0 → Covers v3 2 node.index node.entry
+  covers_round off = inl (ap (λ (z : Shape). z.reservations) shape3 ∙ off)

@@ -12,6 +12,8 @@ mod replacing;
 #[cfg(test)]
 mod requests;
 #[cfg(test)]
+mod reusing;
+#[cfg(test)]
 mod steps;
 #[cfg(test)]
 mod tables;

@@ -3,6 +3,7 @@ ghost use Rattle.std.specs.Prelude.{◌≡◌, ◌<◌, ◌/◌, ◌%◌, ◌^�
 ghost use Rattle.aug_core.specs.Faces.{face};
 ghost use Rattle.aug_core.specs.Places.{shape_of};
 ghost use Rattle.aug_core.specs.Effects.{MayStore, MayChange, IsFilled};
+ghost use Rattle.aug_core.specs.inside.Refreshes.{stored};
 
 use super::tables::{assert_leaves, assert_nodes, assert_records, join, next_pass, table_of};
 use crate::assertions::equal;
@@ -12,7 +13,7 @@ use aug_words::{Rest, WordPass};
 use std::alloc::{AllocError, Global};
 
 // The word of the one node of a table of 1 bit.
-const NODE: usize = 2;
+pub(super) const NODE: usize = 2;
 
 // What one serial adds to a leaf's word.
 const SERIAL: u64 = 1 << 32;
@@ -32,7 +33,7 @@ fn insert<A: Monoid, B: Monoid>(pass: &mut WordPass<'_, A, B>, leaf: usize) -> b
 }
 
 // The five words of a record over the leaves of the keys 0 and 1, by their words.
-fn words_over<A: Monoid, B: Monoid>(left: u64, right: u64) -> [u64; 5]
+pub(super) fn words_over<A: Monoid, B: Monoid>(left: u64, right: u64) -> [u64; 5]
     ensures { let there : ℕ → ℕ → List (ℕ × ℕ) = λ key word. if word / 2 ^ 32 % 2 == 1 then (key, word % 2 ^ 32) ∷ [] else [] in
         result ≡ face A.parts B.parts left right (there 0 left ++ there 1 right) }
 {
@@ -55,7 +56,19 @@ fn words_of<A: Monoid, B: Monoid>(left: u64, right: u64, pairs: &[(u32, u32)]) -
     [left, right, pairs.len() as u64, a.to_word(), b.to_word()]
 }
 
-// Loads the node and then its two leaves, and fills the own record from them. Answers the number that was loaded.
+// Stores the five words of a record.
+pub(super) fn fill<A: Monoid, B: Monoid>(pass: &mut WordPass<'_, A, B>, number: u64, five: [u64; 5])
+    requires { MayStore pass.old.view number }
+    ensures { (pass.new.table ≡ pass.old.table) × (pass.new.view ≡ stored pass.old.view number five 5) }
+{
+    pass.store_record_word(number, RecordField::Left, five[0]);
+    pass.store_record_word(number, RecordField::Right, five[1]);
+    pass.store_record_word(number, RecordField::Count, five[2]);
+    pass.store_record_word(number, RecordField::A, five[3]);
+    pass.store_record_word(number, RecordField::B, five[4]);
+}
+
+// Loads the node and then its two leaves, and fills the own record from them. Answers the word that was loaded.
 fn refill<A: Monoid, B: Monoid>(pass: &mut WordPass<'_, A, B>, number: u64) -> u64
     requires bits { pass.old.view.shape.bits ≡ 1 }
     requires round { pass.old.view.shape.reservations ≡ 0 }
@@ -68,11 +81,7 @@ fn refill<A: Monoid, B: Monoid>(pass: &mut WordPass<'_, A, B>, number: u64) -> u
     let left = pass.load_leaf(0);
     let right = pass.load_leaf(1);
     let five = words_over::<A, B>(left, right);
-    pass.store_record_word(number, RecordField::Left, five[0]);
-    pass.store_record_word(number, RecordField::Right, five[1]);
-    pass.store_record_word(number, RecordField::Count, five[2]);
-    pass.store_record_word(number, RecordField::A, five[3]);
-    pass.store_record_word(number, RecordField::B, five[4]);
+    fill(pass, number, five);
     from
 }
 
@@ -144,7 +153,7 @@ fn race(alloc: Global) -> Result<Raced, AllocError>
 
 const LEAVES: &[(u32, u64)] = &[(0, 4_294_967_296), (1, 4_294_967_297)];
 
-const NODES: &[(u32, u32, u64)] = &[(1, 0, 2)];
+pub(super) const NODES: &[(u32, u32, u64)] = &[(1, 0, 2)];
 
 const RECORDS: &[(u64, [u64; 5])] = &[
     (1, [4_294_967_296, 4_294_967_297, 2, 1, 1]),

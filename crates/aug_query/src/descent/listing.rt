@@ -44,7 +44,10 @@ impl<A: Monoid, B: Monoid> Query<A, B> for Pairs {
 }
 
 /// Puts the members, rising, each with its weight, at the end of `list`, which has room for them.
-pub fn put_pairs<A: Monoid, B: Monoid, D: Descend<A, B>>(tree: &mut D, list: &mut Vec<(u32, u32)>)
+pub fn append_pairs<A: Monoid, B: Monoid, D: Descend<A, B>>(
+    tree: &mut D,
+    list: &mut Vec<(u32, u32)>,
+)
     requires room { vec_len list.old + length (D.set_of tree.old).pairs ≤ vec_capacity list.old }
     ensures answer { list.new.items ≡ list.old.items ++ (D.set_of tree.old).pairs }
     ensures room { vec_capacity list.new ≡ vec_capacity list.old }

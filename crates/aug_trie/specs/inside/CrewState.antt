@@ -4,7 +4,7 @@ use Rattle.aug_core.specs.Counts.{changes_of}
 use Rattle.aug_core.specs.declared.view.SeatView.{SeatView}
 use Rattle.aug_words.specs.Leads.{MayOpen}
 use Rattle.aug_words.specs.Seats.{Known}
-use Rattle.aug_core.specs.Effects.{KnowsTable}
+use Rattle.aug_core.specs.inside.RoundTables.{KnowsTable}
 use Rattle.aug_trie.specs.Knowledge.{inserts_of, removals_of}
 use Rattle.aug_trie.specs.inside.Knows.{knows, KnowsRound}
 use Rattle.aug_trie.specs.inside.RoundState.{round_of, past_rounds}

@@ -5,7 +5,8 @@ use Rattle.aug_monoid.specs.Fold.{fold_of}
 use Rattle.aug_core.specs.Places.{Shape, record_words}
 use Rattle.aug_core.specs.Book.{At, ArePrefixes, IsFresh}
 use Rattle.aug_core.specs.Counts.{changes_of}
-use Rattle.aug_core.specs.Effects.{HoldsOnly, MayStore, own_lane, KnowsTable}
+use Rattle.aug_core.specs.Effects.{HoldsOnly, MayStore, own_lane}
+use Rattle.aug_core.specs.inside.RoundTables.{KnowsTable}
 use Rattle.aug_core.specs.inside.Refreshes.{Refreshed}
 use Rattle.aug_core.specs.declared.step.StepTaken.{StepTaken}
 use Rattle.aug_core.specs.declared.view.Change.{Change}

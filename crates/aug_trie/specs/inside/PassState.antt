@@ -1,7 +1,8 @@
 -- What the fields of a pass keep, and how the value that contracts see of it is made of them.
 use Rattle.std.specs.Prelude.{◌≡◌, ℕ, ◌+◌, ◌-◌, ◌*◌, ◌^◌, ◌<◌, ◌≤◌, Option, Some, unwrap_or, List, [], length}
 use Rattle.aug_core.specs.Counts.{changes_of}
-use Rattle.aug_core.specs.Effects.{KnowsTable, own_lane, spent}
+use Rattle.aug_core.specs.Effects.{own_lane, spent}
+use Rattle.aug_core.specs.inside.RoundTables.{KnowsTable}
 use Rattle.aug_words.specs.Seats.{Known}
 use Rattle.aug_core.specs.declared.view.SeatView.{SeatView}
 use Rattle.aug_trie.specs.declared.rounds.account.Account.{Account}

@@ -5,7 +5,8 @@ use Rattle.aug_core.specs.Places.{record_words}
 use Rattle.aug_core.specs.Addresses.{IsInner, left_of, right_of}
 use Rattle.aug_core.specs.Book.{ArePrefixes}
 use Rattle.aug_core.specs.inside.Refreshes.{HasNewest, SaysLoaded, stored}
-use Rattle.aug_core.specs.Effects.{KnowsTable, Says, own_lane}
+use Rattle.aug_core.specs.Effects.{Says, own_lane}
+use Rattle.aug_core.specs.inside.RoundTables.{KnowsTable}
 use Rattle.aug_core.specs.declared.step.StepTaken.{StepTaken}
 use Rattle.aug_core.specs.declared.view.SeatView.{SeatView}
 use Rattle.aug_trie.specs.inside.RoundState.{eras_of}

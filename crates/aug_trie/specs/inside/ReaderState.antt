@@ -1,6 +1,6 @@
 -- What the fields of a reader keep.
 use Rattle.std.specs.Prelude.{◌≡◌, ℕ, Option, Some, List}
-use Rattle.aug_core.specs.Effects.{KnowsTable}
+use Rattle.aug_core.specs.inside.RoundTables.{KnowsTable}
 use Rattle.aug_words.specs.Seats.{Known}
 
 -- a reader that has its words, which knows its table

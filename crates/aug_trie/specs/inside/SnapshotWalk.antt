@@ -1,6 +1,6 @@
 -- What a walk over a snapshot keeps of the words of its pass, and which names of nodes it has.
 use Rattle.std.specs.Prelude.{◌≡◌, ℕ, ◌+◌, ◌*◌, ◌≤◌, Option, Some, List, ◌++◌, length}
-use Rattle.aug_core.specs.Effects.{KnowsTable}
+use Rattle.aug_core.specs.inside.RoundTables.{KnowsTable}
 use Rattle.aug_core.specs.declared.step.StepTaken.{StepTaken}
 use Rattle.aug_core.specs.declared.view.SeatView.{SeatView}
 use Rattle.aug_model.specs.Keys.{SetFacts}

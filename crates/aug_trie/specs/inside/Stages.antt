@@ -5,7 +5,8 @@ use Rattle.aug_core.specs.Book.{history_of}
 use Rattle.aug_core.specs.Counts.{changes_of}
 use Rattle.aug_core.specs.inside.Shows.{above, Lifts}
 use Rattle.aug_core.specs.inside.Refreshes.{NewestCovers}
-use Rattle.aug_core.specs.Effects.{own_lane, KnowsTable, BeginsAtLeaf}
+use Rattle.aug_core.specs.Effects.{own_lane, BeginsAtLeaf}
+use Rattle.aug_core.specs.inside.RoundTables.{KnowsTable}
 use Rattle.aug_core.specs.declared.view.SeatView.{SeatView}
 use Rattle.aug_trie.specs.inside.RoundState.{eras_of}
 use Rattle.aug_trie.specs.inside.Goes.{Goes, Took, TookBetween, HasRoom, part_words, part_steps, try_steps, level_steps, least_rise_steps}

@@ -1,6 +1,6 @@
 //! Two snapshots as a comparison walks them at once, over the words of whoever has taken them.
 ghost use Rattle.std.specs.Prelude.{◌≡◌, ℕ, ◌+◌, ◌*◌};
-ghost use Rattle.aug_core.specs.Effects.{KnowsTable};
+ghost use Rattle.aug_core.specs.inside.RoundTables.{KnowsTable};
 ghost use Rattle.aug_core.specs.Faces.{face};
 ghost use Rattle.aug_model.specs.Queries.{weight_of};
 ghost use Rattle.aug_trie.specs.inside.BothWalk.{IsBothWalk, top_of};

@@ -3,7 +3,8 @@
 ghost use Rattle.std.specs.Prelude.{◌≡◌, ℕ, ◌+◌, ◌*◌, ◌^◌, ◌<◌, ◌≤◌, length};
 ghost use Rattle.aug_core.specs.Cuts.{set_of_cut};
 ghost use Rattle.aug_core.specs.Faces.{face};
-ghost use Rattle.aug_core.specs.Effects.{GuardsRecord, KnowsTable};
+ghost use Rattle.aug_core.specs.Effects.{GuardsRecord};
+ghost use Rattle.aug_core.specs.inside.RoundTables.{KnowsTable};
 ghost use Rattle.aug_core.specs.Fields.{field_offset};
 ghost use Rattle.aug_words.specs.Seats.{Known, LoadsRecordWord};
 ghost use Rattle.aug_model.specs.NodeKeys.{keys_below};

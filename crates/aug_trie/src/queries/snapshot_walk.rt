@@ -1,6 +1,6 @@
 //! A snapshot as a descent walks it, over the words of its pass, of its crew or of a reader.
 ghost use Rattle.std.specs.Prelude.{◌≡◌, Some};
-ghost use Rattle.aug_core.specs.Effects.{KnowsTable};
+ghost use Rattle.aug_core.specs.inside.RoundTables.{KnowsTable};
 ghost use Rattle.aug_core.specs.Faces.{face};
 ghost use Rattle.aug_words.specs.Seats.{AreTogether, NamesRoot};
 ghost use Rattle.aug_trie.specs.inside.SnapshotWalk.{HasWalk, IsWalk};
@@ -96,7 +96,6 @@ impl<'r, A: Monoid, B: Monoid> SnapshotWalk<CrewWords<'r, A, B>, A, B> {
         requires knows { KnowsTable (face A.parts B.parts) lead.view }
         ensures words { result.words ≡ lead }
         ensures newest { NamesRoot lead.view result.snapshot.number }
-        ensures knows { KnowsTable (face A.parts B.parts) lead.view }
     {
         let number = lead.root();
         SnapshotWalk::over(CrewWords { lead, words }, Snapshot { number }, bits)

@@ -184,7 +184,7 @@ impl<A: Monoid, B: Monoid> Crew<A, B> {
             unreachable!()
         };
         let mut walk = SnapshotWalk::of_crew(lead, &round.words, round.layout.bits());
-        descent::put_pairs(&mut walk, list);
+        descent::append_pairs(&mut walk, list);
         self.lead = Some(walk.into_lead());
     }
 

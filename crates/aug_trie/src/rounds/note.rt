@@ -31,7 +31,7 @@ pub struct Note<A: Monoid, B: Monoid> {
 
 impl<A: Monoid, B: Monoid> Model for Note<A, B> {
     ghost use Rattle.aug_core.specs.Faces.{face};
-    ghost use Rattle.aug_core.specs.Effects.{KnowsTable};
+    ghost use Rattle.aug_core.specs.inside.RoundTables.{KnowsTable};
     ghost use Rattle.aug_trie.specs.Note.{NoteFacts};
     ghost use Rattle.aug_trie.specs.inside.NoteState.{note_facts};
 

@@ -2,7 +2,8 @@
 ghost use Rattle.std.specs.Prelude.{◌≡◌, ◌+◌, ◌*◌, ◌^◌, ◌<◌, ◌≤◌, All, length, drop};
 ghost use Rattle.aug_core.specs.Faces.{face};
 ghost use Rattle.aug_core.specs.Counts.{changes_of};
-ghost use Rattle.aug_core.specs.Effects.{MayChange, KnowsTable};
+ghost use Rattle.aug_core.specs.Effects.{MayChange};
+ghost use Rattle.aug_core.specs.inside.RoundTables.{KnowsTable};
 ghost use Rattle.aug_words.specs.Seats.{StaysAt};
 ghost use Rattle.aug_trie.specs.UpdateBatches.{apart};
 ghost use Rattle.aug_trie.specs.inside.Climbing.{FitsRequest};

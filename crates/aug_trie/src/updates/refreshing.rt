@@ -2,7 +2,8 @@
 ghost use Rattle.std.specs.Prelude.{◌≡◌, ℕ, ◌+◌, ◌^◌, ◌<◌, [], ◌∷◌, slice_index, false};
 ghost use Rattle.aug_core.specs.Faces.{face};
 ghost use Rattle.aug_core.specs.Addresses.{place_count, IsInner};
-ghost use Rattle.aug_core.specs.Effects.{KnowsTable, MayStore};
+ghost use Rattle.aug_core.specs.Effects.{MayStore};
+ghost use Rattle.aug_core.specs.inside.RoundTables.{KnowsTable};
 ghost use Rattle.aug_core.specs.inside.Refreshes.{HasNewest, SaysLoaded, Published};
 ghost use Rattle.aug_words.specs.Seats.{StaysAt};
 ghost use Rattle.aug_trie.specs.inside.Goes.{Goes, Took, HasRoom, KnowsLeaves, publish_steps};

@@ -2,7 +2,7 @@
 ghost use Rattle.std.specs.Prelude.{◌≡◌, ℕ, ◌+◌, ◌*◌, ◌^◌, ◌<◌, ◌≤◌, Bool, true, false, if◌then◌else◌, length};
 ghost use Rattle.aug_core.specs.Faces.{face};
 ghost use Rattle.aug_core.specs.Counts.{changes_of};
-ghost use Rattle.aug_core.specs.Effects.{KnowsTable};
+ghost use Rattle.aug_core.specs.inside.RoundTables.{KnowsTable};
 ghost use Rattle.aug_model.specs.declared.outcome.Outcome.TheVariants as outcome;
 ghost use Rattle.aug_trie.specs.inside.Climbing.{UpdatedFrom, FitsRequest};
 ghost use Rattle.aug_trie.specs.inside.Goes.{HasLeaves, HasRoom};

@@ -8,7 +8,8 @@ use Rattle.aug_core.specs.Places.{Shape, lane_place, record_start, record_words,
 use Rattle.aug_core.specs.Prefixes.{IsPrefix}
 use Rattle.aug_core.specs.Book.{Book, At}
 use Rattle.aug_core.specs.Cuts.{pairs_of_cut, Cut}
-use Rattle.aug_core.specs.Effects.{Sat, KnowsTable}
+use Rattle.aug_core.specs.Effects.{Sat}
+use Rattle.aug_core.specs.inside.RoundTables.{KnowsTable}
 use Rattle.aug_core.specs.Eras.{table_part, IsBeside, opening_with}
 use Rattle.aug_core.specs.Addresses.{place_count, IsInner, level_of, place_on, left_of, right_of}
 use Rattle.aug_core.specs.Lanes.{word_of_state}

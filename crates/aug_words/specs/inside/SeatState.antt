@@ -4,7 +4,8 @@ use Rattle.atomic_table.specs.Seated.{TableId}
 use Rattle.aug_core.specs.Places.{Shape, lane_place, record_start, word_count}
 use Rattle.aug_core.specs.Layout.{IsLayout}
 use Rattle.aug_core.specs.Book.{At}
-use Rattle.aug_core.specs.Effects.{Sat, HoldsOnly, KnowsBook, KnowsTable}
+use Rattle.aug_core.specs.Effects.{Sat, HoldsOnly, KnowsBook}
+use Rattle.aug_core.specs.inside.RoundTables.{KnowsTable}
 use Rattle.aug_core.specs.Readers.{times_in}
 use Rattle.aug_core.specs.Records.{Lists}
 use Rattle.aug_core.specs.declared.opening.TableKey.{TableKey}

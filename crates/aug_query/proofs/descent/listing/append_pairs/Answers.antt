@@ -2,7 +2,7 @@ use Rattle.std.proofs.Common.{◌∙◌, ◌++◌, ap, arith}
 use Rattle.aug_model.proofs.Pairs.{length-keys_of}
 use Rattle.aug_query.proofs.Choosing.{whole_length, listed_after, whole_descends}
 use Rattle.aug_query.proofs.Listed.{pairs-listed}
-use Rattle.aug_query.proofs.descent.listing.put_pairs.Goals as goal
+use Rattle.aug_query.proofs.descent.listing.append_pairs.Goals as goal
 
 pub list_members-requires-clause-room : goal.list_members-requires-clause-room
 list_members-requires-clause-room g c =

@@ -1,0 +1,112 @@
+-- The records of a lane as its pass keeps them, in a table that uses records again: first those that it may write, then those that it replaced since it last
+-- retired any, and then those that wait until no reservation holds them. In a table of 1 bit and two lanes with the records of three updates each, lane 1
+-- opens with the records 5, 6 and 7, all of which it may write. Once it published 7 in place of the root's record 1, it may write 5 and 6, and the third is 1.
+use Rattle.std.specs.Prelude.{◌≡◌, ℕ, suc, zero, ◌+◌, ◌*◌, ◌/◌, ◌%◌, ◌^◌, ◌<◌, ◌≤◌, max, true, Some, None, List, [], ◌∷◌, ◌++◌, length, slice_index}
+use Rattle.aug_core.specs.Places.{Shape, record_count, record_words, era_place, reservation_place}
+use Rattle.aug_core.specs.Lanes.{first_record, lane_records}
+use Rattle.aug_core.specs.Kinds.{load_era, load_reservation}
+use Rattle.aug_core.specs.Records.{Lists, IsClosed, floor_of}
+use Rattle.aug_core.specs.Effects.{HoldsOnly, MayStore, birth_of, own_lane}
+use Rattle.aug_core.specs.Reclaiming.{holds_in}
+use Rattle.aug_core.specs.declared.step.StepTaken.{StepTaken}
+use Rattle.aug_core.specs.declared.view.Held.{Held}
+use Rattle.aug_core.specs.declared.view.Owned.{Owned}
+use Rattle.aug_core.specs.declared.view.Replaced.{Replaced}
+use Rattle.aug_core.specs.declared.view.Reserved.{Reserved}
+use Rattle.aug_core.specs.declared.view.SeatView.{SeatView}
+
+-- the word that names a record where records are used again, by its birth and its number; and these two by the word
+abbrev pub naming : ℕ → ℕ → ℕ
+naming birth number = birth * 2 ^ 24 + number
+
+abbrev pub number_in_word : ℕ → ℕ
+number_in_word word = word % 2 ^ 24
+
+abbrev pub birth_in_word : ℕ → ℕ
+birth_in_word word = word / 2 ^ 24
+
+-- a stock: the words that name its records, for each that waits the era in which it was retired, how many it may write, how many were replaced and not
+-- retired yet, and the era that is reserved, or 0
+pub record StockFacts : Type 0 where
+  pub words : List ℕ
+  pub deaths : List ℕ
+  pub free : ℕ
+  pub replaced : ℕ
+  pub era : ℕ
+
+-- a lane is as it was handed out, and nothing is reserved
+pub record OpensStock (v : SeatView) : Type 0 where
+  pub lane : Held
+  pub only : HoldsOnly v lane
+  pub owns : (k : ℕ) → k < lane_records v.shape → MayStore v (first_record v.shape lane.lane + k)
+  pub replaced : lane.replaced ≡ []
+  pub none : v.reserved ≡ None
+
+-- the record was replaced from the lane, which does not own it yet
+pub record HasReplaced (s : Shape) (h : Held) (word : ℕ) : Type 0 where
+  pub entry : Replaced
+  pub listed : Lists h.replaced entry
+  pub named : word ≡ naming entry.birth entry.number
+  pub exists : entry.number < record_count s
+
+-- the lane owns the record, which was retired in this era
+pub record HasWaiting (s : Shape) (h : Held) (word death : ℕ) : Type 0 where
+  pub own : Owned
+  pub listed : Lists h.owned own
+  pub named : word ≡ naming own.life.birth own.number
+  pub died : death ≡ own.life.death
+  pub exists : own.number < record_count s
+  pub long : length own.words ≡ record_words
+  pub scanned : own.life.scanned ≤ s.reservations
+
+-- the stock is that of the view's lane
+pub record Stocks (v : SeatView) (k : StockFacts) : Type 0 where
+  pub lane : Held
+  pub only : HoldsOnly v lane
+  pub used : 0 < v.shape.reservations
+  pub numbers : record_count v.shape ≤ 2 ^ 24
+  pub era : k.era ≡ birth_of v
+  -- each of its records is one of the lane's
+  pub free : (i : ℕ) → i < k.free → MayStore v (number_in_word (slice_index k.words i))
+  pub replaced : (i : ℕ) → k.free ≤ i → i < k.free + k.replaced → HasReplaced v.shape lane (slice_index k.words i)
+  pub waits : (i : ℕ) → k.free + k.replaced ≤ i → i < length k.words → HasWaiting v.shape lane (slice_index k.words i) (slice_index k.deaths i)
+  -- all that were replaced are there
+  pub counted : length lane.replaced ≡ k.replaced
+  -- and each is there once
+  pub once : (i j : ℕ) → i < length k.words → j < length k.words → number_in_word (slice_index k.words i) ≡ number_in_word (slice_index k.words j) → i ≡ j
+
+-- the steps that load the first reservations
+abbrev pub scan_steps : Shape → (ℕ → ℕ) → ℕ → List StepTaken
+scan_steps s eras zero = []
+scan_steps s eras (suc n) = scan_steps s eras n ++ load_reservation (reservation_place s n) (eras n) ∷ []
+
+-- a record that was made and retired in these eras is held by a reservation of this one
+abbrev pub IsHeld : ℕ → ℕ → ℕ → Type 0
+IsHeld era birth death = holds_in era (record { birth = birth; death = death; scanned = 0 }) ≡ true
+
+-- all reservations were loaded. What still waits is held by one that was found
+pub record Scans (v : SeatView) (k : StockFacts) (w : SeatView) (after : StockFacts) : Type 0 where
+  pub eras : ℕ → ℕ
+  pub steps : w.steps ≡ v.steps ++ scan_steps v.shape eras v.shape.reservations
+  pub same : w ≡ record v { held = w.held; steps = w.steps }
+  pub frees : k.free ≤ after.free
+  pub keeps : (length after.words ≡ length k.words) × (after.replaced ≡ k.replaced)
+  pub held : (i : ℕ) → after.free ≤ i → i < length after.words → (slot : ℕ) × (slot < v.shape.reservations) × IsHeld (eras slot) (birth_in_word (slice_index after.words i)) (slice_index after.deaths i)
+
+-- the view loaded the era and reserved it, and makes records in it from then on. No era is before 1, to which the first who finds 0 moves it on
+pub record ReservesAnew (v w : SeatView) (era : ℕ) : Type 0 where
+  pub now : Reserved
+  pub same : w ≡ record v { reserved = Some now; reached = w.reached; steps = w.steps }
+  pub found : ℕ
+  pub more : List StepTaken
+  pub steps : w.steps ≡ v.steps ++ load_era (era_place v.shape) found ∷ more
+  pub few : length more ≤ 2
+  pub era_found : era ≡ max found 1
+  pub slot : now.slot ≡ own_lane v.held
+  pub era_is : now.era ≡ era
+  pub closed : IsClosed v.shape v.seen (floor_of now)
+
+-- the era that was found is too great for the word that names a record; nothing was reserved
+pub record IsLate (v w : SeatView) : Type 0 where
+  pub same : w ≡ record v { reached = w.reached; steps = w.steps }
+  pub late : 2 ^ 40 ≤ w.reached

@@ -14,6 +14,7 @@ use Rattle.aug_core.specs.declared.view.Owned.{Owned}
 use Rattle.aug_core.specs.declared.view.Replaced.{Replaced}
 use Rattle.aug_core.specs.declared.view.Reserved.{Reserved}
 use Rattle.aug_core.specs.declared.view.SeatView.{SeatView}
+use Rattle.aug_words.specs.Reservations.{LoadsEra}
 
 -- the word that names a record where records are used again, by its birth and its number; and these two by the word
 abbrev pub naming : ℕ → ℕ → ℕ
@@ -106,7 +107,8 @@ pub record ReservesAnew (v w : SeatView) (era : ℕ) : Type 0 where
   pub era_is : now.era ≡ era
   pub closed : IsClosed v.shape v.seen (floor_of now)
 
--- the era that was found is too great for the word that names a record; nothing was reserved
+-- the era that was found is too great for the word that names a record, and nothing more was done
 pub record IsLate (v w : SeatView) : Type 0 where
-  pub same : w ≡ record v { reached = w.reached; steps = w.steps }
-  pub late : 2 ^ 40 ≤ w.reached
+  pub found : ℕ
+  pub loaded : LoadsEra v found w
+  pub late : 2 ^ 40 ≤ found

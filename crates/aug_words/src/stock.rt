@@ -2,7 +2,7 @@
 ghost use Rattle.std.specs.Prelude.{◌≡◌, ◌<◌, ◌≤◌, ◌+◌, ◌-◌, ◌^◌, ◌/◌, ℕ, true, false, length, slice_index, slice_set, IfOk};
 ghost use Rattle.std.specs.Bool.{OnTrue, OnFalse};
 ghost use Rattle.aug_core.specs.Addresses.{IsInner};
-ghost use Rattle.aug_core.specs.Effects.{MayStore, IsFilled};
+ghost use Rattle.aug_core.specs.Effects.{IsFilled};
 ghost use Rattle.aug_core.specs.Faces.{face};
 ghost use Rattle.aug_core.specs.Lanes.{lane_records};
 ghost use Rattle.aug_core.specs.Reclaiming.{releasing, own_reservation};
@@ -17,9 +17,10 @@ use aug_monoid::Monoid;
 use std::alloc::{AllocError, Global};
 use std::marker::Model;
 
-// How many reservations a table has at most, and from which era on there is no room for one in the word that names a record.
+// How many reservations a table has at most.
 const MAX_RESERVATIONS: usize = 64;
 
+// The first era for which the word that names a record has no room.
 const ERAS: u64 = 1 << 40;
 
 // The number and the birth of a record, by the word that names it.
@@ -199,7 +200,7 @@ impl Stock {
         era
     }
 
-    /// HasLoaded all reservations. Of the records that wait, those that none of these holds may be written.
+    /// Loads all reservations. Of the records that wait, those that none of these holds may be written.
     pub fn scan<A: Monoid, B: Monoid>(&mut self, pass: &mut WordPass<A, B>, words: &Words<A, B>)
         requires together { AreTogether words.now pass.old }
         requires slots { HasReservations pass.old.view }

@@ -2,10 +2,9 @@
 //! pass may read is the same each time, and what it may write it spoils before it fills it.
 ghost use Rattle.std.specs.Prelude.{◌≡◌, ◌<◌, ◌≤◌, ◌+◌, ◌-◌, ℕ, Some, IfOk, IfSome, true, false, slice_index};
 ghost use Rattle.aug_core.specs.Faces.{face};
-ghost use Rattle.aug_core.specs.Places.{Shape};
 ghost use Rattle.aug_core.specs.Effects.{IsFilled};
 ghost use Rattle.aug_core.specs.declared.view.Reserved.{Reserved};
-ghost use Rattle.aug_words.specs.Seats.{AreTogether, IsNextLane};
+ghost use Rattle.aug_words.specs.Seats.{AreTogether};
 ghost use Rattle.aug_words.specs.Stocks.{Stocks, number_in_word};
 ghost use Rattle.aug_words_tests.specs.Reuse.{IsSmall};
 

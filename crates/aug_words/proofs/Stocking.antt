@@ -5,8 +5,6 @@ use Rattle.std.proofs.lemmas.Bool.{cases_eq, cases_lt}
 use Rattle.std.proofs.lemmas.List.{append-nil, map-id}
 use Rattle.std.proofs.lemmas.List.FromFn.{length-map-range_with_len}
 use mathlib.Core.Bool.{false≢true}
-use mathlib.Core.Option.{none, some}
-use lib.ListN.{get_elem?}
 use Rattle.aug_core.specs.Places.{Shape, record_start, record_count, record_words, era_place, reservation_place}
 use Rattle.aug_core.specs.Lanes.{first_record, lane_records, new_lane}
 use Rattle.aug_core.specs.declared.view.LaneState.TheVariants.{Taken}
@@ -25,6 +23,7 @@ use Rattle.aug_core.specs.declared.view.Replaced.{Replaced}
 use Rattle.aug_core.specs.declared.view.Reserved.{Reserved}
 use Rattle.aug_core.specs.declared.view.SeatView.{SeatView}
 use Rattle.aug_core.specs.inside.Refreshes.{stored}
+use Rattle.aug_core.proofs.Counting.{at_longer, at_after}
 use Rattle.aug_core.proofs.Owning.{map_listed, filter_listed, with_long}
 use Rattle.aug_core.proofs.Clients.{after_store, new_lane_owns, may_store_same, may_store_publishing}
 use Rattle.aug_words.specs.Seats.{IsNextLane, TriedNode}
@@ -39,16 +38,7 @@ number_named birth number low = omega arith
 pub birth_named : (birth number : ℕ) → number < 2 ^ 24 → birth_in_word (naming birth number) ≡ birth
 birth_named birth number low = omega arith
 
--- ---- what stands in a list that is longer
-
-append_left : {A : Type 0} (xs ys : List A) (x : A) (i : ℕ) → get_elem? xs i ≡ some x → Lists (xs ++ ys) x
-append_left [] ys x i e = absurd (let clash : none ≡ some x = e in cc)
-append_left (y ∷ xs) ys x zero e = (0, e)
-append_left (y ∷ xs) ys x (suc i) e = let t = append_left xs ys x i e in (suc t.0, t.1)
-
-append_right : {A : Type 0} (xs ys : List A) (x : A) → Lists ys x → Lists (xs ++ ys) x
-append_right [] ys x t = t
-append_right (y ∷ xs) ys x t = let u = append_right xs ys x t in (suc u.0, u.1)
+-- ---- lists that were mapped
 
 map_twice : (f g : Owned → Owned) (xs : List Owned) → map f (map g xs) ≡ map (λ x. f (g x)) xs
 map_twice f g [] = refl
@@ -251,8 +241,8 @@ module _ (v w : SeatView) (k : StockFacts) (book : Book) (number old : ℕ) (tak
     free = λ i low. subst (λ (z : ℕ). MayStore (publishing v book number taken) (number_in_word z)) (sym (there i (λ same. absurd (omega arith))))
         (may_store_publishing v (publishing v book number taken) book number (number_in_word (get_or k.words i 0)) taken refl (not_next i (omega arith) (λ same. absurd (omega arith))) (s.free i (omega arith)));
     replaced = λ i past low. ⊎_elim
-        (λ (at : i ≡ last). record { entry = mark; listed = append_right s.lane.replaced (mark ∷ []) mark (0, refl); named = ap (λ (z : ℕ). get_or words' z 0) at ∙ here ∙ named; exists = its.exists })
-        (λ ne. let t = s.replaced i (omega (arith, ne)) (omega arith) in record { entry = t.entry; listed = append_left s.lane.replaced (mark ∷ []) t.entry t.listed.0 t.listed.1; named = there i ne ∙ t.named; exists = t.exists }) (cases_eq i last);
+        (λ (at : i ≡ last). record { entry = mark; listed = (length s.lane.replaced + 0, at_after s.lane.replaced (mark ∷ []) 0 mark refl); named = ap (λ (z : ℕ). get_or words' z 0) at ∙ here ∙ named; exists = its.exists })
+        (λ ne. let t = s.replaced i (omega (arith, ne)) (omega arith) in record { entry = t.entry; listed = (t.listed.0, at_longer s.lane.replaced (mark ∷ []) t.listed.0 t.entry t.listed.1); named = there i ne ∙ t.named; exists = t.exists }) (cases_eq i last);
     waits = λ i past low. let inside : i < length k.words = subst (λ (z : ℕ). i < z) (length-set k.words last old) low in let t = s.waits i (omega arith) inside in let ne : i ≢ last = λ same. absurd (omega arith) in
         let exists = t.exists in let numbers = s.numbers in let mine : t.own.number ≢ number = λ same. not_next i inside ne (ap number_in_word t.named ∙ number_named t.own.life.birth t.own.number (omega arith) ∙ same) in record {
           own = t.own;
@@ -280,7 +270,7 @@ stocks_retired v w k deaths era taken s is now before = subst (λ (z : SeatView)
     lane = retiring_in era may.lane;
     only = ap (on_first (retiring_in era)) may.only;
     own = may.own;
-    listed = append_left may.lane.owned (map (retired_in era) may.lane.replaced) may.own may.listed.0 may.listed.1;
+    listed = (may.listed.0, at_longer may.lane.owned (map (retired_in era) may.lane.replaced) may.listed.0 may.own may.listed.1);
     numbered = may.numbered;
     exists = may.exists;
     long = may.long;
@@ -290,7 +280,7 @@ stocks_retired v w k deaths era taken s is now before = subst (λ (z : SeatView)
   waits = λ i past low. ⊎_elim
       (λ (early : i < k.free + k.replaced). let t = s.replaced i (omega arith) early in record {
         own = retired_in era t.entry;
-        listed = append_right s.lane.owned (map (retired_in era) s.lane.replaced) (retired_in era t.entry) (map_listed (retired_in era) s.lane.replaced t.entry t.listed);
+        listed = let m = map_listed (retired_in era) s.lane.replaced t.entry t.listed in (length s.lane.owned + m.0, at_after s.lane.owned (map (retired_in era) s.lane.replaced) m.0 (retired_in era t.entry) m.1);
         named = t.named;
         died = now i (omega arith) early;
         exists = t.exists;
@@ -299,7 +289,7 @@ stocks_retired v w k deaths era taken s is now before = subst (λ (z : SeatView)
       })
       (λ late. let t = s.waits i late low in record {
         own = t.own;
-        listed = append_left s.lane.owned (map (retired_in era) s.lane.replaced) t.own t.listed.0 t.listed.1;
+        listed = (t.listed.0, at_longer s.lane.owned (map (retired_in era) s.lane.replaced) t.listed.0 t.own t.listed.1);
         named = t.named;
         died = before i late ∙ t.died;
         exists = t.exists;

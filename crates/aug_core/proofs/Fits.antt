@@ -1,5 +1,5 @@
 -- No serial is past the updates of all workers, and what a step that shows the whole book tells.
-use Rattle.std.proofs.Common.{◌∙◌, ◌≡◌, ℕ, suc, ◌*◌, ◌^◌, ◌<◌, ◌≤◌, Bool, true, false, if◌then◌else◌, List, [], ◌∷◌, length, get_or, All, refl, sym, subst, arith, suc-mul, mul-le-mul_right, ap}
+use Rattle.std.proofs.Common.{◌≡◌, ℕ, suc, ◌*◌, ◌^◌, ◌<◌, ◌≤◌, Bool, true, false, if◌then◌else◌, List, [], ◌∷◌, length, get_or, All, refl, sym, subst, arith, suc-mul, mul-le-mul_right, ap}
 use Rattle.std.specs.List.{sum_by}
 use Rattle.std.proofs.lemmas.List.Sums.{sum_by-cons}
 use Rattle.aug_core.specs.Places.{Shape}
@@ -13,7 +13,6 @@ use Rattle.aug_core.specs.Layout.{IsLayout}
 use Rattle.aug_core.specs.Opening.{opening_book}
 use Rattle.aug_core.specs.Records.{Fate, StandsAs, KeepsRecords}
 use Rattle.aug_core.specs.Effects.{KnowsBook, Sees}
-use Rattle.aug_core.specs.inside.RoundTables.{KnowsTable}
 use Rattle.aug_core.specs.declared.view.SeatView.{SeatView}
 use Rattle.aug_core.proofs.Keeping.{one_standing}
 use Rattle.aug_core.proofs.PrefixLemmas.{book_trans}
@@ -58,14 +57,7 @@ module _ (face : ℕ → ℕ → List (ℕ × ℕ) → List ℕ) where
     fits = subst (λ (z : Shape). z.reservations ≡ 0 → SerialsFit z w.seen) (sym shaped) (λ off. (round off).1);
   }
 
-  -- what a seat knows of a round's table is what it knows of any
-  pub any_table : (v : SeatView) → KnowsTable face v → KnowsBook face v
-  any_table v kn = record { laid_out = kn.laid_out; key_set = kn.key_set; members_fit = kn.members_fit; few_members = kn.few_members; book = kn.book; opened = kn.opened; in_round = λ off. (kn.named, kn.fits) }
-
-  pub round_table : (v : SeatView) → v.shape.reservations ≡ 0 → KnowsBook face v → KnowsTable face v
-  round_table v off kn = record { keeps_records = off; laid_out = kn.laid_out; key_set = kn.key_set; members_fit = kn.members_fit; few_members = kn.few_members; book = kn.book; named = (kn.in_round off).0; opened = kn.opened; fits = (kn.in_round off).1 }
-
-  -- it is told of how the table opened and of what was seen
+  -- what a seat knows of its table is told of how the table opened and of what was seen
   pub book_as : (v : SeatView) {w : SeatView} → w.shape ≡ v.shape → w.members ≡ v.members → w.seen ≡ v.seen → KnowsBook face v → KnowsBook face w
   book_as v shaped same seen kn = record {
     laid_out = subst IsLayout (sym shaped) kn.laid_out;
@@ -76,10 +68,6 @@ module _ (face : ℕ → ℕ → List (ℕ × ℕ) → List ℕ) where
     opened = subst (λ (z : Opening × Book). ArePrefixes (opening_book face z.0) z.1) (λ i. (record { shape = sym shaped i; members = sym same i }, sym seen i)) kn.opened;
     in_round = subst (λ (z : Shape × Book). z.0.reservations ≡ 0 → NamesOnce z.0 z.1 × SerialsFit z.0 z.1) (λ i. (sym shaped i, sym seen i)) kn.in_round;
   }
-
-  -- and so it is of a round's
-  pub table_as : (v : SeatView) {w : SeatView} → w.shape ≡ v.shape → w.members ≡ v.members → w.seen ≡ v.seen → KnowsTable face v → KnowsTable face w
-  table_as v shaped same seen kn = round_table _ (ap (λ (z : Shape). z.reservations) shaped ∙ kn.keeps_records) (book_as v shaped same seen (any_table v kn))
 
   -- what a seat knows of its table it knows after a step that showed it the whole book
   pub book_shown : (v w : SeatView) → KnowsBook face v → Sees face v w → w.shape ≡ v.shape → w.members ≡ v.members → KnowsBook face w
@@ -92,6 +80,3 @@ module _ (face : ℕ → ℕ → List (ℕ × ℕ) → List ℕ) where
     opened = book_trans kn.opened sees.later;
     in_round = λ off. (sees.named off, sees.fits off);
   }
-
-  pub knows_shown : (v w : SeatView) → KnowsTable face v → Sees face v w → w.shape ≡ v.shape → w.members ≡ v.members → KnowsTable face w
-  knows_shown v w kn sees shaped same = round_table w (ap (λ (z : Shape). z.reservations) shaped ∙ kn.keeps_records) (book_shown v w (any_table v kn) sees shaped same)

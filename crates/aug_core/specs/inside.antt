@@ -10,4 +10,3 @@ pub mod Refreshes
 pub mod RootCuts
 pub mod Shows
 pub mod WordPlaces
-pub mod RoundTables

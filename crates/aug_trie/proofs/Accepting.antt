@@ -7,8 +7,7 @@ use Rattle.aug_core.specs.Places.{Shape}
 use Rattle.aug_core.specs.Addresses.{root_place}
 use Rattle.aug_core.specs.Book.{ArePrefixes, IsBook}
 use Rattle.aug_core.specs.Counts.{change, changes_of}
-use Rattle.aug_core.specs.Effects.{LoadsNode, made_by, new_serial}
-use Rattle.aug_core.specs.inside.RoundTables.{KnowsTable}
+use Rattle.aug_core.specs.Effects.{LoadsNode, made_by, new_serial, KnowsBook}
 use Rattle.aug_core.specs.Cuts.{serial_of, IsAtMost}
 use Rattle.aug_core.specs.inside.RootCuts.{root_cut}
 use Rattle.aug_core.specs.inside.Shows.{NewestShows}
@@ -31,15 +30,16 @@ use Rattle.aug_trie.specs.declared.updates.request.Request.{Request}
 use Rattle.aug_trie.specs.declared.updates.request.Request.TheVariants.{Insert, Remove, Put, Add, Sub, Take}
 use Rattle.aug_trie.proofs.Histories.{history_on, last_is, last_shown, shown_last, last_rises, root_some, some_bits, is_history}
 use Rattle.aug_trie.proofs.Requesting.{kind_of, and_both, and_one, of_nothing, of_something, may_take, takes_all, takes_none, made_one, made_two, one_more, two_more, way_found, way_next, insert_stands, remove_stands}
+use Rattle.aug_trie.proofs.WholeWords.{goes_whole}
 use Rattle.aug_trie.proofs.Standing.{at_least, stands_later, stands_last, never_shows, shows_weight}
 
 module _ (face : ℕ → ℕ → List (ℕ × ℕ) → List ℕ) where
   -- a later view's history goes on
-  pub knows_on : (v w : SeatView) → KnowsTable face v → w.shape ≡ v.shape → ArePrefixes v.seen w.seen → IsPrefix (knows v).history (knows w).history
+  pub knows_on : (v w : SeatView) → KnowsBook face v → w.shape ≡ v.shape → ArePrefixes v.seen w.seen → IsPrefix (knows v).history (knows w).history
   knows_on v w kn shaped later = subst (λ (z : Shape). IsPrefix (root_history v.shape v.seen) (root_history z w.seen)) (sym shaped) (history_on face v.shape v.seen kn.book w.seen later)
 
   -- and its last cut rises
-  pub knows_more : (v w : SeatView) → KnowsTable face v → KnowsTable face w → w.shape ≡ v.shape → ArePrefixes v.seen w.seen → IsAtMost (last_cut (knows v).history) (last_cut (knows w).history)
+  pub knows_more : (v w : SeatView) → KnowsBook face v → KnowsBook face w → w.shape ≡ v.shape → ArePrefixes v.seen w.seen → IsAtMost (last_cut (knows v).history) (last_cut (knows w).history)
   knows_more v w kn kn' shaped later = subst (λ (z : Shape). IsAtMost (last_cut (root_history v.shape v.seen)) (last_cut (root_history z w.seen))) (sym shaped)
       (last_rises face v.shape v.seen w.seen kn.book (subst (λ (z : Shape). IsBook face z w.seen) shaped kn'.book) later (root_some face v kn))
 
@@ -47,23 +47,23 @@ module _ (face : ℕ → ℕ → List (ℕ × ℕ) → List ℕ) where
   shown_of v w key n shaped low shown = subst (λ (z : Shape). n ≤ serial_of (last_cut (root_history z w.seen)) key) (sym shaped) (shown_last v.shape w.seen key n low shown)
 
   -- changes that stand in what was known stand in what is known
-  pub stands_on : (v w : SeatView) (changes : List Change) → KnowsTable face v → KnowsTable face w → w.shape ≡ v.shape → ArePrefixes v.seen w.seen → All (StandsIn (last_cut (knows v).history)) changes → All (StandsIn (last_cut (knows w).history)) changes
+  pub stands_on : (v w : SeatView) (changes : List Change) → KnowsBook face v → KnowsBook face w → w.shape ≡ v.shape → ArePrefixes v.seen w.seen → All (StandsIn (last_cut (knows v).history)) changes → All (StandsIn (last_cut (knows w).history)) changes
   stands_on v w changes kn kn' shaped later stand = let more = knows_more v w kn kn' shaped later in
       All-weaker (StandsIn (last_cut (knows v).history)) (StandsIn (last_cut (knows w).history)) (λ c. stands_later (last_cut (knows v).history) (last_cut (knows w).history) c more) changes stand
 
   -- what a pass knows is knowledge still, when its history goes on and what it gains is shown
-  pub knowledge_on : (used : ℕ) (gained : List Change) (v w : SeatView) → KnowsTable face v → Goes face used gained v w → All (StandsIn (last_cut (knows w).history)) gained → KnowsRound v → KnowsRound w
+  pub knowledge_on : (used : ℕ) (gained : List Change) (v w : SeatView) → KnowsBook face v → Goes face used gained v w → All (StandsIn (last_cut (knows w).history)) gained → KnowsRound v → KnowsRound w
   knowledge_on used gained v w kn g shown k = record {
     is_history = is_history face w g.knows_table;
     stands = subst (All (StandsIn (last_cut (knows w).history))) (sym g.changes)
         (All-append (StandsIn (last_cut (knows w).history)) (changes_of v.held) gained (stands_on v w (changes_of v.held) kn g.knows_table g.shaped g.later k.stands) shown);
   }
 
-  -- an update is one by the word that it found
+  -- an update is one by the word that it found, with its whole serial
   pub settled : {used : ℕ} {v : SeatView} {key : ℕ} {request : Request} {w : SeatView} {done : Outcome} → Updated face used v key request w done → Settled face used v key request w done
-  settled u = record { loaded = u.loaded; more = u.more; refusing = u.refusing; came_to = u.came_to }
+  settled {used} {v} {key} {request} u = record { loaded = u.came.whole; more = u.more; refusing = λ stops. u.refusing (sym (goes_whole _ _ u.came.is_whole.last_bits request) ∙ stops); came_to = u.came.came_to }
 
-  module _ (used : ℕ) (v : SeatView) (key : ℕ) (request : Request) (w : SeatView) (kn : KnowsTable face v) (low : key < 2 ^ v.shape.bits) where
+  module _ (used : ℕ) (v : SeatView) (key : ℕ) (request : Request) (w : SeatView) (kn : KnowsBook face v) (low : key < 2 ^ v.shape.bits) where
     -- the weight that a word has with a serial, with which each cut shows that serial
     pub weighs_with : (serial weight : ℕ) → w.shape ≡ v.shape → WeighsAt w.seen key serial weight → WeighsWith key serial weight (knows w).history
     weighs_with serial weight shaped weighed = subst (λ (z : Shape). WeighsWith key serial weight (root_history z w.seen)) (sym shaped) (shows_weight v.shape w.seen key serial weight low weighed)
@@ -208,7 +208,7 @@ module _ (face : ℕ → ℕ → List (ℕ × ℕ) → List ℕ) where
     ]
 
   -- what an update comes to
-  pub comes_to : (used : ℕ) (v : SeatView) (key : ℕ) (request : Request) (w : SeatView) → KnowsTable face v → key < 2 ^ v.shape.bits → (done : Outcome) → Settled face used v key request w done → ComesTo request key done (knows v) (knows w)
+  pub comes_to : (used : ℕ) (v : SeatView) (key : ℕ) (request : Request) (w : SeatView) → KnowsBook face v → key < 2 ^ v.shape.bits → (done : Outcome) → Settled face used v key request w done → ComesTo request key done (knows v) (knows w)
   comes_to used v key Insert w kn low Accepted u = let a = advance_from Insert key u.loaded in let even = eqb-true (serial_in_word u.loaded % 2) 0 u.came_to.2 in
       accepted_is used v key Insert w kn low a u.came_to.0 insertion key (omega (arith, even)) refl refl
   comes_to used v key Insert w kn low Replaced u = false≢true u.came_to.1
@@ -288,7 +288,7 @@ module _ (face : ℕ → ℕ → List (ℕ × ℕ) → List ℕ) where
           (λ less. leb-false amount weight less) (and_one (serial_in_word u.loaded % 2 == 1) (leb amount weight) rest)) (and_one (ltb 0 amount) (serial_in_word u.loaded % 2 == 1 && leb amount weight) u.came_to.stops)
 
   -- a load of the root is a snapshot: the cut of its newest entry, which has the number that was found
-  pub snapshot_is : (v : SeatView) (r : ℕ) (w : SeatView) → KnowsTable face v → (t : LoadsNode face v (root_place v.shape) r w) → TakesSnapshot (knows v) (knows w) (root_cut v.shape w.seen t.index)
+  pub snapshot_is : (v : SeatView) (r : ℕ) (w : SeatView) → KnowsBook face v → (t : LoadsNode face v (root_place v.shape) r w) → TakesSnapshot (knows v) (knows w) (root_cut v.shape w.seen t.index)
   snapshot_is v r w kn t = let shaped : w.shape ≡ v.shape = ap (λ (z : SeatView). z.shape) t.stepped in record {
     goes_on = knows_on v w kn shaped t.sees.later;
     same_changes = ap (λ (z : SeatView). changes_of z.held) t.stepped;

@@ -9,8 +9,7 @@ use Rattle.aug_core.specs.Places.{Shape, record_start, record_words}
 use Rattle.aug_core.specs.Faces.{face}
 use Rattle.aug_core.specs.Addresses.{place_count, IsInner, left_of, right_of}
 use Rattle.aug_core.specs.inside.Refreshes.{HasNewest, SaysLoaded, stored}
-use Rattle.aug_core.specs.Effects.{GuardsRecord, Says, MayStore, IsFilled, TriesNode, storing}
-use Rattle.aug_core.specs.inside.RoundTables.{KnowsTable}
+use Rattle.aug_core.specs.Effects.{GuardsRecord, Says, MayStore, IsFilled, TriesNode, storing, KnowsBook}
 use Rattle.aug_core.specs.declared.view.SeatView.{SeatView}
 use Rattle.aug_core.proofs.FaceLemmas.{left_in, right_in}
 use Rattle.aug_core.proofs.Refreshing.{has_entry}
@@ -33,7 +32,7 @@ use Rattle.aug_core.proofs.PrefixLemmas.{book_refl, book_trans}
 -- ---- the views so far
 
 module _ (f : ℕ → ℕ → List (ℕ × ℕ) → List ℕ) where
-  goes_stored : (v : SeatView) (number : ℕ) (five : List ℕ) (k : ℕ) → KnowsTable f v → Goes f 0 [] v (stored v number five k)
+  goes_stored : (v : SeatView) (number : ℕ) (five : List ℕ) (k : ℕ) → KnowsBook f v → Goes f 0 [] v (stored v number five k)
   goes_stored v number five zero kn = goes_self f v kn
   goes_stored v number five (suc k) kn = let g = goes_stored v number five k kn in let w : SeatView = stored v number five k in
       goes_on f 0 0 0 [] v w (stored v number five (suc k)) (omega arith) (omega arith) g (goes_storing f w (stored v number five (suc k)) _ _ refl g.knows_table)
@@ -150,9 +149,12 @@ module _ {A B : Type 0} (parts_a : Parts A) (parts_b : Parts B) (laws_a : IsMono
       right_low s p inner below = even s.bits (p - 2 ^ s.bits) below (let i = inner.inside in let t = twice s.bits in omega arith)
 
   -- the children are nodes: their parts, as their records' words tell
-  module _ (from left right : ℕ) (words : List ℕ) (third : SeatView) (few : 2 ^ v.shape.bits ≤ 65536) (nodes : 2 ^ v.shape.bits ≤ left_of v.shape q) (inner : IsInner v.shape q) (a : AfterRight both v q from left right third) (all : AllWords left right words third) where
-    kn_third : KnowsTable both third
+  module _ (from left right : ℕ) (words : List ℕ) (third : SeatView) (off : v.shape.reservations ≡ 0) (few : 2 ^ v.shape.bits ≤ 65536) (nodes : 2 ^ v.shape.bits ≤ left_of v.shape q) (inner : IsInner v.shape q) (a : AfterRight both v q from left right third) (all : AllWords left right words third) where
+    kn_third : KnowsBook both third
     kn_third = (goes_right both v q from left right third a).knows_table
+
+    off_third : third.shape.reservations ≡ 0
+    off_third = ap (λ (z : Shape). z.reservations) (same_shape from left right third a) ∙ off
 
     few_third : 2 ^ third.shape.bits ≤ 65536
     few_third = subst (λ (z : Shape). 2 ^ z.bits ≤ 65536) (sym (same_shape from left right third a)) few
@@ -165,10 +167,10 @@ module _ {A B : Type 0} (parts_a : Parts A) (parts_b : Parts B) (laws_a : IsMono
         record { past_leaves = omega arith; inside = let past = inner.past_leaves in let inside = inner.inside in let t = twice v.shape.bits in omega arith }
 
     pub left_told : IsPartOf parts_a parts_b third (left_of v.shape q) left (get_or words 0 0) (parts_a.from_word (get_or words 1 0)) (parts_b.from_word (get_or words 2 0))
-    left_told = part_of_node parts_a parts_b laws_a laws_b third (left_of v.shape q) left _ _ _ few_third kn_third inner_left (all.says 0 (omega arith)) (all.says 1 (omega arith)) (all.says 2 (omega arith))
+    left_told = part_of_node parts_a parts_b laws_a laws_b third (left_of v.shape q) left _ _ _ few_third off_third kn_third inner_left (all.says 0 (omega arith)) (all.says 1 (omega arith)) (all.says 2 (omega arith))
 
     pub right_told : IsPartOf parts_a parts_b third (right_of v.shape q) right (get_or words 3 0) (parts_a.from_word (get_or words 4 0)) (parts_b.from_word (get_or words 5 0))
-    right_told = part_of_node parts_a parts_b laws_a laws_b third (right_of v.shape q) right _ _ _ few_third kn_third inner_right (all.says 3 (omega arith)) (all.says 4 (omega arith)) (all.says 5 (omega arith))
+    right_told = part_of_node parts_a parts_b laws_a laws_b third (right_of v.shape q) right _ _ _ few_third off_third kn_third inner_right (all.says 3 (omega arith)) (all.says 4 (omega arith)) (all.says 5 (omega arith))
 
     -- their counts are small
     pub counts_fit : get_or words 0 0 + get_or words 3 0 ≤ 131072
@@ -187,14 +189,14 @@ module _ {A B : Type 0} (parts_a : Parts A) (parts_b : Parts B) (laws_a : IsMono
   -- the record of the child whose word is next was seen
   pub child_guarded : (number : ℕ) (r : Reading) (old : SeatView) → TryAt both v q number (Part r) old → GuardsRecord old (child_at r.left r.right r.count)
   child_guarded number r old t = let a = t.is_at in let third = a.third in let loaded = a.loaded in
-      let shaped = same_shape r.from r.left r.right third loaded in let kn = (goes_right both v q r.from r.left r.right third loaded).knows_table in
+      let shaped = same_shape r.from r.left r.right third loaded in let off = ap (λ (z : Shape). z.reservations) shaped ∙ t.room.keeps_records in let kn = (goes_right both v q r.from r.left r.right third loaded).knows_table in
       let inner_l : IsInner third.shape (left_of v.shape q) = subst (λ (z : Shape). IsInner z (left_of v.shape q)) (sym shaped) record { past_leaves = a.nodes; inside = inside_left t.inner } in
       let inner_r : IsInner third.shape (right_of v.shape q) = subst (λ (z : Shape). IsInner z (right_of v.shape q)) (sym shaped)
       record { past_leaves = let n = a.nodes in omega arith; inside = let past = t.inner.past_leaves in let inside = t.inner.inside in let w = twice v.shape.bits in omega arith } in
       let e_l = has_entry both third.shape third.seen loaded.second.seen (left_of v.shape q) r.left loaded.goes.later loaded.lefts.at_left in
       let e_r = has_entry both third.shape third.seen third.seen (right_of v.shape q) r.right (book_refl third.seen) loaded.at_right in
       guards_looking r.count third old (child_at r.left r.right r.count) a.looks
-      (either (ltb r.count 3) (guards_named both third (left_of v.shape q) r.left kn inner_l e_l) (guards_named both third (right_of v.shape q) r.right kn inner_r e_r))
+      (either (ltb r.count 3) (guards_named both third (left_of v.shape q) r.left off kn inner_l e_l) (guards_named both third (right_of v.shape q) r.right off kn inner_r e_r))
     where
       either : (low : Bool) → GuardsRecord t.is_at.third r.left → GuardsRecord t.is_at.third r.right → GuardsRecord t.is_at.third (if low then r.left else r.right)
       either true x y = x
@@ -262,13 +264,13 @@ module _ {A B : Type 0} (parts_a : Parts A) (parts_b : Parts B) (v : SeatView) (
   g_old = goes_at f v q number (Record r) old t
 
   -- the record may be stored
-  room_old : HasRoom old number 1
+  pub room_old : HasRoom old number 1
   room_old = room_on f [] v old number 1 g_old t.room
 
   pub may_store_word : MayStore old number
   may_store_word = may_store_room old number room_old
 
-  pub knows_old : KnowsTable f old
+  pub knows_old : KnowsBook f old
   knows_old = g_old.knows_table
 
   -- one more word was stored
@@ -300,11 +302,11 @@ module _ {A B : Type 0} (parts_a : Parts A) (parts_b : Parts B) (v : SeatView) (
     room_told = room_on f [] v held.told number 1 g_told t.room
 
     pub may_try : NamesOwn f old q r.from number
-    may_try = names_own f old q r.from number knows_old may_store_word (subst (λ (z : SeatView). IsFilled f z q r.from number) (sym is_full) (may_publish f held.told number r.five room_told q r.from g_told.knows_table.keeps_records held.says))
+    may_try = names_own f old q r.from number room_old.keeps_records may_store_word (subst (λ (z : SeatView). IsFilled f z q r.from number) (sym is_full) (may_publish f held.told number r.five room_told q r.from room_told.keeps_records held.says))
 
     -- and the node's word exchanged, or not
     pub try_over : (w : SeatView) (done : Bool) → TriedNode f old q r.from number done w → TryOver f v q number done w
-    try_over w done told = let found : ℕ = told.found in let decided = told.decided in let tried = told.told number (plainly old knows_old.keeps_records number) in let l = held.loaded.lefts in let first = l.first in let second = held.loaded.second in
+    try_over w done told = let found : ℕ = told.found in let decided = told.decided in let tried = told.told number (plainly old room_old.keeps_records number) in let l = held.loaded.lefts in let first = l.first in let second = held.loaded.second in
         let gw = goes_tried f old w q r.from number found done decided tried knows_old in
         let p = published f held.told number r.five room_told w q r.from found done (subst (λ (z : Shape). IsInner z q) (sym g_told.shaped) t.inner) (left_in parts_a parts_b) (right_in parts_a parts_b) decided
         (subst (λ (z : SeatView). TriesNode f z q r.from number number found w) is_full tried) in

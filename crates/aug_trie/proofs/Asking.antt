@@ -4,7 +4,6 @@ use Rattle.atomic_table.specs.Seated.{TableId}
 use Rattle.aug_monoid.specs.Parts.{Parts}
 use Rattle.aug_model.specs.Folds.{summary_of}
 use Rattle.aug_core.specs.Counts.{changes_of}
-use Rattle.aug_core.specs.inside.RoundTables.{KnowsTable}
 use Rattle.aug_core.specs.Faces.{face}
 use Rattle.aug_words.specs.Seats.{Known}
 use Rattle.aug_trie.specs.Node.{Reads}
@@ -12,12 +11,12 @@ use Rattle.aug_trie.specs.inside.NodeWords.{IsNodeAt}
 use Rattle.aug_trie.specs.Pass.{PassFacts}
 use Rattle.aug_trie.specs.Snapshot.{HasSnapshot, set_at}
 use Rattle.aug_trie.specs.inside.Counted.{HasCounts}
-use Rattle.aug_trie.specs.inside.Goes.{Looks}
+use Rattle.aug_trie.specs.inside.Goes.{KnowsRecords, Looks}
 use Rattle.aug_trie.specs.inside.NamedCuts.{cut_named}
 use Rattle.aug_trie.specs.inside.PassState.{pass_facts, known_in, HoldsPass}
 use Rattle.aug_trie.specs.inside.SnapshotWalk.{set_seen, HasWalk, IsWalk, Walking}
 use Rattle.aug_trie.specs.declared.queries.snapshot.Snapshot.{Snapshot}
-use Rattle.aug_trie.proofs.Passing.{pass_told}
+use Rattle.aug_trie.proofs.Passing.{pass_records, pass_told}
 use Rattle.aug_trie.proofs.SnapshotWalks.{WalkDescends}
 use Rattle.aug_trie.proofs.Trees.{named_set, top_is, reads_by, still_by}
 
@@ -28,13 +27,13 @@ same_set words walk s left now there same facts =
 
 module _ {A B : Type 0} (parts_a : Parts A) (parts_b : Parts B) where
   -- who knows a table and has a snapshot may walk it
-  pub walks_by : (k : Known) (bits left : ℕ) (s : Snapshot) → KnowsTable (face parts_a parts_b) k.view → bits ≡ k.view.shape.bits → HasSnapshot (pass_facts k left) s → IsWalk (face parts_a parts_b) k.view s bits
+  pub walks_by : (k : Known) (bits left : ℕ) (s : Snapshot) → KnowsRecords (face parts_a parts_b) k.view → bits ≡ k.view.shape.bits → HasSnapshot (pass_facts k left) s → IsWalk (face parts_a parts_b) k.view s bits
   walks_by k bits left s kn bits_are has = record {
     bits_are = bits_are;
     top = record {
-      knows_table = kn;
-      is_tree_set = named_set (face parts_a parts_b) k.view s kn;
-      node = subst (λ (z : ℕ). IsNodeAt k.view.shape k.view.seen (cut_named k.view.shape k.view.seen s) z 0 s.number) (sym bits_are) (top_is parts_a parts_b k.view s kn has);
+      knows_records = kn;
+      is_tree_set = named_set (face parts_a parts_b) k.view s kn.knows_table;
+      node = subst (λ (z : ℕ). IsNodeAt k.view.shape k.view.seen (cut_named k.view.shape k.view.seen s) z 0 s.number) (sym bits_are) (top_is parts_a parts_b k.view s kn.knows_table has);
     };
   }
 
@@ -42,7 +41,7 @@ module _ {A B : Type 0} (parts_a : Parts A) (parts_b : Parts B) where
   pub may_walk : (words : Option Known) (leaves bits next left : ℕ) (now : PassFacts) (s : Snapshot) → HoldsPass (face parts_a parts_b) words leaves bits next left → pass_facts (known_in words) left ≡ now → HasSnapshot now s → HasWalk (face parts_a parts_b) words s bits
   may_walk words leaves bits next left now s h facts has =
       let k : Known = h.known in let t = pass_told (face parts_a parts_b) words k leaves bits next left now h h.there facts in
-      record { known = k; there = h.there; is_walk = walks_by k bits left s t.0.knows_table t.0.bits_are (subst (λ (z : PassFacts). HasSnapshot z s) (sym t.1) has) }
+      record { known = k; there = h.there; is_walk = walks_by k bits left s (pass_records t.0) t.0.bits_are (subst (λ (z : PassFacts). HasSnapshot z s) (sym t.1) has) }
 
   -- what a descent loaded, the pass looked at
   pub looks_of : (n c s p : ℕ) (walk new : Walking) → WalkDescends (face parts_a parts_b) n c s p walk new → Looks (n + c + 3 * s + 2 * p) walk.words.view new.words.view

@@ -11,14 +11,14 @@ use Rattle.aug_core.specs.Places.{Shape}
 use Rattle.aug_core.specs.Book.{IsBook}
 use Rattle.aug_core.specs.Counts.{changes_of}
 use Rattle.aug_core.specs.Faces.{face}
-use Rattle.aug_core.specs.inside.RoundTables.{KnowsTable}
+use Rattle.aug_core.specs.Effects.{KnowsBook}
 use Rattle.aug_core.specs.inside.Shows.{Lifts}
 use Rattle.aug_core.specs.declared.step.StepTaken.{StepTaken}
 use Rattle.aug_core.specs.declared.view.Change.{Change}
 use Rattle.aug_core.specs.declared.view.Held.{Held}
 use Rattle.aug_core.specs.declared.view.LaneState.TheVariants.{Free}
 use Rattle.aug_core.specs.declared.view.SeatView.{SeatView}
-use Rattle.aug_core.proofs.Fits.{table_as}
+use Rattle.aug_core.proofs.Fits.{book_as}
 use Rattle.aug_core.proofs.PrefixLemmas.{book_trans}
 use Rattle.aug_words.specs.Seats.{Known}
 use Rattle.aug_trie.specs.UpdateBatches.{BatchPart, no_part, DoesPart, DoesBatch, most_rises}
@@ -31,7 +31,11 @@ use Rattle.aug_trie.specs.declared.rounds.account.Account.{Account}
 use Rattle.aug_model.specs.declared.outcome.Outcome.{Outcome}
 use Rattle.aug_trie.specs.declared.updates.request.Request.{Request}
 use Rattle.aug_trie.specs.inside.Batching.{LeftPart, LeftAll, RaisedAll, IsAccountAfter}
-use Rattle.aug_trie.specs.inside.Climbing.{CameTo, Settled}
+use Rattle.aug_trie.specs.inside.Climbing.{CameBy, Settled}
+use Rattle.aug_trie.specs.inside.Weights.{WeighsAt}
+use Rattle.aug_trie.specs.LeafWords.{serial_in_word, weight_in_word}
+use Rattle.aug_trie.specs.Requests.{in_the_way, changes_by}
+use Rattle.aug_core.specs.Cuts.{serial_of}
 use Rattle.aug_trie.specs.inside.Counted.{HasCounts}
 use Rattle.aug_trie.specs.inside.Goes.{Goes, HasLeaves, HasRoom}
 use Rattle.aug_trie.specs.inside.Knows.{knows, KnowsRound}
@@ -42,6 +46,7 @@ use Rattle.aug_trie.proofs.LeavingAll.{steps_in, made_in}
 use Rattle.aug_trie.proofs.Passing.{pass_told, pass_on, updates_on, weighed_by, stored_by}
 use Rattle.aug_trie.proofs.Raising.{newest_later}
 use Rattle.aug_trie.proofs.Trees.{keeps_on}
+use Rattle.aug_trie.proofs.WholeWords.{goes_whole}
 
 -- a view that has made no changes, and one that has made these
 abbrev blank : SeatView → SeatView
@@ -56,7 +61,7 @@ module _ (f : ℕ → ℕ → List (ℕ × ℕ) → List ℕ) where
   goes_alone u z made g = record {
     later = g.later;
     fresh = g.fresh;
-    knows_table = table_as f z refl refl refl g.knows_table;
+    knows_table = book_as f z refl refl refl g.knows_table;
     shaped = g.shaped;
     same_members = g.same_members;
     same_eras = g.same_eras;
@@ -67,13 +72,13 @@ module _ (f : ℕ → ℕ → List (ℕ × ℕ) → List ℕ) where
   }
 
   -- one update of a batch whose leaf is shown in the end
-  module _ {used : ℕ} {gained : List Change} {v w z : SeatView} {key : ℕ} {request : Request} {done : Outcome} {part : BatchPart} (kn : KnowsTable f v) (low : key < 2 ^ v.shape.bits)
+  module _ {used : ℕ} {gained : List Change} {v w z : SeatView} {key : ℕ} {request : Request} {done : Outcome} {part : BatchPart} (off : v.shape.reservations ≡ 0) (kn : KnowsBook f v) (low : key < 2 ^ v.shape.bits)
       (left : Goes f 0 gained v w) (up : Goes f used [] w z) (p : LeftPart f v w key request done part) (lifts : Lifts w.shape w.seen z.seen key w.shape.bits) where
     whole : Goes f used gained v z
     whole = goes_after f 0 used used gained [] gained v w z (omega arith) (omega arith) (append-nil gained) left up
 
-    kn' : KnowsTable f (blank v)
-    kn' = table_as f v refl refl refl kn
+    kn' : KnowsBook f (blank v)
+    kn' = book_as f v refl refl refl kn
 
     -- what its leaf had reached right after its steps there
     lifts_own : Lifts p.before.shape p.after.seen z.seen key p.before.shape.bits
@@ -83,12 +88,16 @@ module _ (f : ℕ → ℕ → List (ℕ × ℕ) → List ℕ) where
               (newest_later f v.shape p.after.seen w.seen key 0 n low (omega arith) (subst (λ (s : Shape). IsBook f s w.seen) left.shaped left.knows_table.book) p.to x);
         })
 
-    came : CameTo f 0 (blank v) key request (made_alone z part.made) p.left.word done
+    came : CameBy f 0 (blank v) key request (made_alone z part.made) p.left.word done
     came = p.left.came 0 (blank v) (made_alone z part.made) (sym p.from_shape) p.from (book_trans p.to up.later) lifts_own
         (subst (λ (made : List Change). Goes f 0 made (blank v) (made_alone z part.made)) p.made (goes_alone v z part.made whole))
 
     settles : Settled f 0 (blank v) key request (made_alone z part.made) done
-    settles = record { loaded = p.left.word; more = p.left.more; refusing = p.left.refusing; came_to = came }
+    settles = record { loaded = came.whole; more = p.left.more; refusing = λ stops. p.left.refusing (sym (goes_whole _ _ came.is_whole.last_bits request) ∙ stops); came_to = came.came_to }
+
+    -- in a round by that very word
+    exact : came.whole ≡ p.left.word
+    exact = came.is_whole.in_round off
 
     pub part_stands : KnowsRound v → All (StandsIn (last_cut (knows z).history)) part.made
     part_stands k = subst (All (StandsIn (last_cut (knows z).history))) (append-nil part.made)
@@ -102,9 +111,9 @@ module _ (f : ℕ → ℕ → List (ℕ × ℕ) → List ℕ) where
       steps = p.steps;
       refuses = p.left.refusing;
       tries = p.left.tried;
-      shows = λ nothing. shown_number f 0 (blank v) key request (made_alone z part.made) kn' low p.left.word (stayed_by f 0 (blank v) key request (made_alone z part.made) kn' low p.left.word done nothing came);
-      weighed = weighed_by f 0 (blank v) (made_alone z part.made) key request kn' low done p.left.word came;
-      stored = sym (append-nil part.made) ∙ stored_by f 0 (blank v) (made_alone z part.made) key request kn' low done p.left.word came;
+      shows = λ nothing. subst (λ (n : ℕ). in_the_way request n ≤ serial_of (last_cut (knows z).history) key) exact (shown_number f 0 (blank v) key request (made_alone z part.made) kn' low came.whole (stayed_by f 0 (blank v) key request (made_alone z part.made) kn' low came.whole done nothing came.came_to));
+      weighed = subst (λ (n : ℕ). WeighsAt z.seen key (serial_in_word n) (weight_in_word n)) exact (weighed_by f 0 (blank v) (made_alone z part.made) key request kn' low done came.whole came.came_to);
+      stored = sym (append-nil part.made) ∙ subst (λ (n : ℕ). part.made ++ [] ≡ changes_by request key n done) exact (stored_by f 0 (blank v) (made_alone z part.made) key request kn' low done came.whole came.came_to);
     }
 
 -- what holds of the changes of each part holds of all
@@ -135,7 +144,7 @@ module _ {A B : Type 0} (parts_a : Parts A) (parts_b : Parts B) where
     pub leaves : HasLeaves w.shape a.leaves
     pub bits : a.bits ≡ w.shape.bits
     pub low : All (λ (key : ℕ). key < 2 ^ w.shape.bits) keys
-    pub knows_table : KnowsTable f w
+    pub knows_table : KnowsBook f w
     pub room : HasRoom w a.next (length keys * a.bits)
     pub small : a.next + length keys * a.bits < 2 ^ 60
 
@@ -182,7 +191,7 @@ module _ {A B : Type 0} (parts_a : Parts A) (parts_b : Parts B) where
           key_low i within = may_batch.low i 0 within
 
           stands : (i : ℕ) → i < length left.parts → All (StandsIn (last_cut (knows z.view).history)) (get_or left.parts i no_part).made
-          stands i there = let within : i < n = (let e = left.one_each in omega (arith, there, e)) in part_stands f p.knows_table (key_low i within) left.goes raised.goes (left.each i within) (raised.lifts i within) p.knowledge
+          stands i there = let within : i < n = (let e = left.one_each in omega (arith, there, e)) in part_stands f p.room.keeps_records p.knows_table (key_low i within) left.goes raised.goes (left.each i within) (raised.lifts i within) p.knowledge
 
           known : KnowsRound z.view
           known = knowledge_on f (a.next + n * a.bits) (made_in left.parts) k.view z.view p.knows_table goes (all_made (StandsIn (last_cut (knows z.view).history)) left.parts stands) p.knowledge
@@ -208,7 +217,7 @@ module _ {A B : Type 0} (parts_a : Parts A) (parts_b : Parts B) where
           does = record {
             parts = left.parts;
             one_each = left.one_each;
-            each = λ i within. does_part f p.knows_table (key_low i within) left.goes raised.goes (left.each i within) (raised.lifts i within) k.table a.left (a.left - n);
+            each = λ i within. does_part f p.room.keeps_records p.knows_table (key_low i within) left.goes raised.goes (left.each i within) (raised.lifts i within) k.table a.left (a.left - n);
             accepted = goes.changes;
             rest = rest;
             steps = steps;
@@ -234,5 +243,5 @@ module _ {A B : Type 0} (parts_a : Parts A) (parts_b : Parts B) where
                 holds = record { pass = record { known = k'; there = refl; is_pass = pass }; counts = subst (λ (x : List Change). HasCounts x after.inserts after.removals) (sym same_changes) counts };
                 does = does;
                 goes_on = goes_on;
-                keeps = keeps_on parts_a parts_b k k' a.left (a.left - n) p.knows_table goes.knows_table goes.shaped goes.later;
+                keeps = keeps_on parts_a parts_b k k' a.left (a.left - n) p.room.keeps_records p.knows_table goes.knows_table goes.shaped goes.later;
               })

@@ -11,15 +11,13 @@ use Rattle.aug_core.specs.Places.{Shape, node_place}
 use Rattle.aug_core.specs.Book.{Book}
 use Rattle.aug_core.specs.Counts.{changes_of}
 use Rattle.aug_core.specs.Cuts.{pairs_of_cut}
-use Rattle.aug_core.specs.Effects.{GuardsRecord, Says}
-use Rattle.aug_core.specs.inside.RoundTables.{KnowsTable}
+use Rattle.aug_core.specs.Effects.{GuardsRecord, Says, KnowsBook}
 use Rattle.aug_core.specs.Faces.{face}
 use Rattle.aug_core.specs.inside.EntryCuts.{entry_of}
 use Rattle.aug_core.specs.inside.RootCuts.{root_cut}
 use Rattle.aug_core.specs.declared.view.Entry.{Entry}
 use Rattle.aug_core.specs.declared.view.SeatView.{SeatView}
 use Rattle.aug_core.proofs.EntryCuts.{entry_at, part_pairs}
-use Rattle.aug_core.proofs.Fits.{table_as}
 use Rattle.aug_core.proofs.Levels.{leaf_word}
 use Rattle.aug_query.specs.DescendBoth.{BothSets, DescendsBoth, differing_nodes}
 use Rattle.aug_query.proofs.Changing.{none_differ}
@@ -31,7 +29,7 @@ use Rattle.aug_trie.specs.Snapshot.{HasSnapshot}
 use Rattle.aug_trie.specs.inside.BothWalk.{top_of, both_seen, IsNamedUnder, IsNamedInBoth, IsBothWalk, WalkingBoth, KeepsBoth}
 use Rattle.aug_trie.specs.inside.BothWalkLaws.{word_is}
 use Rattle.aug_trie.specs.inside.Counted.{HasCounts}
-use Rattle.aug_trie.specs.inside.Goes.{Looks}
+use Rattle.aug_trie.specs.inside.Goes.{KnowsRecords, Looks}
 use Rattle.aug_trie.specs.inside.LeafPairs.{leaf_pairs}
 use Rattle.aug_trie.specs.inside.NodesUnder.{index_under, IsNodeUnder}
 use Rattle.aug_trie.specs.inside.PassState.{pass_facts, known_in, HoldsPass}
@@ -39,6 +37,7 @@ use Rattle.aug_trie.specs.declared.queries.snapshot.Snapshot.{Snapshot}
 use Rattle.aug_trie.proofs.LeafWords.{pairs_of_serial}
 use Rattle.aug_trie.proofs.Passing.{pass_told}
 use Rattle.aug_trie.proofs.Snapshots.{entry_shown, cut_is}
+use Rattle.aug_trie.proofs.SnapshotWalks.{records_on}
 use Rattle.aug_trie.proofs.Trees.{named_set, reads_by, still_by}
 use Rattle.aug_trie.proofs.Walking.{node_guarded, left_node, right_node, top_node}
 
@@ -66,29 +65,29 @@ module _ (s : Shape) (book : Book) (top level place q i : ℕ) (fits : suc level
       let same : entry_of book q i ≡ above = (λ k. entry_of book (here k) (is k)) ∙ (λ k. entry_of book (node_place s (back k) (half k)) (index_under s book top down (half k))) in
       ap (λ (z : Entry). z.right) same ∙ sym (ap (λ (b : Bool). if b then above.left else above.right) (ne_eqb ((2 * place + 1) % 2) 0 (λ e. omega (arith, e, odd)))) ∙ ap (λ (z : ℕ). index_under s book top z (2 * place + 1)) further
 
-module _ {A B : Type 0} (parts_a : Parts A) (parts_b : Parts B) (v : SeatView) (kn : KnowsTable (face parts_a parts_b) v) (top level place word : ℕ) where
+module _ {A B : Type 0} (parts_a : Parts A) (parts_b : Parts B) (v : SeatView) (kn : KnowsBook (face parts_a parts_b) v) (off : v.shape.reservations ≡ 0) (top level place word : ℕ) where
   below : IsNodeUnder v.shape v.seen top (level + 1) place word → IsNodeUnder v.shape v.seen top (suc level) place word
   below t = subst (λ (z : ℕ). IsNodeUnder v.shape v.seen top z place word) (add-one level) t
 
   -- the record of a node above the leaves may be read
   pub under_guarded : IsNodeUnder v.shape v.seen top (level + 1) place word → GuardsRecord v word
-  under_guarded t = node_guarded parts_a parts_b v kn.book (root_cut v.shape v.seen top) kn.keeps_records level place word (below t).node
+  under_guarded t = node_guarded parts_a parts_b v kn.book (root_cut v.shape v.seen top) off level place word (below t).node
 
   -- and its first two words name its children
   pub left_is_under : IsNodeUnder v.shape v.seen top (level + 1) place word → (r : ℕ) → Says v word 0 r → IsNodeUnder v.shape v.seen top level (2 * place) r
   left_is_under t r says = let n = below t in record {
-    node = left_node parts_a parts_b v kn.book (root_cut v.shape v.seen top) kn.keeps_records level place word n.node r says;
+    node = left_node parts_a parts_b v kn.book (root_cut v.shape v.seen top) off level place word n.node r says;
     under = left_index v.shape v.seen top level place n.node.q n.node.index n.node.part.word.level_fits n.node.part.word.is n.under;
   }
 
   pub right_is_under : IsNodeUnder v.shape v.seen top (level + 1) place word → (r : ℕ) → Says v word 1 r → IsNodeUnder v.shape v.seen top level (2 * place + 1) r
   right_is_under t r says = let n = below t in record {
-    node = right_node parts_a parts_b v kn.book (root_cut v.shape v.seen top) kn.keeps_records level place word n.node r says;
+    node = right_node parts_a parts_b v kn.book (root_cut v.shape v.seen top) off level place word n.node r says;
     under = right_index v.shape v.seen top level place n.node.q n.node.index n.node.part.word.level_fits n.node.part.word.is n.under;
   }
 
 -- a leaf's word says what its key weighs in the snapshot's set
-pub leaf_says : (f : ℕ → ℕ → List (ℕ × ℕ) → List ℕ) (v : SeatView) (top key word : ℕ) → KnowsTable f v → IsNodeUnder v.shape v.seen top 0 key word → weight_of (leaf_pairs key word) key ≡ weight_of (pairs_of_cut (root_cut v.shape v.seen top)) key
+pub leaf_says : (f : ℕ → ℕ → List (ℕ × ℕ) → List ℕ) (v : SeatView) (top key word : ℕ) → KnowsBook f v → IsNodeUnder v.shape v.seen top 0 key word → weight_of (leaf_pairs key word) key ≡ weight_of (pairs_of_cut (root_cut v.shape v.seen top)) key
 leaf_says f v top key word kn t =
     let node = t.node in let leaf = leaf_word v.shape key node.q node.part.word in
     let serial = kn.book.serials node.q node.index (entry_of v.seen node.q node.index) leaf.1 (entry_at v.seen node.q node.index node.part.there) in
@@ -108,7 +107,7 @@ module _ (f : ℕ → ℕ → List (ℕ × ℕ) → List ℕ) where
   -- names are names still
   under_on : (n : ℕ) (v w : SeatView) (s : Snapshot) (level place word : ℕ) → Looks n v w → IsNamedUnder f v s level place word → IsNamedUnder f w s level place word
   under_on n v w s level place word l has = subst (λ (z : SeatView). IsNamedUnder f z s level place word) (sym l.is)
-      record { knows_table = table_as f v refl refl refl has.knows_table; is_tree_set = has.is_tree_set; cut_is = has.cut_is; node = has.node }
+      record { knows_records = records_on f v has.knows_records; is_tree_set = has.is_tree_set; cut_is = has.cut_is; node = has.node }
 
   pub both_named_on : (n : ℕ) (v w : SeatView) (earlier later : Snapshot) (level place : ℕ) (words : ℕ × ℕ) → Looks n v w → IsNamedInBoth f v earlier later level place words → IsNamedInBoth f w earlier later level place words
   both_named_on n v w earlier later level place words l has = record { in_earlier = under_on n v w earlier level place words.0 l has.in_earlier; in_later = under_on n v w later level place words.1 l has.in_later }
@@ -129,8 +128,8 @@ module _ (f : ℕ → ℕ → List (ℕ × ℕ) → List ℕ) where
   both_named_then n v w earlier later bits level place words l walk first second =
       let a = walk.tops.in_earlier in let b = walk.tops.in_later in
       both_named_on n v w earlier later level place words l record {
-        in_earlier = record { knows_table = a.knows_table; is_tree_set = a.is_tree_set; cut_is = a.cut_is; node = first };
-        in_later = record { knows_table = b.knows_table; is_tree_set = b.is_tree_set; cut_is = b.cut_is; node = second };
+        in_earlier = record { knows_records = a.knows_records; is_tree_set = a.is_tree_set; cut_is = a.cut_is; node = first };
+        in_later = record { knows_records = b.knows_records; is_tree_set = b.is_tree_set; cut_is = b.cut_is; node = second };
       }
 
   abbrev pub BothDescends : ℕ → WalkingBoth → WalkingBoth → Type 0
@@ -160,22 +159,22 @@ same_both words walk earlier later left now there one other facts =
 
 module _ {A B : Type 0} (parts_a : Parts A) (parts_b : Parts B) where
   -- the top of a snapshot's tree
-  top_under : (k : Known) (left : ℕ) (s : Snapshot) → KnowsTable (face parts_a parts_b) k.view → HasSnapshot (pass_facts k left) s → IsNamedUnder (face parts_a parts_b) k.view s k.view.shape.bits 0 s.number
+  top_under : (k : Known) (left : ℕ) (s : Snapshot) → KnowsRecords (face parts_a parts_b) k.view → HasSnapshot (pass_facts k left) s → IsNamedUnder (face parts_a parts_b) k.view s k.view.shape.bits 0 s.number
   unfolding index_under
   top_under k left s kn has =
       let f = face parts_a parts_b in let v : SeatView = k.view in let top = top_of v s in
       let none : 0 ≡ v.shape.bits - v.shape.bits = omega arith in record {
-        knows_table = kn;
-        is_tree_set = named_set f v s kn;
+        knows_records = kn;
+        is_tree_set = named_set f v s kn.knows_table;
         cut_is = cut_is v.shape v.seen s has;
         node = record {
-          node = top_node parts_a parts_b v kn.book (root_cut v.shape v.seen top) s.number (entry_shown v.shape v.seen s has) refl;
+          node = top_node parts_a parts_b v kn.knows_table.book (root_cut v.shape v.seen top) s.number (entry_shown v.shape v.seen s has) refl;
           under = ap (λ (z : ℕ). index_under v.shape v.seen top z 0) none;
         };
       }
 
   -- who knows a table may compare two of its snapshots
-  pub walks_both : (k : Known) (bits left : ℕ) (now : PassFacts) (earlier later : Snapshot) → KnowsTable (face parts_a parts_b) k.view → bits ≡ k.view.shape.bits → pass_facts k left ≡ now → HasSnapshot now earlier → HasSnapshot now later
+  pub walks_both : (k : Known) (bits left : ℕ) (now : PassFacts) (earlier later : Snapshot) → KnowsRecords (face parts_a parts_b) k.view → bits ≡ k.view.shape.bits → pass_facts k left ≡ now → HasSnapshot now earlier → HasSnapshot now later
       → IsBothWalk (face parts_a parts_b) k.view earlier later bits
   walks_both k bits left now earlier later kn bits_are facts one other =
       let f = face parts_a parts_b in

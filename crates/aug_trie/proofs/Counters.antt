@@ -140,9 +140,9 @@ module _ (face : ℕ → ℕ → List (ℕ × ℕ) → List ℕ) where
   -- an update counts what it came to
   pub counted_by : (used : ℕ) (v w : SeatView) (key inserts removals : ℕ) (request : Request) (done : Outcome) → Updated face used v key request w done → HasCounts (changes_of v.held) inserts removals
       → HasCounts (changes_of w.held) (inserts + insertions_by request done) (removals + removals_by request done)
-  counted_by used v w key inserts removals request Accepted u c = counted_to v w inserts removals (insertions_by request Accepted) (removals_by request Accepted) (made_by key (advance_from request key u.loaded)) u.came_to.0.goes.changes c (counted_made request key u.loaded false u.came_to.1 u.came_to.2)
-  counted_by used v w key inserts removals request Replaced u c = counted_to v w inserts removals (insertions_by request Replaced) (removals_by request Replaced) (made_by key (advance_from request key u.loaded)) u.came_to.0.goes.changes c (counted_made request key u.loaded true u.came_to.1 u.came_to.2)
-  counted_by used v w key inserts removals request Refused u c = counted_to v w inserts removals (insertions_by request Refused) (removals_by request Refused) [] u.came_to.goes.changes c (counted_nothing request Refused refl)
-  counted_by used v w key inserts removals request Unchanged u c = counted_to v w inserts removals (insertions_by request Unchanged) (removals_by request Unchanged) [] u.came_to.stayed.goes.changes c (counted_nothing request Unchanged refl)
-  counted_by used v w key inserts removals request TooGreat u c = counted_to v w inserts removals (insertions_by request TooGreat) (removals_by request TooGreat) [] u.came_to.stayed.goes.changes c (counted_nothing request TooGreat refl)
-  counted_by used v w key inserts removals request TooLittle u c = counted_to v w inserts removals (insertions_by request TooLittle) (removals_by request TooLittle) [] u.came_to.stayed.goes.changes c (counted_nothing request TooLittle refl)
+  counted_by used v w key inserts removals request Accepted u c = counted_to v w inserts removals (insertions_by request Accepted) (removals_by request Accepted) (made_by key (advance_from request key u.came.whole)) u.came.came_to.0.goes.changes c (counted_made request key u.came.whole false u.came.came_to.1 u.came.came_to.2)
+  counted_by used v w key inserts removals request Replaced u c = counted_to v w inserts removals (insertions_by request Replaced) (removals_by request Replaced) (made_by key (advance_from request key u.came.whole)) u.came.came_to.0.goes.changes c (counted_made request key u.came.whole true u.came.came_to.1 u.came.came_to.2)
+  counted_by used v w key inserts removals request Refused u c = counted_to v w inserts removals (insertions_by request Refused) (removals_by request Refused) [] u.came.came_to.goes.changes c (counted_nothing request Refused refl)
+  counted_by used v w key inserts removals request Unchanged u c = counted_to v w inserts removals (insertions_by request Unchanged) (removals_by request Unchanged) [] u.came.came_to.stayed.goes.changes c (counted_nothing request Unchanged refl)
+  counted_by used v w key inserts removals request TooGreat u c = counted_to v w inserts removals (insertions_by request TooGreat) (removals_by request TooGreat) [] u.came.came_to.stayed.goes.changes c (counted_nothing request TooGreat refl)
+  counted_by used v w key inserts removals request TooLittle u c = counted_to v w inserts removals (insertions_by request TooLittle) (removals_by request TooLittle) [] u.came.came_to.stayed.goes.changes c (counted_nothing request TooLittle refl)

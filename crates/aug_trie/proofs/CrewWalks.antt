@@ -6,16 +6,16 @@ use Rattle.aug_model.specs.Keys.{SetFacts, keys_of}
 use Rattle.aug_model.proofs.Boundaries.{IsKeySet-few}
 use Rattle.aug_model.proofs.Pairs.{length-keys_of}
 use Rattle.aug_query.specs.Tree.{IsTreeSet}
-use Rattle.aug_core.specs.inside.RoundTables.{KnowsTable}
 use Rattle.aug_core.specs.Faces.{face}
 use Rattle.aug_core.specs.inside.RootCuts.{root_cut}
 use Rattle.aug_core.specs.declared.view.SeatView.{SeatView}
-use Rattle.aug_core.proofs.Fits.{table_as}
+use Rattle.aug_core.proofs.Fits.{book_as}
 use Rattle.aug_words.specs.Leads.{MayOpen}
 use Rattle.aug_words.specs.Seats.{Known, NamesRoot}
 use Rattle.aug_trie.specs.Crew.{CrewFacts, CrewReads, set_of_crew}
 use Rattle.aug_trie.specs.History.{last_cut}
 use Rattle.aug_trie.specs.inside.CrewState.{crew_facts, HasCrew, HoldsCrew}
+use Rattle.aug_trie.specs.inside.Goes.{KnowsRecords}
 use Rattle.aug_trie.specs.inside.Knows.{knows}
 use Rattle.aug_trie.specs.inside.NamedCuts.{HasNamed, cut_named, members_of}
 use Rattle.aug_trie.specs.inside.NodeWords.{IsNodeAt}
@@ -35,9 +35,9 @@ module _ {A B : Type 0} (parts_a : Parts A) (parts_b : Parts B) where
   f = face parts_a parts_b
 
   -- what names the root's newest record names the last cut
-  module _ (v : SeatView) (held : Snapshot) (kn : KnowsTable f v) (named : NamesRoot v held.number) where
+  module _ (v : SeatView) (held : Snapshot) (kn : KnowsRecords f v) (named : NamesRoot v held.number) where
     shows : HasNamed v.shape v.seen held × (cut_named v.shape v.seen held ≡ root_cut v.shape v.seen named.index)
-    shows = shows_entry f v.shape v.seen held named.index named.entry kn.book kn.named (inner_root parts_a parts_b v kn) named.newest.at named.named
+    shows = shows_entry f v.shape v.seen held named.index named.entry kn.knows_table.book (kn.knows_table.in_round kn.keeps_records).0 (inner_root parts_a parts_b v kn.knows_table) named.newest.at named.named
 
     pub last_named : cut_named v.shape v.seen held ≡ last_cut (knows v).history
     last_named = shows.1 ∙ sym (last_is v.shape v.seen named.index named.newest.last)
@@ -47,14 +47,14 @@ module _ {A B : Type 0} (parts_a : Parts A) (parts_b : Parts B) where
     walk_of_last bits same = record {
       bits_are = same;
       top = record {
-        knows_table = kn;
-        is_tree_set = named_set f v held kn;
-        node = subst (λ (z : ℕ). IsNodeAt v.shape v.seen (cut_named v.shape v.seen held) z 0 held.number) (sym same) (top_is parts_a parts_b v held kn shows.0);
+        knows_records = kn;
+        is_tree_set = named_set f v held kn.knows_table;
+        node = subst (λ (z : ℕ). IsNodeAt v.shape v.seen (cut_named v.shape v.seen held) z 0 held.number) (sym same) (top_is parts_a parts_b v held kn.knows_table shows.0);
       };
     }
 
   -- over the crew's set
-  pub set_of_last : (lead : Known) (free : Bool) (s : Snapshot) → KnowsTable f lead.view → NamesRoot lead.view s.number → set_seen lead.view s ≡ set_of_crew (crew_facts lead free)
+  pub set_of_last : (lead : Known) (free : Bool) (s : Snapshot) → KnowsRecords f lead.view → NamesRoot lead.view s.number → set_seen lead.view s ≡ set_of_crew (crew_facts lead free)
   set_of_last lead free s kn named = ap (members_of lead.view.shape.bits) (last_named lead.view s kn named)
 
   -- the crew is one still, and has only read
@@ -69,7 +69,8 @@ module _ {A B : Type 0} (parts_a : Parts A) (parts_b : Parts B) where
           holds = record {
             handed = h.handed;
             is_crew = record {
-              knows_table = table_as f v refl refl refl h.is_crew.knows_table;
+              keeps_records = h.is_crew.keeps_records;
+              knows_table = book_as f v refl refl refl h.is_crew.knows_table;
               hands_out = h.is_crew.hands_out;
               took_back = refl;
               knowledge = let k = h.is_crew.knowledge in record { is_history = k.is_history; stands = k.stands };
@@ -87,14 +88,14 @@ module _ {A B : Type 0} (parts_a : Parts A) (parts_b : Parts B) where
   -- a crew that took its lead out, walked, and has it again
   module _ (lead : Option Known) (k : Known) (now : CrewFacts) {free : Bool} (back inserts removals : ℕ) (h : HasCrew f lead back inserts removals free) (there : lead ≡ Some k) (facts : crew_facts (known_in lead) free ≡ now)
       (walk : Walking) (same : walk.words ≡ k) (newest : NamesRoot k.view walk.snapshot.number) where
-    kn : KnowsTable f k.view
-    kn = (crew_told h there facts).0.is_crew.knows_table
+    kn : KnowsRecords f k.view
+    kn = let c = (crew_told h there facts).0.is_crew in record { knows_table = c.knows_table; keeps_records = c.keeps_records }
 
     pub walked_set : set_seen walk.words.view walk.snapshot ≡ set_of_crew now
     walked_set = ap (λ (z : Known). set_seen z.view walk.snapshot) same ∙ set_of_last k free walk.snapshot kn newest ∙ ap set_of_crew (crew_told h there facts).1
 
     pub walked_tree_set : IsTreeSet (set_of_crew now)
-    walked_tree_set = subst IsTreeSet walked_set (subst (λ (z : Known). IsTreeSet (set_seen z.view walk.snapshot)) (sym same) (named_set f k.view walk.snapshot kn))
+    walked_tree_set = subst IsTreeSet walked_set (subst (λ (z : Known). IsTreeSet (set_seen z.view walk.snapshot)) (sym same) (named_set f k.view walk.snapshot kn.knows_table))
 
     pub walked_few : length (set_seen walk.words.view walk.snapshot).pairs ≤ 2 ^ now.round.bits
     walked_few = let set : SetFacts = set_of_crew now in let tree = walked_tree_set in let few = IsKeySet-few set.bits (keys_of set.pairs) tree.is_key_set in let long = length-keys_of set.pairs in

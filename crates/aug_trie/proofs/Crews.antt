@@ -16,8 +16,7 @@ use Rattle.aug_core.specs.Addresses.{root_place}
 use Rattle.aug_core.specs.Cuts.{Cut, opening_cut}
 use Rattle.aug_core.specs.inside.RootCuts.{root_cut}
 use Rattle.aug_core.specs.Opening.{Opening, opening_book}
-use Rattle.aug_core.specs.Effects.{HoldsOnly, LoadsNode, finishing, taking_back, handed_out, handing_out, taking, own_lane_place}
-use Rattle.aug_core.specs.inside.RoundTables.{KnowsTable}
+use Rattle.aug_core.specs.Effects.{HoldsOnly, LoadsNode, finishing, taking_back, handed_out, handing_out, taking, own_lane_place, KnowsBook}
 use Rattle.aug_core.specs.declared.view.Entry.{Entry}
 use Rattle.aug_core.specs.declared.view.PastEra.{PastEra}
 use Rattle.aug_core.specs.declared.view.SeatView.{SeatView}
@@ -43,7 +42,6 @@ use Rattle.aug_trie.proofs.Handing.{crew_begins, handed_out_is, handed_back_is, 
 use Rattle.aug_trie.proofs.Histories.{numbers_long}
 use Rattle.aug_trie.proofs.Keeping.{weighs_later}
 use Rattle.aug_trie.proofs.RoundLemmas.{of_round}
-use Rattle.aug_core.proofs.Fits.{round_table}
 
 module _ (face : ℕ → ℕ → List (ℕ × ℕ) → List ℕ) where
   -- the lead of a table that was just opened
@@ -51,7 +49,7 @@ module _ (face : ℕ → ℕ → List (ℕ × ℕ) → List ℕ) where
     pub begins_crew : o.shape.reservations ≡ 0 → (past : List PastEra) (era base : ℕ) (lent words whole : List ℕ) → HoldsCrew face (opener face o past era base lent words whole) 0 0 0
     begins_crew off past era base lent words whole = record {
       handed = 0;
-      is_crew = crew_begins face (opener face o past era base lent words whole) (round_table face (opener face o past era base lent words whole) off (opener_knows face o past era base lent words whole laid_out set fit (let long = length-keys_of o.members in omega arith))) refl refl;
+      is_crew = crew_begins face (opener face o past era base lent words whole) off (opener_knows face o past era base lent words whole laid_out set fit (let long = length-keys_of o.members in omega arith)) refl refl;
       few = omega arith;
       back_is = refl;
       inserts_are = refl;
@@ -104,7 +102,7 @@ module _ (face : ℕ → ℕ → List (ℕ × ℕ) → List ℕ) where
         let laid : IsLayout s = subst IsLayout shaped kn in let words = laid.words in let few = keys-within s.bits laid.bits.0 laid.bits.1 in
         let small : first_record s lane + s.updates * s.bits < 2 ^ 60 = omega arith in
         subst (λ (z : ℕ). IsPass face pass leaves s.bits z s.updates) (sym first) (subst (λ (z : Shape × Option ℕ). IsPass face pass leaves z.0.bits (first_record z.0 (unwrap_or z.1 0)) z.0.updates) (λ i. (to_s i, (same_spare ∙ spare) i))
-        (pass_begins face b place leaves (subst (λ (z : Shape × Option ℕ). unwrap_or z.1 0 < z.0.workers) (λ i. (sym to_s i, sym (same_spare ∙ spare) i)) inside) (pass_table face old b r c.is_crew.knows_table l place) (subst (λ (z : Shape). HasLeaves z leaves) (sym to_s) (record { are = full; few = omega arith }))
+        (pass_begins face b place leaves (ap (λ (z : Shape). z.reservations) same_shape ∙ c.is_crew.keeps_records) (subst (λ (z : Shape × Option ℕ). unwrap_or z.1 0 < z.0.workers) (λ i. (sym to_s i, sym (same_spare ∙ spare) i)) inside) (pass_table face old b r c.is_crew.knows_table l place) (subst (λ (z : Shape). HasLeaves z leaves) (sym to_s) (record { are = full; few = omega arith }))
         (subst (λ (z : Shape × Option ℕ). first_record z.0 (unwrap_or z.1 0) + z.0.updates * z.0.bits < 2 ^ 60) (λ i. (sym to_s i, sym (same_spare ∙ spare) i)) small)))
 
     pub hands_counts : HasCounts (changes_of pass.held) 0 0
@@ -139,7 +137,7 @@ module _ (face : ℕ → ℕ → List (ℕ × ℕ) → List ℕ) where
       → HoldsCrew face old.view back inserts removals → old.view.spare ≡ Some lane → workers ≡ s.workers → lane ≢ workers → HandsLaneOut face old.view lead.view pass.view → lead.table ≡ old.table → pass.table ≡ old.table
       → shift ≡ s.bits → bits ≡ s.bits → next ≡ first_record s lane → next + lane_records s ≤ record_count s → updates ≡ s.updates → PassOut now lead pass free back inserts removals (1 * 2 ^ shift % 18446744073709551616) bits next updates
   pass_out store old lead pass s now table lane workers shift {free} {back} {inserts} {removals} {bits} {next} {updates} is one store_is shape holds spare workers_are other h lead_table pass_table shift_is bits_are first within updates_are =
-      let v : SeatView = old.view in let place : ℕ = own_lane_place (handed_out h.between) in let leaves : ℕ = 1 * 2 ^ shift % 18446744073709551616 in let shaped : v.shape ≡ s = (of_round store old now table shape.keeps_records holds.is_crew.knows_table.keeps_records is one store_is).one_shape ∙ sym shape.laid_out in
+      let v : SeatView = old.view in let place : ℕ = own_lane_place (handed_out h.between) in let leaves : ℕ = 1 * 2 ^ shift % 18446744073709551616 in let shaped : v.shape ≡ s = (of_round store old now table shape.keeps_records holds.is_crew.keeps_records is one store_is).one_shape ∙ sym shape.laid_out in
       let at : holds.handed ≡ lane = ap (λ (z : Option ℕ). unwrap_or z 0) (sym holds.is_crew.hands_out ∙ spare) in
       let low : holds.handed < v.shape.workers = let all : v.shape.workers ≡ s.workers = ap (λ (z : Shape). z.workers) shaped in let few = holds.few in omega arith in
       let most = (subst IsLayout shaped holds.is_crew.knows_table.laid_out).bits.1 in let full : leaves ≡ 2 ^ s.bits = one_shl shift 64 (omega arith) ∙ ap (λ (z : ℕ). 2 ^ z) shift_is in
@@ -153,7 +151,7 @@ module _ (face : ℕ → ℕ → List (ℕ × ℕ) → List ℕ) where
       }
 
   -- a lead that took a pass in and loaded the root
-  module _ (old p w : SeatView) (place r back inserts removals more less : ℕ) (c : HoldsCrew face old back inserts removals) (lane : Held) (only : HoldsOnly p lane) (one_shape : p.shape ≡ old.shape) (kp : KnowsTable face p) (known : KnowsRound p)
+  module _ (old p w : SeatView) (place r back inserts removals more less : ℕ) (c : HoldsCrew face old back inserts removals) (lane : Held) (only : HoldsOnly p lane) (one_shape : p.shape ≡ old.shape) (kp : KnowsBook face p) (known : KnowsRound p)
       (counts : HasCounts (changes_of p.held) more less) (l : LoadsNode face (taking_back old (finishing p place)) (root_place old.shape) r w) where
     back_knows : HandedBack (knows old) (knows p) (knows w)
     back_knows = handed_back_is face old p w place r lane c.is_crew.knows_table kp one_shape only l

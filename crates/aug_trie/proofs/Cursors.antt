@@ -18,7 +18,7 @@ use Rattle.aug_trie.specs.declared.queries.cursor.SnapshotCursor.{SnapshotCursor
 use Rattle.aug_trie.specs.declared.queries.node.Node.{Node}
 use Rattle.aug_trie.specs.declared.queries.snapshot.Snapshot.{Snapshot}
 use Rattle.aug_trie.proofs.Asking.{reads_of}
-use Rattle.aug_trie.proofs.Passing.{pass_told}
+use Rattle.aug_trie.proofs.Passing.{pass_records, pass_told}
 use Rattle.aug_trie.proofs.SnapshotWalks.{WalkDescends}
 
 -- a cursor of the snapshot that a walk goes over
@@ -34,7 +34,7 @@ module _ (f : ℕ → ℕ → List (ℕ × ℕ) → List ℕ) where
       let of_words = subst (λ (z : PassFacts). IsCursorOf z at) (sym told.1) of in
       let is = of_words.is_cursor in
       let tree = is.is_tree_set in
-      let kept = cursor_kept {Still = λ level place word. IsNamed f walk.words.view at.snapshot level place word} (λ level place word low fits named. record { knows_table = told.0.knows_table; is_tree_set = tree; node = named }) refl is in
+      let kept = cursor_kept {Still = λ level place word. IsNamed f walk.words.view at.snapshot level place word} (λ level place word low fits named. record { knows_records = pass_records told.0; is_tree_set = tree; node = named }) refl is in
       subst (λ s. IsCursor {N = ℕ} (λ level place word. IsNamed f walk.words.view s level place word) (set_seen walk.words.view s) at.cursor) (sym same) kept
 
 module _ {A B : Type 0} (parts_a : Parts A) (parts_b : Parts B) where

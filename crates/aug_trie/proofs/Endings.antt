@@ -59,7 +59,7 @@ changes_few (h ∷ hs) most each = let here = each 0 h refl in let rest = change
 
 module _ (face : ℕ → ℕ → List (ℕ × ℕ) → List ℕ) (v : SeatView) (back inserts removals : ℕ) (c : HoldsCrew face v back inserts removals) (s : St) (r : Kept face (opening_of v) s) (id : ℕ) (at : get_elem? s.views id ≡ some v) where
   all_held : length v.held ≤ c.handed
-  all_held = held_few face s id c.handed v r at c.is_crew.hands_out c.is_crew.knows_table c.is_crew.knowledge.stands
+  all_held = held_few face s id c.handed v r at c.is_crew.hands_out c.is_crew.keeps_records c.is_crew.knows_table c.is_crew.knowledge.stands
 
   pub back_exact : back ≡ length v.held
   back_exact = let few = all_held in let most = c.few in let workers = c.is_crew.knows_table.laid_out.workers.1 in c.back_is ∙ mod-eq_of_lt (omega arith)
@@ -69,7 +69,7 @@ module _ (face : ℕ → ℕ → List (ℕ × ℕ) → List ℕ) (v : SeatView) 
 
   changes_fit : length (changes_of v.held) < 2 ^ 32
   changes_fit = let few = all_held in let most = c.few in let laid = c.is_crew.knows_table.laid_out in let workers = laid.workers.1 in let updates = laid.updates.1 in
-      let t = r.changes.tallied c.is_crew.knows_table.keeps_records in let le = changes_few v.held 131072 (λ a h p. let is = t.each id a v h at p in let le = t.few h.lane ((r.each_view id v at).holds a h p).exists in omega arith) in omega arith
+      let t = r.changes.tallied c.is_crew.keeps_records in let le = changes_few v.held 131072 (λ a h p. let is = t.each id a v h at p in let le = t.few h.lane ((r.each_view id v at).holds a h p).exists in omega arith) in omega arith
 
   inserts_exact : inserts ≡ inserts_of (changes_of v.held)
   inserts_exact = let fit = changes_fit in let le : inserts_of (changes_of v.held) ≤ length (changes_of v.held) = filter_shorter (λ (z : Change). eqb (z.serial % 2) insertion) (changes_of v.held) in c.inserts_are ∙ mod-eq_of_lt (omega arith)
@@ -92,7 +92,7 @@ module _ (face : ℕ → ℕ → List (ℕ × ℕ) → List ℕ) (v : SeatView) 
       → Ends (crew_facts (record { table = table; view = v }) free) ended
   ends_so table free ended bits members ins rem miss loads = let spare : unwrap_or v.spare 0 ≡ c.handed = ap (λ (z : Option ℕ). unwrap_or z 0) c.is_crew.hands_out in
       let both : Accounts ended.missing = subst Accounts (ap (λ (z : ℕ). c.handed - z) (sym back_exact) ∙ sym miss)
-      (accounts_at_end face s id c.handed v r at c.is_crew.hands_out c.is_crew.knows_table c.is_crew.knowledge.stands (length v.held) refl risen) in record {
+      (accounts_at_end face s id c.handed v r at c.is_crew.hands_out c.is_crew.keeps_records c.is_crew.knows_table c.is_crew.knowledge.stands (length v.held) refl risen) in record {
         bits = bits;
         members = members;
         inserts = ins ∙ inserts_exact;

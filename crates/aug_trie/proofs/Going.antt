@@ -7,8 +7,7 @@ use Rattle.aug_core.specs.Places.{Shape}
 use Rattle.aug_core.specs.Book.{ArePrefixes, IsFresh}
 use Rattle.aug_core.specs.Counts.{changes_of}
 use Rattle.aug_core.specs.Kinds.{store_record_word}
-use Rattle.aug_core.specs.Effects.{HoldsOnly, own_lane, on_first, storing_in, last_replaced, publishing_from, with_changes, stepping, storing, seeing, beginning, publishing, changing, MayStore, MayChange, Sees}
-use Rattle.aug_core.specs.inside.RoundTables.{KnowsTable}
+use Rattle.aug_core.specs.Effects.{HoldsOnly, own_lane, on_first, storing_in, last_replaced, publishing_from, with_changes, stepping, storing, seeing, beginning, publishing, changing, MayStore, MayChange, Sees, KnowsBook}
 use Rattle.aug_core.specs.declared.step.StepTaken.{StepTaken}
 use Rattle.aug_core.specs.declared.view.Change.{Change}
 use Rattle.aug_core.specs.declared.step.StepKind.{StepKind}
@@ -18,7 +17,7 @@ use Rattle.aug_core.specs.declared.view.Replaced.{Replaced}
 use Rattle.aug_core.specs.declared.view.SeatView.{SeatView}
 use Rattle.aug_core.proofs.Books.{fresh_now, fresh_on}
 use Rattle.aug_core.proofs.Clients.{may_store_same, may_store_on, may_store_changing, may_store_publishing}
-use Rattle.aug_core.proofs.Fits.{knows_shown, table_as}
+use Rattle.aug_core.proofs.Fits.{book_shown, book_as}
 use Rattle.aug_trie.specs.inside.RoundState.{eras_of}
 use Rattle.aug_trie.specs.inside.Points.{QuietStep}
 use Rattle.aug_trie.specs.inside.Goes.{HasRoom, Took, TookBetween, Goes}
@@ -124,7 +123,7 @@ quiet_publishing v w number taken is later = (
 )
 
 module _ (face : ℕ → ℕ → List (ℕ × ℕ) → List ℕ) where
-  pub goes_self : (v : SeatView) → KnowsTable face v → Goes face 0 [] v v
+  pub goes_self : (v : SeatView) → KnowsBook face v → Goes face 0 [] v v
   goes_self v kn = record {
     later = book_refl v.seen;
     fresh = fresh_now v.shape v.seen;
@@ -161,11 +160,11 @@ module _ (face : ℕ → ℕ → List (ℕ × ℕ) → List ℕ) where
   goes_more a c gained v w le g = record { later = g.later; fresh = g.fresh; knows_table = g.knows_table; shaped = g.shaped; same_members = g.same_members; same_eras = g.same_eras; lane = g.lane; changes = g.changes; holds = g.holds; still_owned = λ n past may. g.still_owned n (omega arith) may }
 
   -- a view that only made a step
-  pub goes_stepping : (v w : SeatView) (taken : StepTaken) → w ≡ stepping v taken → KnowsTable face v → Goes face 0 [] v w
+  pub goes_stepping : (v w : SeatView) (taken : StepTaken) → w ≡ stepping v taken → KnowsBook face v → Goes face 0 [] v w
   goes_stepping v w taken is kn = subst (Goes face 0 [] v) (sym is) record {
     later = book_refl v.seen;
     fresh = fresh_now v.shape v.seen;
-    knows_table = table_as face v refl refl refl kn;
+    knows_table = book_as face v refl refl refl kn;
     shaped = refl;
     same_members = refl;
     same_eras = refl;
@@ -176,11 +175,11 @@ module _ (face : ℕ → ℕ → List (ℕ × ℕ) → List ℕ) where
   }
 
   -- one that stored a word of its lane
-  pub goes_storing : (v w : SeatView) (place value : ℕ) → w ≡ storing v place value → KnowsTable face v → Goes face 0 [] v w
+  pub goes_storing : (v w : SeatView) (place value : ℕ) → w ≡ storing v place value → KnowsBook face v → Goes face 0 [] v w
   goes_storing v w place value is kn = let f' : Held → Held = storing_in v.shape place value in subst (Goes face 0 [] v) (sym is) record {
     later = book_refl v.seen;
     fresh = fresh_now v.shape v.seen;
-    knows_table = table_as face v refl refl refl kn;
+    knows_table = book_as face v refl refl refl kn;
     shaped = refl;
     same_members = refl;
     same_eras = refl;
@@ -190,11 +189,11 @@ module _ (face : ℕ → ℕ → List (ℕ × ℕ) → List ℕ) where
     still_owned = λ n _ may. may_store_on v (storing v place value) place value n may refl;
   }
 
-  goes_shown : (v w : SeatView) → w.shape ≡ v.shape → w.members ≡ v.members → eras_of w ≡ eras_of v → w.held ≡ v.held → KnowsTable face v → Sees face v w → Goes face 0 [] v w
+  goes_shown : (v w : SeatView) → w.shape ≡ v.shape → w.members ≡ v.members → eras_of w ≡ eras_of v → w.held ≡ v.held → KnowsBook face v → Sees face v w → Goes face 0 [] v w
   goes_shown v w shaped same era held kn sees = record {
     later = sees.later;
     fresh = sees.fresh;
-    knows_table = knows_shown face v w kn sees shaped same;
+    knows_table = book_shown face v w kn sees shaped same;
     shaped = shaped;
     same_members = same;
     same_eras = era;
@@ -205,20 +204,20 @@ module _ (face : ℕ → ℕ → List (ℕ × ℕ) → List ℕ) where
   }
 
   -- a view that was shown the whole book
-  pub goes_seeing : (v w : SeatView) (taken : StepTaken) → w ≡ seeing v w.seen taken → KnowsTable face v → Sees face v w → Goes face 0 [] v w
+  pub goes_seeing : (v w : SeatView) (taken : StepTaken) → w ≡ seeing v w.seen taken → KnowsBook face v → Sees face v w → Goes face 0 [] v w
   goes_seeing v w taken is kn sees = goes_shown v w (ap (λ (z : SeatView). z.shape) is) (ap (λ (z : SeatView). z.members) is) (ap eras_of is) (ap (λ (z : SeatView). z.held) is) kn sees
 
   -- and one that began an update with it
-  pub goes_beginning : (v w : SeatView) (taken : StepTaken) → w ≡ beginning v w.seen taken → KnowsTable face v → Sees face v w → Goes face 0 [] v w
+  pub goes_beginning : (v w : SeatView) (taken : StepTaken) → w ≡ beginning v w.seen taken → KnowsBook face v → Sees face v w → Goes face 0 [] v w
   goes_beginning v w taken is kn sees = goes_shown v w (ap (λ (z : SeatView). z.shape) is) (ap (λ (z : SeatView). z.members) is) (ap eras_of is) (ap (λ (z : SeatView). z.held) is) kn sees
 
   -- a view that published a record
-  pub goes_publishing : (v w : SeatView) (number : ℕ) (taken : StepTaken) → w ≡ publishing v w.seen number taken → KnowsTable face v → Sees face v w → Goes face (number + 1) [] v w
+  pub goes_publishing : (v w : SeatView) (number : ℕ) (taken : StepTaken) → w ≡ publishing v w.seen number taken → KnowsBook face v → Sees face v w → Goes face (number + 1) [] v w
   goes_publishing v w number taken is kn sees = let shaped : w.shape ≡ v.shape = ap (λ (z : SeatView). z.shape) is in let same : w.members ≡ v.members = ap (λ (z : SeatView). z.members) is in let era : eras_of w ≡ eras_of v = ap eras_of is in
       let mark : Replaced = last_replaced w.seen taken.place in let held : w.held ≡ on_first (publishing_from number mark) v.held = ap (λ (z : SeatView). z.held) is in record {
         later = sees.later;
         fresh = sees.fresh;
-        knows_table = knows_shown face v w kn sees shaped same;
+        knows_table = book_shown face v w kn sees shaped same;
         shaped = shaped;
         same_members = same;
         same_eras = era;
@@ -229,13 +228,13 @@ module _ (face : ℕ → ℕ → List (ℕ × ℕ) → List ℕ) where
       }
 
   -- a view whose changes were accepted
-  pub goes_changing : (v w : SeatView) (more : List Change) (taken : StepTaken) (h : Held) → HoldsOnly v h → w ≡ changing v w.seen more taken → KnowsTable face v → Sees face v w → Goes face 0 more v w
+  pub goes_changing : (v w : SeatView) (more : List Change) (taken : StepTaken) (h : Held) → HoldsOnly v h → w ≡ changing v w.seen more taken → KnowsBook face v → Sees face v w → Goes face 0 more v w
   goes_changing v w more taken h only is kn sees = let shaped : w.shape ≡ v.shape = ap (λ (z : SeatView). z.shape) is in let same : w.members ≡ v.members = ap (λ (z : SeatView). z.members) is in let era : eras_of w ≡ eras_of v = ap eras_of is in
       let held : w.held ≡ on_first (with_changes more) v.held = ap (λ (z : SeatView). z.held) is in
       let new : HoldsOnly w (with_changes more h) = held ∙ ap (on_first (with_changes more)) only in record {
         later = sees.later;
         fresh = sees.fresh;
-        knows_table = knows_shown face v w kn sees shaped same;
+        knows_table = book_shown face v w kn sees shaped same;
         shaped = shaped;
         same_members = same;
         same_eras = era;
@@ -249,20 +248,20 @@ module _ (face : ℕ → ℕ → List (ℕ × ℕ) → List ℕ) where
 
   -- the room that is left after some records were used
   pub room_left : (v w : SeatView) (number done all more : ℕ) (gained : List Change) → done + more ≤ all → Goes face (number + done) gained v w → HasRoom v number all → HasRoom w (number + done) more
-  room_left v w number done all more gained enough g r = record { holds = g.holds r.holds; owns = λ n past below. g.still_owned n past (r.owns n (omega arith) (omega arith)) }
+  room_left v w number done all more gained enough g r = record { keeps_records = ap (λ (z : Shape). z.reservations) g.shaped ∙ r.keeps_records; holds = g.holds r.holds; owns = λ n past below. g.still_owned n past (r.owns n (omega arith) (omega arith)) }
 
   -- the room of a record that was not published
   pub room_again : (v w : SeatView) (number used : ℕ) → Goes face used [] v w → MayStore w number → HasRoom v number 1 → HasRoom w number 1
-  room_again v w number used g may r = record { holds = g.holds r.holds; owns = λ n past below. let is : number ≡ n = omega arith in subst (MayStore w) is may }
+  room_again v w number used g may r = record { keeps_records = ap (λ (z : Shape). z.reservations) g.shaped ∙ r.keeps_records; holds = g.holds r.holds; owns = λ n past below. let is : number ≡ n = omega arith in subst (MayStore w) is may }
 
   -- steps that published nothing leave all the room
   pub room_on : (gained : List Change) (v w : SeatView) (next records : ℕ) → Goes face 0 gained v w → HasRoom v next records → HasRoom w next records
-  room_on gained v w next records g r = record { holds = g.holds r.holds; owns = λ n past below. g.still_owned n (omega arith) (r.owns n past below) }
+  room_on gained v w next records g r = record { keeps_records = ap (λ (z : Shape). z.reservations) g.shaped ∙ r.keeps_records; holds = g.holds r.holds; owns = λ n past below. g.still_owned n (omega arith) (r.owns n past below) }
 
 -- some of the room
 pub room_within : (v : SeatView) (next all more : ℕ) → more ≤ all → HasRoom v next all → HasRoom v next more
-room_within v next all more le r = record { holds = r.holds; owns = λ n past below. r.owns n past (omega arith) }
+room_within v next all more le r = record { keeps_records = r.keeps_records; holds = r.holds; owns = λ n past below. r.owns n past (omega arith) }
 
 -- a view that holds the same lanes has the same room
 pub room_same : (v w : SeatView) (next records : ℕ) → w.shape ≡ v.shape → w.held ≡ v.held → HasRoom v next records → HasRoom w next records
-room_same v w next records shaped held r = record { holds = (r.holds.0, held ∙ r.holds.1); owns = λ n past below. may_store_same v w n shaped held (r.owns n past below) }
+room_same v w next records shaped held r = record { keeps_records = ap (λ (z : Shape). z.reservations) shaped ∙ r.keeps_records; holds = (r.holds.0, held ∙ r.holds.1); owns = λ n past below. may_store_same v w n shaped held (r.owns n past below) }

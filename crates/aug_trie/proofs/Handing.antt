@@ -2,16 +2,16 @@
 use Rattle.std.proofs.Common.{◌≡◌, ℕ, ◌+◌, ◌-◌, ◌*◌, ◌^◌, ◌<◌, List, [], ◌∷◌, ◌++◌, append_assoc, length, length-append, All, sym, refl, ap, ◌∙◌, subst, arith}
 use Rattle.std.specs.Prelude.{unwrap_or, Some}
 use Rattle.std.proofs.lemmas.List.Elements.{All-nil, All-append}
+use Rattle.aug_core.specs.Places.{Shape}
 use Rattle.aug_core.specs.Addresses.{root_place}
 use Rattle.aug_core.specs.Lanes.{first_record, lane_records, new_lane}
 use Rattle.aug_core.specs.Counts.{changes_of}
-use Rattle.aug_core.specs.Effects.{HoldsOnly, LoadsNode, in_state, on_first, handing_out, handed_out, taking, finishing, taking_back, MayStore}
-use Rattle.aug_core.specs.inside.RoundTables.{KnowsTable}
+use Rattle.aug_core.specs.Effects.{HoldsOnly, LoadsNode, in_state, on_first, handing_out, handed_out, taking, finishing, taking_back, MayStore, KnowsBook}
 use Rattle.aug_core.specs.declared.view.Change.{Change}
 use Rattle.aug_core.specs.declared.view.Held.{Held}
 use Rattle.aug_core.specs.declared.view.LaneState.TheVariants.{Taken, Ended}
 use Rattle.aug_core.specs.declared.view.SeatView.{SeatView}
-use Rattle.aug_core.proofs.Fits.{knows_shown, table_as}
+use Rattle.aug_core.proofs.Fits.{book_shown, book_as}
 use Rattle.aug_core.proofs.Clients.{new_lane_owns}
 use Rattle.aug_trie.specs.inside.Goes.{HasRoom, HasLeaves}
 use Rattle.aug_trie.specs.History.{last_cut}
@@ -30,8 +30,9 @@ changes-append (h ∷ hs) b = ap (λ (z : List Change). h.changes ++ z) (changes
 
 module _ (face : ℕ → ℕ → List (ℕ × ℕ) → List ℕ) where
   -- the lead of a new table is a crew
-  pub crew_begins : (v : SeatView) → KnowsTable face v → v.held ≡ [] → v.spare ≡ Some 0 → IsCrew face v 0 0
-  crew_begins v kn none first = record {
+  pub crew_begins : (v : SeatView) → v.shape.reservations ≡ 0 → KnowsBook face v → v.held ≡ [] → v.spare ≡ Some 0 → IsCrew face v 0 0
+  crew_begins v off kn none first = record {
+    keeps_records = off;
     knows_table = kn;
     hands_out = first;
     took_back = ap length none;
@@ -39,12 +40,12 @@ module _ (face : ℕ → ℕ → List (ℕ × ℕ) → List ℕ) where
   }
 
   -- a lead that loads the root knows what it shows
-  module _ (v w : SeatView) (r : ℕ) (kn : KnowsTable face v) (t : LoadsNode face v (root_place v.shape) r w) where
+  module _ (v w : SeatView) (r : ℕ) (kn : KnowsBook face v) (t : LoadsNode face v (root_place v.shape) r w) where
     same_shape : w.shape ≡ v.shape
     same_shape = ap (λ (z : SeatView). z.shape) t.stepped
 
-    pub loaded_table : KnowsTable face w
-    loaded_table = knows_shown face v w kn t.sees same_shape (ap (λ (z : SeatView). z.members) t.stepped)
+    pub loaded_table : KnowsBook face w
+    loaded_table = book_shown face v w kn t.sees same_shape (ap (λ (z : SeatView). z.members) t.stepped)
 
     loaded_changes : changes_of w.held ≡ changes_of v.held
     loaded_changes = ap (λ (z : SeatView). changes_of z.held) t.stepped
@@ -59,31 +60,33 @@ module _ (face : ℕ → ℕ → List (ℕ × ℕ) → List ℕ) where
     pub handed_out_is : (place : ℕ) → HandedOut (knows v) (knows (handing_out w)) (knows (taking (handed_out w) place))
     handed_out_is place = record { goes_on = knows_on face v w kn same_shape t.sees.later; same_changes = loaded_changes; pass_knows = refl }
 
-    pub pass_table : (place : ℕ) → KnowsTable face (taking (handed_out w) place)
-    pass_table place = table_as face w refl refl refl loaded_table
+    pub pass_table : (place : ℕ) → KnowsBook face (taking (handed_out w) place)
+    pass_table place = book_as face w refl refl refl loaded_table
 
     pub crew_out : (handed back : ℕ) → IsCrew face v handed back → IsCrew face (handing_out w) (handed + 1) back
     crew_out handed back c = let p : SeatView = handing_out w in record {
-      knows_table = table_as face w refl refl refl loaded_table;
+      keeps_records = ap (λ (z : Shape). z.reservations) same_shape ∙ c.keeps_records;
+      knows_table = book_as face w refl refl refl loaded_table;
       hands_out = ap (λ (z : SeatView). (handing_out z).spare) t.stepped ∙ ap (λ z. (handing_out record v { spare = z }).spare) c.hands_out;
       took_back = ap (λ (z : SeatView). length z.held) t.stepped ∙ c.took_back;
       knowledge = let k = loaded_knowledge c.knowledge in record { is_history = k.is_history; stands = k.stands };
     }
 
   -- the new pass owns all records of its lane
-  pub pass_room : (v : SeatView) (place : ℕ) → unwrap_or v.spare 0 < v.shape.workers → HasRoom (taking (handed_out v) place) (first_record v.shape (unwrap_or v.spare 0)) (lane_records v.shape)
-  pass_room v place inside = let first : ℕ = first_record v.shape (unwrap_or v.spare 0) in record {
+  pub pass_room : (v : SeatView) (place : ℕ) → v.shape.reservations ≡ 0 → unwrap_or v.spare 0 < v.shape.workers → HasRoom (taking (handed_out v) place) (first_record v.shape (unwrap_or v.spare 0)) (lane_records v.shape)
+  pass_room v place off inside = let first : ℕ = first_record v.shape (unwrap_or v.spare 0) in record {
+    keeps_records = off;
     holds = (in_state Taken (new_lane v.shape v.words (unwrap_or v.spare 0)), refl);
     owns = λ n past below. let is : first + (n - first) ≡ n = omega arith in subst (MayStore (taking (handed_out v) place)) is (new_lane_owns v place (n - first) inside (omega arith));
   }
 
   -- so it is a pass, with all its updates
-  pub pass_begins : (v : SeatView) (place leaves : ℕ) → unwrap_or v.spare 0 < v.shape.workers → KnowsTable face (taking (handed_out v) place) → HasLeaves v.shape leaves → first_record v.shape (unwrap_or v.spare 0) + v.shape.updates * v.shape.bits < 2 ^ 60 → IsPass face (taking (handed_out v) place) leaves v.shape.bits (first_record v.shape (unwrap_or v.spare 0)) v.shape.updates
-  pass_begins v place leaves inside kn l small = let p : SeatView = taking (handed_out v) place in record {
+  pub pass_begins : (v : SeatView) (place leaves : ℕ) → v.shape.reservations ≡ 0 → unwrap_or v.spare 0 < v.shape.workers → KnowsBook face (taking (handed_out v) place) → HasLeaves v.shape leaves → first_record v.shape (unwrap_or v.spare 0) + v.shape.updates * v.shape.bits < 2 ^ 60 → IsPass face (taking (handed_out v) place) leaves v.shape.bits (first_record v.shape (unwrap_or v.spare 0)) v.shape.updates
+  pass_begins v place leaves off inside kn l small = let p : SeatView = taking (handed_out v) place in record {
     leaves_are = record { are = l.are; few = l.few };
     bits_are = refl;
     knows_table = kn;
-    room = pass_room v place inside;
+    room = pass_room v place off inside;
     budget = omega arith;
     small = small;
     knowledge = record { is_history = is_history face p kn; stands = All-nil (StandsIn (last_cut (knows p).history)) };
@@ -93,7 +96,7 @@ module _ (face : ℕ → ℕ → List (ℕ × ℕ) → List ℕ) where
   finished_changes p h only = ap (λ (z : List Held). changes_of (on_first (in_state Ended) z)) only ∙ sym (ap changes_of only)
 
   -- a pass that was taken back, and the load of the root after it
-  module _ (v p w : SeatView) (place r : ℕ) (lane : Held) (kv : KnowsTable face v) (kp : KnowsTable face p) (one_shape : p.shape ≡ v.shape) (only : HoldsOnly p lane)
+  module _ (v p w : SeatView) (place r : ℕ) (lane : Held) (kv : KnowsBook face v) (kp : KnowsBook face p) (one_shape : p.shape ≡ v.shape) (only : HoldsOnly p lane)
       (t : LoadsNode face (taking_back v (finishing p place)) (root_place v.shape) r w) where
     back_shape : w.shape ≡ v.shape
     back_shape = ap (λ (z : SeatView). z.shape) t.stepped
@@ -101,8 +104,8 @@ module _ (face : ℕ → ℕ → List (ℕ × ℕ) → List ℕ) where
     pass_shape : w.shape ≡ p.shape
     pass_shape = back_shape ∙ sym one_shape
 
-    pub back_table : KnowsTable face w
-    back_table = knows_shown face (taking_back v (finishing p place)) w (table_as face v refl refl refl kv) t.sees back_shape (ap (λ (z : SeatView). z.members) t.stepped)
+    pub back_table : KnowsBook face w
+    back_table = book_shown face (taking_back v (finishing p place)) w (book_as face v refl refl refl kv) t.sees back_shape (ap (λ (z : SeatView). z.members) t.stepped)
 
     all_changes : changes_of w.held ≡ changes_of v.held ++ changes_of p.held
     all_changes = ap (λ (z : SeatView). changes_of z.held) t.stepped ∙ changes-append v.held (on_first (in_state Ended) p.held) ∙ ap (λ (z : List Change). changes_of v.held ++ z) (finished_changes p lane only)
@@ -124,6 +127,7 @@ module _ (face : ℕ → ℕ → List (ℕ × ℕ) → List ℕ) where
     -- it took one more back
     pub crew_after : (handed back : ℕ) → IsCrew face v handed back → KnowsRound p → IsCrew face w handed (back + 1)
     crew_after handed back c k = record {
+      keeps_records = ap (λ (z : Shape). z.reservations) back_shape ∙ c.keeps_records;
       knows_table = back_table;
       hands_out = ap (λ (z : SeatView). z.spare) t.stepped ∙ c.hands_out;
       took_back = let e : length w.held ≡ length v.held + length (on_first (in_state Ended) p.held) = ap (λ (z : SeatView). length z.held) t.stepped ∙ length-append v.held (on_first (in_state Ended) p.held) in

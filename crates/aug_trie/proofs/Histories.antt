@@ -19,8 +19,7 @@ use Rattle.aug_core.specs.Prefixes.{IsPrefix}
 use Rattle.aug_trie.specs.History.{IsHistory, last_cut}
 use Rattle.aug_core.specs.inside.EntryCuts.{entry_of}
 use Rattle.aug_core.specs.inside.RootCuts.{root_cut}
-use Rattle.aug_core.specs.Effects.{opening_of}
-use Rattle.aug_core.specs.inside.RoundTables.{KnowsTable}
+use Rattle.aug_core.specs.Effects.{opening_of, KnowsBook}
 use Rattle.aug_trie.specs.inside.Knows.{root_history, root_numbers}
 use Rattle.aug_core.proofs.PrefixLemmas.{prefix_at}
 use Rattle.aug_core.proofs.Levels.{root_word}
@@ -79,7 +78,7 @@ last_rises face s seen book b b' later some = let le = no_shorter book seen late
     let y : root_cut s book j ≡ last_cut (root_history s book) = sym (last_is s book j (omega arith)) in
     subst (λ (z : Cut). IsAtMost z (last_cut (root_history s book))) x (subst (IsAtMost (root_cut s book i)) y (root_rises face s book b' i j (omega arith) (omega arith)))
 
-module _ (face : ℕ → ℕ → List (ℕ × ℕ) → List ℕ) (v : SeatView) (kn : KnowsTable face v) where
+module _ (face : ℕ → ℕ → List (ℕ × ℕ) → List ℕ) (v : SeatView) (kn : KnowsBook face v) where
   abbrev root : ℕ
   root = root_place v.shape
 

@@ -5,9 +5,6 @@ use Rattle.aug_core.specs.declared.view.Entry.{Entry}
 use Rattle.aug_trie.specs.LeafWords.{serial_in_word, weight_in_word}
 use Rattle.aug_trie.specs.inside.LeafPairs.{leaf_pairs}
 
-pub serial_of_leaf : (i w : ℕ) → i < 2 ^ 32 → w < 2 ^ 32 → serial_in_word (word_of_leaf i w) ≡ i
-serial_of_leaf i w few fits = omega arith
-
 pub weight_of_leaf : (i w : ℕ) → w < 2 ^ 32 → weight_in_word (word_of_leaf i w) ≡ w
 weight_of_leaf i w fits = omega arith
 

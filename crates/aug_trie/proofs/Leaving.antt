@@ -4,25 +4,25 @@ use Rattle.std.proofs.lemmas.Bool.{cases_eq, cases_Bool, false≢true}
 use Rattle.std.proofs.lemmas.List.Elements.{All-nil}
 use Rattle.aug_core.specs.Book.{ArePrefixes}
 use Rattle.aug_core.specs.inside.Shows.{Lifts}
-use Rattle.aug_core.specs.Effects.{HoldsOnly, BeginsAtLeaf, made_by}
-use Rattle.aug_core.specs.inside.RoundTables.{KnowsTable}
+use Rattle.aug_core.specs.Effects.{HoldsOnly, BeginsAtLeaf, made_by, KnowsBook}
+use Rattle.aug_core.specs.declared.view.Advance.{Advance}
 use Rattle.aug_core.specs.declared.view.Change.{Change}
 use Rattle.aug_core.specs.declared.view.Held.{Held}
 use Rattle.aug_core.specs.declared.view.SeatView.{SeatView}
 use Rattle.aug_words.specs.Seats.{TriedLeaf}
 use Rattle.aug_model.specs.declared.outcome.Outcome.{Outcome}
-use Rattle.aug_model.specs.declared.outcome.Outcome.TheVariants.{Accepted, Replaced, Refused, Unchanged, TooGreat, TooLittle}
+use Rattle.aug_model.specs.declared.outcome.Outcome.TheVariants.{Refused, Unchanged, TooGreat, TooLittle}
 use Rattle.aug_trie.specs.declared.updates.request.Request.{Request}
 use Rattle.aug_trie.specs.declared.updates.request.Request.TheVariants.{Insert, Remove, Put, Add, Sub, Take}
 use Rattle.aug_trie.specs.Requests.{goes_from, word_after, outcome_by, outcome_at_once, stores_nothing}
 use Rattle.aug_trie.specs.inside.Batching.{LeftLeaf}
-use Rattle.aug_trie.specs.inside.Climbing.{CameTo, FitsRequest, advance_from}
+use Rattle.aug_trie.specs.inside.Climbing.{CameBy, FitsRequest}
 use Rattle.aug_trie.specs.inside.Goes.{Goes}
 use Rattle.aug_trie.specs.inside.Counted.{HasCounts, insertions_by, removals_by}
 use Rattle.aug_trie.proofs.Counters.{counted_nothing, counted_made}
 use Rattle.aug_trie.proofs.Going.{quiet}
-use Rattle.aug_trie.proofs.Requesting.{made_few, outcome_is}
-use Rattle.aug_trie.proofs.Updating.{steps0, first, came_back, goes_hit, goes_miss, steps1, taken, done_hit, done_miss, done_by, came_up, came_late}
+use Rattle.aug_trie.proofs.Requesting.{made_few}
+use Rattle.aug_trie.proofs.Updating.{steps0, first, came_back, gone, goes_hit, goes_miss, lets_there, outcome_there, steps1, taken, done_hit, done_miss, done_by, came_up, came_late}
 
 -- what a word prevents at once stores nothing
 pub nothing_at_once : (request : Request) → stores_nothing (outcome_at_once request) ≡ true
@@ -39,7 +39,7 @@ nothing_at_once (Sub amount) = elim (cases_Bool (amount == 0)) [
   | inr n ↦ ap (λ (z : Bool). stores_nothing (if z then Unchanged else TooLittle)) n
 ]
 
-module _ {f : ℕ → ℕ → List (ℕ × ℕ) → List ℕ} {v w0 : SeatView} {key word : ℕ} (request : Request) (low : key < 2 ^ v.shape.bits) (kn : KnowsTable f v) (l : BeginsAtLeaf f v key word w0) where
+module _ {f : ℕ → ℕ → List (ℕ × ℕ) → List ℕ} {v w0 : SeatView} {key word : ℕ} (request : Request) (low : key < 2 ^ v.shape.bits) (kn : KnowsBook f v) (l : BeginsAtLeaf f v key word w0) where
   pub left_at_once : {done : Outcome} → goes_from request word ≡ false → done ≡ outcome_at_once request → LeftLeaf f v key request done w0
   left_at_once {done} other says = subst (λ (z : Outcome). LeftLeaf f v key request z w0) (sym says) record {
     word = word;
@@ -59,11 +59,8 @@ module _ {f : ℕ → ℕ → List (ℕ × ℕ) → List ℕ} {v w0 : SeatView} 
     t : TriedLeaf f w0 key word (word_after request key word) ok w1
     t = subst (λ (z : ℕ). TriedLeaf f w0 key word z ok w1) is_new tries
 
-    by_replaces : (b : Bool) → (advance_from request key word).replaces ≡ b → HasCounts (made_by key (advance_from request key word)) (insertions_by request (if b then Replaced else Accepted)) (removals_by request (if b then Replaced else Accepted))
-    by_replaces b e = counted_made request key word b e lets
-
     left_with : (gained : List Change) → length gained ≤ 2 → HasCounts gained (insertions_by request done) (removals_by request done) → Goes f 0 gained v w1
-        → ((used : ℕ) (u z : SeatView) → u.shape ≡ v.shape → ArePrefixes u.seen v.seen → ArePrefixes w1.seen z.seen → Lifts v.shape w1.seen z.seen key v.shape.bits → Goes f used gained u z → CameTo f used u key request z word done) → LeftLeaf f v key request done w1
+        → ((used : ℕ) (u z : SeatView) → u.shape ≡ v.shape → ArePrefixes u.seen v.seen → ArePrefixes w1.seen z.seen → Lifts v.shape w1.seen z.seen key v.shape.bits → Goes f used gained u z → CameBy f used u key request z word done) → LeftLeaf f v key request done w1
     left_with gained few counts goes came = record {
       word = word;
       more = taken f v w0 key word request low kn l fits lets w1 ok h only t ∷ [];
@@ -81,11 +78,13 @@ module _ {f : ℕ → ℕ → List (ℕ × ℕ) → List ℕ} {v w0 : SeatView} 
     pub left_tried : LeftLeaf f v key request done w1
     left_tried = ⊎_elim
         (λ (same : t.found ≡ word). let says = done_hit f v w0 key word request low kn l fits lets w1 ok h only t done comes same in
-        left_with (made_by key (advance_from request key word)) (made_few key (advance_from request key word))
-        (subst (λ (z : Outcome). HasCounts (made_by key (advance_from request key word)) (insertions_by request z) (removals_by request z)) (sym (says ∙ outcome_is request key word)) (by_replaces (advance_from request key word).replaces refl))
+        let there : Advance = gone f v w0 key word request low kn l fits lets w1 ok h only t same in
+        left_with (made_by key there) (made_few key there)
+        (subst (λ (z : Outcome). HasCounts (made_by key there) (insertions_by request z) (removals_by request z)) (sym (says ∙ outcome_there f v w0 key word request low kn l fits lets w1 ok h only t same))
+        (counted_made request key _ there.replaces refl (lets_there f v w0 key word request low kn l fits lets w1 ok h only t same)))
         (goes_hit f v w0 key word request low kn l fits lets w1 ok h only t same)
-        (λ used u z shaped before later lifts goes. subst (CameTo f used u key request z word) (sym says) (came_up f v w0 key word request low kn l fits lets w1 ok h only t used u z shaped before later lifts same goes)))
+        (λ used u z shaped before later lifts goes. subst (CameBy f used u key request z word) (sym says) (came_up f v w0 key word request low kn l fits lets w1 ok h only t same used u z shaped before later lifts goes)))
         (λ other. let says = done_miss f v w0 key word request low kn l fits lets w1 ok h only t done comes other in
         left_with [] (omega arith) (subst (λ (z : Outcome). HasCounts [] (insertions_by request z) (removals_by request z)) (sym says) (counted_nothing request Refused refl))
         (goes_miss f v w0 key word request low kn l fits lets w1 ok h only t other)
-        (λ used u z shaped before later lifts goes. subst (CameTo f used u key request z word) (sym says) (came_late f v w0 key word request low kn l fits lets w1 ok h only t used u z shaped before later lifts other goes))) (cases_eq t.found word)
+        (λ used u z shaped before later lifts goes. subst (CameBy f used u key request z word) (sym says) (came_late f v w0 key word request low kn l fits lets w1 ok h only t used u z shaped before later lifts other goes))) (cases_eq t.found word)

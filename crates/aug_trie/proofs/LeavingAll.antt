@@ -8,8 +8,7 @@ use Rattle.std.proofs.lemmas.Nat.{mul-le}
 use Rattle.aug_core.specs.Places.{Shape}
 use Rattle.aug_core.specs.Counts.{changes_of}
 use Rattle.aug_core.specs.Kinds.{load_leaf}
-use Rattle.aug_core.specs.Effects.{MayChange}
-use Rattle.aug_core.specs.inside.RoundTables.{KnowsTable}
+use Rattle.aug_core.specs.Effects.{MayChange, KnowsBook}
 use Rattle.aug_core.specs.declared.step.StepTaken.{StepTaken}
 use Rattle.aug_core.specs.declared.view.Change.{Change}
 use Rattle.aug_core.specs.declared.view.SeatView.{SeatView}
@@ -50,7 +49,7 @@ module _ (f : ℕ → ℕ → List (ℕ × ℕ) → List ℕ) where
     pub account : IsAccountAfter place a b
     pub counts : HasCounts (changes_of w.held) b.inserts b.removals
 
-  pub left_none : (keys : List ℕ) (requests : List Request) (v : SeatView) (a : Account) (outcomes : List Outcome) → KnowsTable f v → length keys ≤ length outcomes → HasCounts (changes_of v.held) a.inserts a.removals → LeavesLeft keys requests outcomes v a 0 outcomes v a
+  pub left_none : (keys : List ℕ) (requests : List Request) (v : SeatView) (a : Account) (outcomes : List Outcome) → KnowsBook f v → length keys ≤ length outcomes → HasCounts (changes_of v.held) a.inserts a.removals → LeavesLeft keys requests outcomes v a 0 outcomes v a
   left_none keys requests v a outcomes kn long counts = record {
     left = record {
       parts = [];
@@ -70,7 +69,7 @@ module _ (f : ℕ → ℕ → List (ℕ × ℕ) → List ℕ) where
   -- what the next update wants at its leaf
   pub record MayLeave (key : ℕ) (w : SeatView) (b : Account) : Type 0 where
     pub low : key < 2 ^ w.shape.bits
-    pub knows : KnowsTable f w
+    pub knows : KnowsBook f w
     pub may : MayChange w
     pub records : b.next + b.bits < 2 ^ 60
     pub some : 1 ≤ b.left

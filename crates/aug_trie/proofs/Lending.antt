@@ -1,16 +1,15 @@
 -- A pass that lends a reader or takes one back is one still, and what a reader's queries come to.
 use Rattle.std.proofs.Common.{◌*◌, ◌≡◌, ℕ, Option, Some, List, refl, sym, ap, ◌∙◌, subst}
 use Rattle.aug_core.specs.Counts.{changes_of}
-use Rattle.aug_core.specs.inside.RoundTables.{KnowsTable}
 use Rattle.aug_core.specs.declared.view.SeatView.{SeatView}
-use Rattle.aug_core.proofs.Fits.{table_as}
+use Rattle.aug_core.proofs.Fits.{book_as}
 use Rattle.aug_words.specs.Seats.{Store, Known, AreTogether}
 use Rattle.aug_trie.specs.Pass.{PassFacts}
 use Rattle.aug_trie.specs.Round.{TableFacts, table_of}
 use Rattle.aug_trie.specs.declared.rounds.account.Account.{Account}
 use Rattle.aug_trie.specs.inside.Counted.{HasCounts}
 use Rattle.aug_trie.specs.inside.CrewState.{HoldsCrew}
-use Rattle.aug_trie.specs.inside.Goes.{Looks}
+use Rattle.aug_trie.specs.inside.Goes.{KnowsRecords, Looks}
 use Rattle.aug_trie.specs.inside.PassState.{pass_facts, known_in, IsPass, KeepsAccount}
 use Rattle.aug_trie.specs.inside.ReaderState.{HoldsReader}
 use Rattle.aug_trie.specs.inside.RoundState.{facts_of}
@@ -29,7 +28,7 @@ module _ (f : ℕ → ℕ → List (ℕ × ℕ) → List ℕ) where
   lent_pass v lent leaves bits next left p = record {
     leaves_are = record { are = p.leaves_are.are; few = p.leaves_are.few };
     bits_are = p.bits_are;
-    knows_table = table_as f v refl refl refl p.knows_table;
+    knows_table = book_as f v refl refl refl p.knows_table;
     room = room_same v (record v { lent = lent }) next (left * bits) refl refl p.room;
     budget = p.budget;
     small = p.small;
@@ -49,7 +48,8 @@ module _ (f : ℕ → ℕ → List (ℕ × ℕ) → List ℕ) where
   lent_crew v w back inserts removals lent h = let c = h.is_crew in let k = c.knowledge in subst (λ (z : SeatView). HoldsCrew f z back inserts removals) (sym lent) record {
     handed = h.handed;
     is_crew = record {
-      knows_table = table_as f v refl refl refl c.knows_table;
+      keeps_records = c.keeps_records;
+      knows_table = book_as f v refl refl refl c.knows_table;
       hands_out = c.hands_out;
       took_back = c.took_back;
       knowledge = record { is_history = k.is_history; stands = k.stands };
@@ -63,10 +63,10 @@ module _ (f : ℕ → ℕ → List (ℕ × ℕ) → List ℕ) where
   -- ---- readers
 
   -- what is known of a reader's words
-  pub reader_told : (words : Option Known) (k : Known) (bits : ℕ) (now : PassFacts) → HoldsReader f words bits → words ≡ Some k → pass_facts (known_in words) 0 ≡ now → (bits ≡ k.view.shape.bits) × KnowsTable f k.view × (pass_facts k 0 ≡ now)
+  pub reader_told : (words : Option Known) (k : Known) (bits : ℕ) (now : PassFacts) → HoldsReader f words bits → words ≡ Some k → pass_facts (known_in words) 0 ≡ now → (bits ≡ k.view.shape.bits) × KnowsRecords f k.view × (pass_facts k 0 ≡ now)
   reader_told words k bits now h is facts = let same : h.known ≡ k = ap known_in (sym h.there ∙ is) in (
     h.bits_are ∙ ap (λ (z : Known). z.view.shape.bits) same,
-    subst (λ (z : Known). KnowsTable f z.view) same h.knows_table,
+    subst (λ (z : Known). KnowsRecords f z.view) same h.knows_records,
     ap (λ (z : Option Known). pass_facts (known_in z) 0) (sym is) ∙ facts,
   )
 
@@ -80,5 +80,5 @@ module _ (f : ℕ → ℕ → List (ℕ × ℕ) → List ℕ) where
     known = new;
     there = refl;
     bits_are = told.0 ∙ ap (λ (z : SeatView). z.shape.bits) (sym l.is);
-    knows_table = knows_on f n k.view new.view l told.1;
+    knows_records = knows_on f n k.view new.view l told.1;
   }

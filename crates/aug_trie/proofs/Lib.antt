@@ -1,6 +1,7 @@
 pub mod Going
 pub mod LeafWords
 pub mod Requesting
+pub mod WholeWords
 pub mod Histories
 pub mod Standing
 pub mod Accepting

@@ -9,11 +9,10 @@ use Rattle.aug_model.specs.declared.summary.Summary.{Summary}
 use Rattle.aug_core.specs.Faces.{face}
 use Rattle.aug_core.specs.Cuts.{Cut, set_of_cut, pairs_of_cut}
 use Rattle.aug_core.specs.Counts.{changes_of}
-use Rattle.aug_core.specs.Effects.{GuardsRecord, Says}
-use Rattle.aug_core.specs.inside.RoundTables.{KnowsTable}
+use Rattle.aug_core.specs.Effects.{GuardsRecord, Says, KnowsBook}
 use Rattle.aug_core.specs.declared.view.SeatView.{SeatView}
 use Rattle.aug_core.proofs.Books.{fresh_now}
-use Rattle.aug_core.proofs.Fits.{table_as}
+use Rattle.aug_core.proofs.Fits.{book_as}
 use Rattle.aug_core.proofs.PlaceLemmas.{keys-within}
 use Rattle.aug_trie.specs.LeafWords.{weight_in_word}
 use Rattle.aug_trie.specs.inside.LeafPairs.{leaf_pairs}
@@ -25,11 +24,11 @@ use Rattle.aug_core.proofs.PrefixLemmas.{book_refl}
 use Rattle.aug_core.proofs.Clients.{may_store_same}
 
 -- a view that made steps and learnt nothing
-pub goes_looking : (f : ℕ → ℕ → List (ℕ × ℕ) → List ℕ) (most : ℕ) (v w : SeatView) → Looks most v w → KnowsTable f v → Goes f 0 [] v w
+pub goes_looking : (f : ℕ → ℕ → List (ℕ × ℕ) → List ℕ) (most : ℕ) (v w : SeatView) → Looks most v w → KnowsBook f v → Goes f 0 [] v w
 goes_looking f most v w l kn = subst (Goes f 0 [] v) (sym l.is) record {
   later = book_refl v.seen;
   fresh = fresh_now v.shape v.seen;
-  knows_table = table_as f v refl refl refl kn;
+  knows_table = book_as f v refl refl refl kn;
   shaped = refl;
   same_members = refl;
   same_eras = refl;
@@ -39,7 +38,7 @@ goes_looking f most v w l kn = subst (Goes f 0 [] v) (sym l.is) record {
   still_owned = λ n _ may. may_store_same v (record v { steps = v.steps ++ l.more }) n refl refl may;
 }
 
-module _ {A B : Type 0} (parts_a : Parts A) (parts_b : Parts B) (v : SeatView) (kn : KnowsTable (face parts_a parts_b) v) (cut : Cut) (level place word : ℕ) (t : IsNodeAt v.shape v.seen cut level place word) where
+module _ {A B : Type 0} (parts_a : Parts A) (parts_b : Parts B) (v : SeatView) (kn : KnowsBook (face parts_a parts_b) v) (cut : Cut) (level place word : ℕ) (t : IsNodeAt v.shape v.seen cut level place word) where
   -- what a leaf's word tells
   pub leaf_tells : (told : Summary A B) → level ≡ 0 → told ≡ summary_of parts_a parts_b (leaf_pairs place word) → IsTreeOf (summary_of parts_a parts_b) v.shape.bits cut level place told
   leaf_tells told low is = subst (λ (z : ℕ). IsTreeOf (summary_of parts_a parts_b) v.shape.bits cut z place told) (sym low)
@@ -52,7 +51,7 @@ module _ {A B : Type 0} (parts_a : Parts A) (parts_b : Parts B) (v : SeatView) (
   few_keys : 2 ^ v.shape.bits ≤ 65536
   few_keys = (keys-within v.shape.bits kn.laid_out.bits.0 kn.laid_out.bits.1).1
 
-  module _ (inner : 1 ≤ level) where
+  module _ (off : v.shape.reservations ≡ 0) (inner : 1 ≤ level) where
     one_up : level ≡ suc (level - 1)
     one_up = omega arith
 
@@ -61,22 +60,22 @@ module _ {A B : Type 0} (parts_a : Parts A) (parts_b : Parts B) (v : SeatView) (
 
     -- the record of an inner node may be read
     pub record_guarded : GuardsRecord v word
-    record_guarded = node_guarded parts_a parts_b v kn.book cut kn.keeps_records (level - 1) place word below
+    record_guarded = node_guarded parts_a parts_b v kn.book cut off (level - 1) place word below
 
     pub left_is : (r : ℕ) → Says v word 0 r → IsNodeAt v.shape v.seen cut (level - 1) (2 * place) r
-    left_is = left_node parts_a parts_b v kn.book cut kn.keeps_records (level - 1) place word below
+    left_is = left_node parts_a parts_b v kn.book cut off (level - 1) place word below
 
     pub right_is : (r : ℕ) → Says v word 1 r → IsNodeAt v.shape v.seen cut (level - 1) (2 * place + 1) r
-    right_is = right_node parts_a parts_b v kn.book cut kn.keeps_records (level - 1) place word below
+    right_is = right_node parts_a parts_b v kn.book cut off (level - 1) place word below
 
     pub count_fits : (n : ℕ) → Says v word 2 n → n ≤ 65536
-    count_fits n = count_few parts_a parts_b v kn.book cut kn.keeps_records (level - 1) place word below n few_keys
+    count_fits n = count_few parts_a parts_b v kn.book cut off (level - 1) place word below n few_keys
 
     -- and it is that of the cut's keys that it covers
     pub count_is : (n : ℕ) → Says v word 2 n → n ≡ length (range_of (set_of_cut cut) (place * 2 ^ level) ((place + 1) * 2 ^ level))
-    count_is n says = count_told parts_a parts_b v kn.book cut kn.keeps_records (level - 1) place word below n says ∙ ap (λ (z : ℕ). length (range_of (set_of_cut cut) (place * 2 ^ z) ((place + 1) * 2 ^ z))) (sym one_up)
+    count_is n says = count_told parts_a parts_b v kn.book cut off (level - 1) place word below n says ∙ ap (λ (z : ℕ). length (range_of (set_of_cut cut) (place * 2 ^ z) ((place + 1) * 2 ^ z))) (sym one_up)
 
     pub record_tells : (n x y : ℕ) → IsMonoid parts_a → IsMonoid parts_b → Says v word 2 n → Says v word 3 x → Says v word 4 y
         → IsTreeOf (summary_of parts_a parts_b) v.shape.bits cut level place (record { count = n; a = parts_a.from_word x; b = parts_b.from_word y })
     record_tells n x y laws_a laws_b says_n says_x says_y = subst (λ (z : ℕ). IsTreeOf (summary_of parts_a parts_b) v.shape.bits cut z place (record { count = n; a = parts_a.from_word x; b = parts_b.from_word y })) (sym one_up)
-        (node_told parts_a parts_b v kn.book cut kn.keeps_records (level - 1) place word below n x y few_keys laws_a laws_b says_n says_x says_y)
+        (node_told parts_a parts_b v kn.book cut off (level - 1) place word below n x y few_keys laws_a laws_b says_n says_x says_y)

@@ -10,10 +10,9 @@ use Rattle.aug_core.specs.Faces.{face}
 use Rattle.aug_core.specs.Prefixes.{IsPrefix}
 use Rattle.aug_core.specs.declared.view.PastEra.{PastEra}
 use Rattle.aug_core.specs.Learning.{learning}
-use Rattle.aug_core.specs.Effects.{LoadsNode, noted}
-use Rattle.aug_core.specs.inside.RoundTables.{KnowsTable}
+use Rattle.aug_core.specs.Effects.{LoadsNode, noted, KnowsBook}
 use Rattle.aug_core.specs.declared.view.SeatView.{SeatView}
-use Rattle.aug_core.proofs.Fits.{knows_shown, table_as}
+use Rattle.aug_core.proofs.Fits.{book_shown, book_as}
 use Rattle.aug_words.specs.Notes.{LearnsNote}
 use Rattle.aug_words.specs.Seats.{Known}
 use Rattle.aug_trie.specs.Crew.{CrewFacts, CrewLearns}
@@ -49,12 +48,12 @@ view_chain v = chain (past_rounds v.shape v.past) v.members (knows v).history
 
 module _ (f : ℕ → ℕ → List (ℕ × ℕ) → List ℕ) where
   -- a note knows its table as its maker does
-  pub noted_table : (v : SeatView) → KnowsTable f v → KnowsTable f (noted v)
-  noted_table v kn = table_as f v refl refl refl kn
+  pub noted_table : (v : SeatView) → KnowsBook f v → KnowsBook f (noted v)
+  noted_table v kn = book_as f v refl refl refl kn
 
   -- a view that took a note in, before it loads the root
-  learning_table : (v n : SeatView) → KnowsTable f v → KnowsTable f (learning v n)
-  learning_table v n kn = table_as f v refl refl refl kn
+  learning_table : (v n : SeatView) → KnowsBook f v → KnowsBook f (learning v n)
+  learning_table v n kn = book_as f v refl refl refl kn
 
   -- is a pass, if it was one
   learning_pass : (v n : SeatView) (leaves bits next left : ℕ) → IsPass f v leaves bits next left → IsPass f (learning v n) leaves bits next left
@@ -68,12 +67,12 @@ module _ (f : ℕ → ℕ → List (ℕ × ℕ) → List ℕ) where
     knowledge = record { is_history = p.knowledge.is_history; stands = p.knowledge.stands };
   }
 
-  module _ (v n w : SeatView) (found : ℕ) (kv : KnowsTable f v) (kn : KnowsTable f n) (l : LearnsNote f v n found w) where
+  module _ (v n w : SeatView) (found : ℕ) (kv : KnowsBook f v) (kn : KnowsBook f n) (l : LearnsNote f v n found w) where
     same_shape : w.shape ≡ v.shape
     same_shape = ap (λ (z : SeatView). z.shape) l.loaded.stepped
 
-    pub learnt_table : KnowsTable f w
-    learnt_table = knows_shown f (learning v n) w (learning_table v n kv) l.loaded.sees same_shape (ap (λ (z : SeatView). z.members) l.loaded.stepped)
+    pub learnt_table : KnowsBook f w
+    learnt_table = book_shown f (learning v n) w (learning_table v n kv) l.loaded.sees same_shape (ap (λ (z : SeatView). z.members) l.loaded.stepped)
 
     same_changes : changes_of w.held ≡ changes_of v.held
     same_changes = ap (λ (z : SeatView). changes_of z.held) l.loaded.stepped
@@ -148,14 +147,14 @@ module _ {A B : Type 0} (parts_a : Parts A) (parts_b : Parts B) (words : Option 
   pub record NoteMade (note w : Known) : Type 0 where
     pub still : KeepsAccount (face parts_a parts_b) (Some w) a
     pub same : pass_facts w a.left ≡ now
-    pub knows_table : KnowsTable f note.view
+    pub knows_table : KnowsBook f note.view
     pub note_is : note_facts note ≡ record { round = now.round; past = now.past; history = now.knows.history }
 
   pub note_made : (note w : Known) → w ≡ k → note.table ≡ k.table → note.view ≡ noted k.view → NoteMade note w
   note_made note w same table is = record {
     still = subst (λ (z : Option Known). KeepsAccount (face parts_a parts_b) z a) (there ∙ ap (λ (z : Known). Some z) (sym same)) holds;
     same = ap (λ (z : Known). pass_facts z a.left) same ∙ told.1;
-    knows_table = subst (KnowsTable f) (sym is) (noted_table f k.view told.0.knows_table);
+    knows_table = subst (KnowsBook f) (sym is) (noted_table f k.view told.0.knows_table);
     note_is = (λ i. note_facts (record { table = table i; view = is i })) ∙ ap of_pass told.1;
   }
 
@@ -168,7 +167,7 @@ module _ {A B : Type 0} (parts_a : Parts A) (parts_b : Parts B) (words : Option 
     pub learns : HasLearnt now.round.era (chain_of now) now.knows note (view_chain w.view) (knows w.view)
     pub taken : SnapshotTaken parts_a parts_b now a (record { number = number }) w
 
-  pub note_learnt : (n w : Known) (note : NoteFacts) (number : ℕ) → note_facts n ≡ note → KnowsTable f n.view → LearnsNote f k.view n.view number w.view → w.table ≡ k.table → NoteLearnt note number w
+  pub note_learnt : (n w : Known) (note : NoteFacts) (number : ℕ) → note_facts n ≡ note → KnowsBook f n.view → LearnsNote f k.view n.view number w.view → w.table ≡ k.table → NoteLearnt note number w
   note_learnt n w note number note_is kn l table =
       let p = told.0 in let v : SeatView = k.view in
       let mid : Known = record { table = k.table; view = learning v n.view } in
@@ -191,13 +190,13 @@ module _ {A B : Type 0} (parts_a : Parts A) (parts_b : Parts B) (words : Option 
   pub followed : (words' : Option Known) (bits : ℕ) (reader : PassFacts) (r w : Known) (number : ℕ) → HoldsReader f words' bits → words' ≡ Some r → pass_facts (known_in words') 0 ≡ reader → LearnsNote f k.view (noted r.view) number w.view → w.table ≡ k.table → Followed reader number w
   followed words' bits reader r w number holds' there' facts' l table =
       let of_reader = reader_told f words' r bits reader holds' there' facts' in let v : SeatView = k.view in
-      let n : Known = record { table = r.table; view = noted r.view } in let kn = noted_table f r.view of_reader.1 in
+      let n : Known = record { table = r.table; view = noted r.view } in let kn = noted_table f r.view of_reader.1.knows_table in
       let learnt = note_learnt n w (note_facts n) number refl kn l table in
-      let knows_table : KnowsTable f w.view = learnt_table f v n.view w.view number told.0.knows_table kn l in
+      let knows_table : KnowsBook f w.view = learnt_table f v n.view w.view number told.0.knows_table kn l in
       let shaped : w.view.shape ≡ r.view.shape = same_shape f v n.view w.view number told.0.knows_table kn l ∙ sym l.told.one_shape in record {
         takes_up = subst (λ (z : PassFacts). TakesUp z (pass_facts w a.left)) of_reader.2 (λ one_era s has.
             let both = l.of_both (one_era ∙ ap (λ (z : SeatView). z.era) l.loaded.stepped) in
-            let keeps = keeps_on parts_a parts_b r w 0 a.left of_reader.1 knows_table shaped both.from_second in (keeps.snapshots s has, keeps.same_sets s has));
+            let keeps = keeps_on parts_a parts_b r w 0 a.left of_reader.1.keeps_records of_reader.1.knows_table knows_table shaped both.from_second in (keeps.snapshots s has, keeps.same_sets s has));
         learns = subst (λ (z : PassFacts). IsPart (chain_of z) (view_chain w.view)) of_reader.2 learnt.learns.takes_up;
         taken = learnt.taken;
       }
@@ -205,7 +204,7 @@ module _ {A B : Type 0} (parts_a : Parts A) (parts_b : Parts B) (words : Option 
 -- ---- crews
 
 module _ (f : ℕ → ℕ → List (ℕ × ℕ) → List ℕ) where
-  module _ (old n w : Known) (now : CrewFacts) (note : NoteFacts) {free : Bool} (found back inserts removals : ℕ) (c : HoldsCrew f old.view back inserts removals) (facts : crew_facts old free ≡ now) (note_is : note_facts n ≡ note) (kn : KnowsTable f n.view) (l : LearnsNote f old.view n.view found w.view) where
+  module _ (old n w : Known) (now : CrewFacts) (note : NoteFacts) {free : Bool} (found back inserts removals : ℕ) (c : HoldsCrew f old.view back inserts removals) (facts : crew_facts old free ≡ now) (note_is : note_facts n ≡ note) (kn : KnowsBook f n.view) (l : LearnsNote f old.view n.view found w.view) where
     abbrev v : SeatView
     v = old.view
 
@@ -214,6 +213,7 @@ module _ (f : ℕ → ℕ → List (ℕ × ℕ) → List ℕ) where
     crew_learnt = record {
       handed = c.handed;
       is_crew = record {
+        keeps_records = ap (λ (z : SeatView). z.shape.reservations) l.loaded.stepped ∙ c.is_crew.keeps_records;
         knows_table = learnt_table f v n.view w.view found c.is_crew.knows_table kn l;
         hands_out = ap (λ (z : SeatView). z.spare) l.loaded.stepped ∙ c.is_crew.hands_out;
         took_back = refl;

@@ -102,7 +102,7 @@ module _ {A B : Type 0} (parts_a : Parts A) (parts_b : Parts B) where
           came_to = comes_to f (a.next + a.bits) k.view key request w.view p.knows_table low' made.outcome (settled f u);
           tells = tells f k.view w.view a.leaves a.bits a.next a.left key request p some low' made from left;
           goes_on = (length u.more + 1, goes_on_by f k.view w.view a.leaves a.bits a.next a.left key request p some low' k.table made.outcome u);
-          keeps = keeps_on parts_a parts_b k (record { table = k.table; view = w.view }) a.left (a.left - 1) p.knows_table goes.knows_table goes.shaped goes.later;
+          keeps = keeps_on parts_a parts_b k (record { table = k.table; view = w.view }) a.left (a.left - 1) p.room.keeps_records p.knows_table goes.knows_table goes.shaped goes.later;
           steps = steps_of f k.view w.view a.leaves a.bits a.next a.left key request p some low' k.table made.outcome u;
         }
 
@@ -124,7 +124,7 @@ module _ {A B : Type 0} (parts_a : Parts A) (parts_b : Parts B) where
           known = has_snapshot f k.view w.view number a.leaves a.bits a.next a.left p l;
           goes_on = looked_on f k.view w.view number a.leaves a.bits a.next a.left p l k.table goes;
           step = loads_root f k.view w.view number a.leaves a.bits a.next a.left p l;
-          keeps = keeps_on parts_a parts_b k (record { table = k.table; view = w.view }) a.left a.left p.knows_table goes.knows_table goes.shaped goes.later;
+          keeps = keeps_on parts_a parts_b k (record { table = k.table; view = w.view }) a.left a.left p.room.keeps_records p.knows_table goes.knows_table goes.shaped goes.later;
         }
 
     -- ---- a pass that looked

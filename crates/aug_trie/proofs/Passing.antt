@@ -1,24 +1,24 @@
 -- A pass stays one.
-use Rattle.std.proofs.Common.{◌≡◌, ◌⊎◌, Option, Some, ℕ, suc, ◌+◌, ◌-◌, ◌*◌, ◌^◌, ◌<◌, ◌≤◌, ◌==◌, Bool, if◌then◌else◌, List, [], ◌∷◌, ◌++◌, length, length-append, sym, refl, ap, ◌∙◌, subst, inl, inr, arith}
+use Rattle.std.proofs.Common.{◌≡◌, ◌⊎◌, Option, Some, ℕ, suc, ◌+◌, ◌-◌, ◌*◌, ◌^◌, ◌<◌, ◌≤◌, ◌==◌, Bool, if◌then◌else◌, List, [], ◌∷◌, ◌++◌, length, length-append, sym, ap, ◌∙◌, subst, inl, inr, arith}
 use Rattle.std.proofs.lemmas.Bool.{cases_Bool}
 use Rattle.std.proofs.Math.Nat.{add-mul}
 use Rattle.aug_core.specs.Places.{Shape}
 use Rattle.aug_core.specs.Counts.{change, changes_of}
-use Rattle.aug_core.specs.Effects.{made_by, new_serial}
-use Rattle.aug_core.specs.inside.RoundTables.{KnowsTable}
+use Rattle.aug_core.specs.Effects.{made_by, new_serial, KnowsBook}
 use Rattle.aug_core.specs.Kinds.{load_leaf}
 use Rattle.aug_core.specs.declared.step.StepTaken.{StepTaken}
 use Rattle.aug_core.specs.declared.view.Change.{Change}
 use Rattle.aug_core.specs.declared.view.SeatView.{SeatView}
 use Rattle.atomic_table.specs.Seated.{TableId}
 use Rattle.aug_words.specs.Seats.{Known}
-use Rattle.aug_trie.specs.inside.Goes.{HasLeaves, Goes}
+use Rattle.aug_trie.specs.inside.Goes.{HasLeaves, Goes, KnowsRecords}
 use Rattle.aug_model.specs.declared.outcome.Outcome.{Outcome}
 use Rattle.aug_model.specs.declared.outcome.Outcome.TheVariants.{Accepted, Replaced, Refused, Unchanged, TooGreat, TooLittle}
 use Rattle.aug_trie.specs.inside.Climbing.{CameTo, WentUp, Updated, UpdatedFrom, advance_from, told_by}
 use Rattle.aug_trie.specs.inside.Weights.{WeighsAt}
+use Rattle.aug_trie.proofs.WholeWords.{from_whole, goes_whole, left_whole, told_whole}
 use Rattle.aug_trie.specs.LeafWords.{serial_in_word, weight_in_word}
-use Rattle.aug_trie.specs.Requests.{goes_from, outcome_at_once, outcome_by, outcome_from, stores_nothing, word_after, word_left, weight_told, changes_by}
+use Rattle.aug_trie.specs.Requests.{goes_from, in_the_way, outcome_at_once, outcome_by, outcome_from, stores_nothing, word_after, word_left, weight_told, changes_by}
 use Rattle.aug_trie.specs.Updates.{IsLost, Tells}
 use Rattle.aug_trie.specs.History.{last_cut}
 use Rattle.aug_core.specs.Cuts.{serial_of}
@@ -33,6 +33,10 @@ use Rattle.aug_trie.proofs.Accepting.{settled, updated_knowledge, shown_number, 
 use Rattle.aug_trie.proofs.Going.{room_left}
 use Rattle.aug_trie.proofs.Requesting.{made_few, made_one, made_two, serial_is, weight_is, to_word, way_next}
 use Rattle.aug_trie.proofs.Histories.{numbers_long}
+
+-- a pass may read what it has seen
+pub pass_records : {face : ℕ → ℕ → List (ℕ × ℕ) → List ℕ} {v : SeatView} {leaves bits next left : ℕ} → IsPass face v leaves bits next left → KnowsRecords face v
+pass_records p = record { knows_table = p.knows_table; keeps_records = p.room.keeps_records }
 
 module _ (face : ℕ → ℕ → List (ℕ × ℕ) → List ℕ) where
   pub pass_on : (v w : SeatView) (leaves bits next left n : ℕ) (gained : List Change) → IsPass face v leaves bits next left → n ≤ left → length gained ≤ 2 * n → Goes face (next + n * bits) gained v w → KnowsRound w → IsPass face w leaves bits (next + n * bits) (left - n)
@@ -63,7 +67,7 @@ module _ (face : ℕ → ℕ → List (ℕ × ℕ) → List ℕ) where
   }
 
   -- an update by the word that it found
-  module _ (used : ℕ) (v w : SeatView) (key : ℕ) (request : Request) (kn : KnowsTable face v) (low : key < 2 ^ v.shape.bits) where
+  module _ (used : ℕ) (v w : SeatView) (key : ℕ) (request : Request) (kn : KnowsBook face v) (low : key < 2 ^ v.shape.bits) where
     -- the weight in the word that it found
     pub weighed_by : (done : Outcome) (loaded : ℕ) → CameTo face used v key request w loaded done → WeighsAt w.seen key (serial_in_word loaded) (weight_in_word loaded)
     weighed_by Accepted loaded c = subst (λ (z : ℕ × ℕ). WeighsAt w.seen key z.0 z.1) (λ i. (serial_is request key loaded i, weight_is request key loaded i)) c.0.weighed
@@ -106,12 +110,12 @@ module _ (face : ℕ → ℕ → List (ℕ × ℕ) → List ℕ) where
 
     -- what it did to the view
     pub gained_by : (done : Outcome) → Updated face (next + bits) v key request w done → (gained : List Change) × (length gained ≤ 2) × Goes face (next + bits) gained v w
-    gained_by Accepted u = let a = advance_from request key u.loaded in (made_by key a, made_few key a, u.came_to.0.goes)
-    gained_by Replaced u = let a = advance_from request key u.loaded in (made_by key a, made_few key a, u.came_to.0.goes)
-    gained_by Refused u = ([], omega arith, u.came_to.goes)
-    gained_by Unchanged u = ([], omega arith, u.came_to.stayed.goes)
-    gained_by TooGreat u = ([], omega arith, u.came_to.stayed.goes)
-    gained_by TooLittle u = ([], omega arith, u.came_to.stayed.goes)
+    gained_by Accepted u = let a = advance_from request key u.came.whole in (made_by key a, made_few key a, u.came.came_to.0.goes)
+    gained_by Replaced u = let a = advance_from request key u.came.whole in (made_by key a, made_few key a, u.came.came_to.0.goes)
+    gained_by Refused u = ([], omega arith, u.came.came_to.goes)
+    gained_by Unchanged u = ([], omega arith, u.came.came_to.stayed.goes)
+    gained_by TooGreat u = ([], omega arith, u.came.came_to.stayed.goes)
+    gained_by TooLittle u = ([], omega arith, u.came.came_to.stayed.goes)
 
     pub pass_after : (done : Outcome) → Updated face (next + bits) v key request w done → IsPass face w leaves bits (next + bits) (left - 1)
     pass_after done u = let g = gained_by done u in let one : 1 * bits ≡ bits = omega arith in subst (λ (z : ℕ). IsPass face w leaves bits (next + z) (left - 1)) one (pass_on v w leaves bits next left 1 g.0 p some g.1 (subst (λ (z : ℕ). Goes face (next + z) g.0 v w) (sym one) g.2) (known_after done u))
@@ -125,47 +129,46 @@ module _ (face : ℕ → ℕ → List (ℕ × ℕ) → List ℕ) where
 
     pub steps_of : (table : TableId) (done : Outcome) → Updated face (next + bits) v key request w done
         → StepsOf request key done (pass_facts (record { table = table; view = v }) left) (pass_facts (record { table = table; view = w }) (left - 1))
-    steps_of table done u = record {
+    steps_of table done u = let exact : u.came.whole ≡ u.loaded = u.came.is_whole.in_round p.room.keeps_records in record {
       found = u.loaded;
       more = u.more;
       steps = u.steps;
       step_count = (u.least_steps, u.most_steps);
       refuses = u.refusing;
       tries = u.tried;
-      shows = λ nothing. shown_number face (next + bits) v key request w p.knows_table low u.loaded (stayed_by face (next + bits) v key request w p.knows_table low u.loaded done nothing u.came_to);
-      weighed = weighed_by (next + bits) v w key request p.knows_table low done u.loaded u.came_to;
-      stored = stored_by (next + bits) v w key request p.knows_table low done u.loaded u.came_to;
+      shows = λ nothing. subst (λ (z : ℕ). in_the_way request z ≤ serial_of (last_cut (knows w).history) key) exact (shown_number face (next + bits) v key request w p.knows_table low u.came.whole (stayed_by face (next + bits) v key request w p.knows_table low u.came.whole done nothing u.came.came_to));
+      weighed = subst (λ (z : ℕ). WeighsAt w.seen key (serial_in_word z) (weight_in_word z)) exact (weighed_by (next + bits) v w key request p.knows_table low done u.came.whole u.came.came_to);
+      stored = subst (λ (z : ℕ). changes_of w.held ≡ changes_of v.held ++ changes_by request key z done) exact (stored_by (next + bits) v w key request p.knows_table low done u.came.whole u.came.came_to);
     }
 
     -- by the word that it found it came to this, or it lost the exchange
-    comes_from : (done : Outcome) (u : Updated face (next + bits) v key request w done) → (done ≡ outcome_from request u.loaded) ⊎ IsLost request key u.loaded done (knows w)
-    comes_from done u = elim (cases_Bool (goes_from request u.loaded)) [
+    comes_from : (done : Outcome) (u : Updated face (next + bits) v key request w done) → (done ≡ outcome_from request u.came.whole) ⊎ IsLost request key u.came.whole done (knows w)
+    comes_from done u = let last = u.came.is_whole.last_bits in let same = from_whole _ _ last request in elim (cases_Bool (goes_from request u.loaded)) [
       | inl lets ↦ (let by : outcome_by request u.loaded ≡ outcome_from request u.loaded = ap (λ (z : Bool). if z then outcome_by request u.loaded else outcome_at_once request) (sym lets) in
           let tried = u.tried lets in elim (cases_Bool (tried.found == u.loaded)) [
-            | inl same ↦ inl (tried.says ∙ ap (λ (z : Bool). if z then outcome_by request u.loaded else Refused) same ∙ by)
-            | inr other ↦ inr (let lost : done ≡ Refused = tried.says ∙ ap (λ (z : Bool). if z then outcome_by request u.loaded else Refused) other in record {
+            | inl found ↦ inl (tried.says ∙ ap (λ (z : Bool). if z then outcome_by request u.loaded else Refused) found ∙ by ∙ sym same)
+            | inr other ↦ inr (let lost : done ≡ Refused = tried.says ∙ ap (λ (z : Bool). if z then outcome_by request u.loaded else Refused) other in let lets_whole = goes_whole _ _ last request ∙ lets in record {
               refused = lost;
-              was_to_go_on = lets;
-              rises = let stayed = stayed_by face (next + bits) v key request w p.knows_table low u.loaded done (ap stores_nothing lost) u.came_to in
-                  let shown = shown_number face (next + bits) v key request w p.knows_table low u.loaded stayed in let way = way_next request u.loaded lets in omega (arith, shown, way);
+              was_to_go_on = lets_whole;
+              rises = let stayed = stayed_by face (next + bits) v key request w p.knows_table low u.came.whole done (ap stores_nothing lost) u.came.came_to in
+                  let shown = shown_number face (next + bits) v key request w p.knows_table low u.came.whole stayed in let way = way_next request u.came.whole lets_whole in omega (arith, shown, way);
             })
           ])
-      | inr stops ↦ inl ((u.refusing stops).0 ∙ ap (λ (z : Bool). if z then outcome_by request u.loaded else outcome_at_once request) (sym stops))
+      | inr stops ↦ inl ((u.refusing stops).0 ∙ ap (λ (z : Bool). if z then outcome_by request u.loaded else outcome_at_once request) (sym stops) ∙ sym same)
     ]
 
     -- what an update tells by the word that it found and the one that it left
     pub tells : (made : LeafUpdate) → UpdatedFrom face (next + bits) v key request w made.found made.outcome → made.left ≡ word_left request key made.found made.outcome → Tells request key (told_by made) (knows v) (knows w)
-    tells made u left = subst (λ (z : ℕ). Tells request key (record { outcome = made.outcome; before = weight_told z; now = weight_told made.left }) (knows v) (knows w)) u.1
-        (let between = found_between (next + bits) v w key request p.knows_table low made.outcome u.0.loaded u.0.came_to in record {
-          found = u.0.loaded;
-          comes_to = comes_from made.outcome u.0;
-          not_before = between.0;
-          not_after = between.1;
-          was = weighs_with face (next + bits) v key request w p.knows_table low (serial_in_word u.0.loaded) (weight_in_word u.0.loaded) (gained_by made.outcome u.0).2.shaped (weighed_by (next + bits) v w key request p.knows_table low made.outcome u.0.loaded u.0.came_to);
-          stored = stored_by (next + bits) v w key request p.knows_table low made.outcome u.0.loaded u.0.came_to;
-          before = refl;
-          now = ap weight_told (left ∙ ap (λ (z : ℕ). word_left request key z made.outcome) (sym u.1));
-        })
+    tells made u left = let came = u.0.came in let last = came.is_whole.last_bits in let between = found_between (next + bits) v w key request p.knows_table low made.outcome came.whole came.came_to in record {
+      found = came.whole;
+      comes_to = comes_from made.outcome u.0;
+      not_before = between.0;
+      not_after = between.1;
+      was = weighs_with face (next + bits) v key request w p.knows_table low (serial_in_word came.whole) (weight_in_word came.whole) (gained_by made.outcome u.0).2.shaped (weighed_by (next + bits) v w key request p.knows_table low made.outcome came.whole came.came_to);
+      stored = stored_by (next + bits) v w key request p.knows_table low made.outcome came.whole came.came_to;
+      before = ap weight_told (sym u.1) ∙ sym (told_whole _ _ last);
+      now = ap weight_told (left ∙ ap (λ (z : ℕ). word_left request key z made.outcome) (sym u.1)) ∙ sym (left_whole _ _ last request key made.outcome);
+    }
 
 -- a pass whose seat was taken out for an update
 pub pass_told : (face : ℕ → ℕ → List (ℕ × ℕ) → List ℕ) (words : Option Known) (k : Known) (leaves bits next left : ℕ) (now : PassFacts) → HoldsPass face words leaves bits next left → words ≡ Some k → pass_facts (known_in words) left ≡ now

@@ -7,7 +7,7 @@ use Rattle.aug_core.specs.Places.{Shape}
 use Rattle.aug_core.specs.Book.{Book, history_of, ArePrefixes, IsBook}
 use Rattle.aug_core.specs.inside.Refreshes.{NewestCovers}
 use Rattle.aug_core.specs.inside.Shows.{above, Lifts, NewestShows}
-use Rattle.aug_core.specs.inside.RoundTables.{KnowsTable}
+use Rattle.aug_core.specs.Effects.{KnowsBook}
 use Rattle.aug_core.specs.declared.view.SeatView.{SeatView}
 use Rattle.aug_core.proofs.Books.{there_is, no_shorter}
 use Rattle.aug_core.proofs.Showing.{shows_later, shows_rises}
@@ -81,7 +81,7 @@ pub record RaisedSome (f : ℕ → ℕ → List (ℕ × ℕ) → List ℕ) (keys
   pub raised : (j : ℕ) → j < i → IsRaised v.shape v.seen u.seen (get_or keys j 0) (get_or keys i 0) 0
 
 module _ (f : ℕ → ℕ → List (ℕ × ℕ) → List ℕ) (keys : List ℕ) (number : ℕ) (v : SeatView) where
-  pub raised_start : KnowsTable f v → RaisedSome f keys number v 0 v
+  pub raised_start : KnowsBook f v → RaisedSome f keys number v 0 v
   raised_start kn = record {
     goes = goes_more f 0 (number + 0 * v.shape.bits) [] v v (omega arith) (goes_self f v kn);
     steps = 0;
@@ -179,7 +179,7 @@ goes_up {f} {keys} {number} {v} {bits} {i} {from} {u} same low room small within
     }
 
 -- no key has a way
-pub raised_nothing : (f : ℕ → ℕ → List (ℕ × ℕ) → List ℕ) (number : ℕ) (v : SeatView) (keys : List ℕ) → length keys ≡ 0 → KnowsTable f v → RaisedAll f keys number v v
+pub raised_nothing : (f : ℕ → ℕ → List (ℕ × ℕ) → List ℕ) (number : ℕ) (v : SeatView) (keys : List ℕ) → length keys ≡ 0 → KnowsBook f v → RaisedAll f keys number v v
 raised_nothing f number v keys none kn = record {
   goes = goes_more f 0 (number + length keys * v.shape.bits) [] v v (omega arith) (goes_self f v kn);
   steps = 0;

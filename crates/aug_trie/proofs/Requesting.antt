@@ -1,9 +1,8 @@
 -- What a request makes of a leaf's word.
 use Rattle.std.proofs.Common.{◌≡◌, ◌≢◌, ◌⊎◌, ℕ, ◌+◌, ◌%◌, ◌^◌, ◌<◌, ◌≤◌, ◌==◌, ◌&&◌, ltb, leb, Bool, true, false, if◌then◌else◌, [], ◌∷◌, length, refl, sym, ap, ◌∙◌, inl, inr, ⊎_elim, arith}
 use Rattle.std.proofs.lemmas.Bool.{eq-eqb, eqb-true, eqb-false, ltb-true, ltb-false, leb-true, cases_Bool, false≢true}
-use Rattle.aug_core.specs.Book.{word_of_leaf}
 use Rattle.aug_core.specs.Counts.{change}
-use Rattle.aug_core.specs.Effects.{IsAdvance, made_by, new_serial, new_word, old_word}
+use Rattle.aug_core.specs.Effects.{IsAdvance, made_by, new_serial, new_word}
 use Rattle.aug_core.specs.declared.view.Advance.{Advance}
 use Rattle.aug_core.specs.declared.view.Change.{Change}
 use Rattle.aug_model.specs.declared.outcome.Outcome.{Outcome}
@@ -46,10 +45,6 @@ of_something amount done other is ne = elim (cases_Bool (amount == 0)) [
   | inl t ↦ absurd (ne (ap kind_of (is ∙ ap (λ (z : Bool). if z then Unchanged else other) t)))
   | inr n ↦ (eqb-false amount 0 n, is ∙ ap (λ (z : Bool). if z then Unchanged else other) n)
 ]
-
--- a word is that of its serial and its weight
-pub leaf_again : (word : ℕ) → serial_in_word word < 2 ^ 32 → word ≡ word_of_leaf (serial_in_word word) (weight_in_word word)
-leaf_again word few = omega arith
 
 -- a subtraction that goes on finds a member that weighs as much
 pub may_take : (amount word : ℕ) → goes_from (Sub amount) word ≡ true → ((serial_in_word word % 2 == 1) ≡ true) × (amount ≤ weight_in_word word)
@@ -173,11 +168,7 @@ remove_stands word = elim (cases_Bool (serial_in_word word % 2 == 1)) [
   | inr not ↦ (let e = way_found Remove word not in let even = eqb-false (serial_in_word word % 2) 1 not in (omega (arith, e, even), omega (arith, e)))
 ]
 
--- the word that was loaded is the one that the exchange goes from
-pub from_word : (request : Request) (key word : ℕ) → serial_in_word word < 2 ^ 32 → word ≡ old_word (advance_from request key word)
-from_word request key word few = leaf_again word few ∙ (λ i. word_of_leaf (sym (serial_is request key word) i) (sym (weight_is request key word) i))
-
--- and the word that the request makes of it is the one that the exchange goes to
+-- the word that the request makes of it is the one that the exchange goes to
 pub to_word : (request : Request) (key word : ℕ) → word_after request key word ≡ new_word (advance_from request key word)
 to_word Insert key word = refl
 to_word Remove key word = refl

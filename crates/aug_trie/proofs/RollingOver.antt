@@ -36,7 +36,7 @@ use Rattle.aug_trie.proofs.Handing.{loaded_table, loaded_knowledge}
 use Rattle.aug_trie.proofs.Keeping.{weighs_later}
 use Rattle.aug_trie.proofs.Risen.{opening-at_most, opens-some, last-at_most_final, same_end}
 use Rattle.aug_trie.proofs.Tallying.{none_lost_tallies}
-use Rattle.aug_core.proofs.Fits.{table_as}
+use Rattle.aug_core.proofs.Fits.{book_as}
 use Rattle.aug_core.specs.Book.{IsNewest}
 use Rattle.aug_core.specs.declared.view.Entry.{Entry}
 use Rattle.aug_core.specs.inside.RootCuts.{root_cut}
@@ -84,6 +84,7 @@ module _ (face : ℕ → ℕ → List (ℕ × ℕ) → List ℕ) (lead : Known) 
   last_crew = let c = holds.is_crew in let known' = loaded_knowledge face lead.view last found c.knows_table l c.knowledge in record {
     handed = holds.handed;
     is_crew = record {
+      keeps_records = ap (λ (z : SeatView). z.shape.reservations) l.stepped ∙ c.keeps_records;
       knows_table = loaded_table face lead.view last found c.knows_table l;
       hands_out = ap (λ (z : SeatView). z.spare) l.stepped ∙ c.hands_out;
       took_back = refl;
@@ -160,7 +161,8 @@ module _ (face : ℕ → ℕ → List (ℕ × ℕ) → List ℕ) (lead : Known) 
   prepared_holds = let c = holds.is_crew in let k = c.knowledge in subst (λ (z : SeatView). HoldsCrew face z back inserts removals) (sym stepped) record {
     handed = holds.handed;
     is_crew = record {
-      knows_table = table_as face lead.view refl refl refl c.knows_table;
+      keeps_records = c.keeps_records;
+      knows_table = book_as face lead.view refl refl refl c.knows_table;
       hands_out = c.hands_out;
       took_back = c.took_back;
       knowledge = record { is_history = k.is_history; stands = k.stands };

@@ -1,9 +1,9 @@
 -- What a walk over a snapshot leaves as it was, and how a descent over it comes of the words that it loaded.
 use Rattle.std.proofs.Common.{◌≡◌, ℕ, ◌+◌, ◌*◌, ◌≤◌, List, length, sym, refl, ap, ◌∙◌, subst, arith}
 use Rattle.aug_core.specs.Cuts.{Cut, weight_at, set_of_cut}
-use Rattle.aug_core.specs.inside.RoundTables.{KnowsTable}
+use Rattle.aug_core.specs.declared.step.StepTaken.{StepTaken}
 use Rattle.aug_core.specs.declared.view.SeatView.{SeatView}
-use Rattle.aug_core.proofs.Fits.{table_as}
+use Rattle.aug_core.proofs.Fits.{book_as}
 use Rattle.aug_model.specs.Keys.{list_of}
 use Rattle.aug_model.proofs.Pairs.{keys_of-pairs_of}
 use Rattle.aug_model.specs.NodeKeys.{keys_below}
@@ -11,7 +11,7 @@ use Rattle.aug_query.specs.Descend.{Descends, one_more_node, one_more_past, one_
 use Rattle.aug_query.specs.declared.loaded.Loaded.{Loaded}
 use Rattle.aug_words.specs.Seats.{Known}
 use Rattle.aug_trie.specs.inside.NodeWords.{IsNodeAt}
-use Rattle.aug_trie.specs.inside.Goes.{Looks}
+use Rattle.aug_trie.specs.inside.Goes.{KnowsRecords, Looks}
 use Rattle.aug_trie.specs.inside.NamedCuts.{cut_named, members_of}
 use Rattle.aug_trie.specs.inside.SnapshotWalk.{set_seen, IsNamed, IsWalk, Walking, KeepsWords}
 use Rattle.aug_trie.specs.declared.queries.snapshot.Snapshot.{Snapshot}
@@ -22,13 +22,16 @@ keys_of_cut bits cut = keys_of-pairs_of (weight_at cut) (set_of_cut cut)
 
 module _ (f : ℕ → ℕ → List (ℕ × ℕ) → List ℕ) where
   -- a view that looked knows its table still
-  pub knows_on : (n : ℕ) (v w : SeatView) → Looks n v w → KnowsTable f v → KnowsTable f w
-  knows_on n v w l kn = subst (KnowsTable f) (sym l.is) (table_as f v refl refl refl kn)
+  pub records_on : (v : SeatView) {steps : List StepTaken} → KnowsRecords f v → KnowsRecords f (record v { steps = steps })
+  records_on v kn = record { knows_table = book_as f v refl refl refl kn.knows_table; keeps_records = kn.keeps_records }
+
+  pub knows_on : (n : ℕ) (v w : SeatView) → Looks n v w → KnowsRecords f v → KnowsRecords f w
+  knows_on n v w l kn = subst (KnowsRecords f) (sym l.is) (records_on v kn)
 
   -- names are names still
   pub named_on : (n : ℕ) (v w : SeatView) (s : Snapshot) (level place word : ℕ) → Looks n v w → IsNamed f v s level place word → IsNamed f w s level place word
   named_on n v w s level place word l has = subst (λ (z : SeatView). IsNamed f z s level place word) (sym l.is)
-      record { knows_table = table_as f v refl refl refl has.knows_table; is_tree_set = has.is_tree_set; node = has.node }
+      record { knows_records = records_on v has.knows_records; is_tree_set = has.is_tree_set; node = has.node }
 
   pub walk_on : (n : ℕ) (v w : SeatView) (s : Snapshot) (bits : ℕ) → Looks n v w → IsWalk f v s bits → IsWalk f w s bits
   walk_on n v w s bits l walk = record { bits_are = walk.bits_are ∙ ap (λ (z : SeatView). z.shape.bits) (sym l.is); top = named_on n v w s bits 0 s.number l walk.top }
@@ -82,7 +85,7 @@ module _ (f : ℕ → ℕ → List (ℕ × ℕ) → List ℕ) where
 
   -- a name, as it is after some looks
   pub named_then : (n level place word : ℕ) (v w : SeatView) (s : Snapshot) (bits : ℕ) → Looks n v w → IsWalk f v s bits → IsNodeAt v.shape v.seen (cut_named v.shape v.seen s) level place word → IsNamed f w s level place word
-  named_then n level place word v w s bits l walk node = named_on n v w s level place word l record { knows_table = walk.top.knows_table; is_tree_set = walk.top.is_tree_set; node = node }
+  named_then n level place word v w s bits l walk node = named_on n v w s level place word l record { knows_records = walk.top.knows_records; is_tree_set = walk.top.is_tree_set; node = node }
 
   -- what was named before some looks is so still
   pub node_on : (n level place word : ℕ) (v w : SeatView) (s : Snapshot) → Looks n v w → IsNodeAt v.shape v.seen (cut_named v.shape v.seen s) level place word → IsNodeAt w.shape w.seen (cut_named w.shape w.seen s) level place word

@@ -111,7 +111,7 @@ module _ (face : ℕ → ℕ → List (ℕ × ℕ) → List ℕ) where
     held = record { number = r }
 
     shows : HasNamed v.shape w.seen held × (cut_named v.shape w.seen held ≡ root_cut v.shape w.seen t.index)
-    shows = shows_entry face v.shape w.seen held t.index t.entry t.sees.book (t.sees.named p.knows_table.keeps_records) (root_inner face (opening_of v) (some_bits face v p.knows_table)) t.newest.at t.found
+    shows = shows_entry face v.shape w.seen held t.index t.entry t.sees.book (t.sees.named p.room.keeps_records) (root_inner face (opening_of v) (some_bits face v p.knows_table)) t.newest.at t.found
 
     shaped : w.shape ≡ v.shape
     shaped = ap (λ (z : SeatView). z.shape) t.stepped

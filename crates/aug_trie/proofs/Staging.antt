@@ -15,9 +15,8 @@ use Rattle.aug_model.specs.declared.outcome.Outcome.TheVariants.{Refused}
 use Rattle.aug_words.specs.Seats.{MayAdvance, TriedLeaf}
 use Rattle.aug_trie.specs.inside.RoundState.{eras_of}
 use Rattle.aug_trie.specs.inside.Goes.{HasRoom, Goes}
-use Rattle.aug_trie.specs.inside.Climbing.{Updated, advance_from}
+use Rattle.aug_trie.specs.inside.Climbing.{Updated}
 use Rattle.aug_trie.specs.inside.PassState.{IsPass}
-use Rattle.aug_trie.specs.LeafWords.{serial_in_word}
 use Rattle.aug_trie.specs.inside.Points.{OneStep, QuietStep}
 use Rattle.aug_trie.specs.Requests.{goes_from, word_after, outcome_by, outcome_at_once}
 use Rattle.aug_trie.specs.inside.Stages.{HasRisen, IsOnWay, HasBegun, IsRising, StageAt}
@@ -27,8 +26,7 @@ use Rattle.aug_trie.specs.declared.turns.ascents.Ascent.{Ascent}
 use Rattle.aug_trie.specs.declared.turns.stages.Stage.{Stage}
 use Rattle.aug_trie.specs.declared.turns.stages.Stage.TheVariants.{Leaf, Change, Up}
 use Rattle.aug_trie.proofs.Going.{may_change, room_on, goes_after, room_within}
-use Rattle.aug_trie.proofs.Requesting.{from_word, to_word}
-use Rattle.aug_trie.proofs.Updating.{goes_begun, goes_leaf, advances, serial_few, told, may_rise, refused_at_once, updated}
+use Rattle.aug_trie.proofs.Updating.{goes_begun, goes_leaf, asked, advances, told, step_at_leaf, may_rise, refused_at_once, updated}
 use Rattle.aug_trie.proofs.Ascending.{way_begins}
 use Rattle.aug_core.specs.declared.step.StepTaken.{StepTaken}
 
@@ -98,9 +96,6 @@ module _ (f : ℕ → ℕ → List (ℕ × ℕ) → List ℕ) where
       pub may_advance : MayAdvance old key word (word_after request key word)
       may_advance = advances f u old key word request t.low t.is_pass.knows_table loaded t.fits t.is_stage.lets
 
-      pub low_serial : serial_in_word word < 2 ^ 31
-      low_serial = serial_few f u old key word t.low t.is_pass.knows_table loaded
-
       pub may_try : MayChange old
       may_try = may_change old number bits room_old (let b = t.is_pass.budget in let some = t.some in
           let l : length (changes_of old.held) ≡ length (changes_of u.held) = ap (λ (z : List changed.Change). length z) (g_old.changes ∙ append-nil (changes_of u.held)) in
@@ -108,7 +103,7 @@ module _ (f : ℕ → ℕ → List (ℕ × ℕ) → List ℕ) where
 
       module _ {w : SeatView} {ok : Bool} (tried : TriedLeaf f old key word (word_after request key word) ok w) where
         abbrev a : Advance
-        a = advance_from request key word
+        a = asked f u old key word request t.low t.is_pass.knows_table loaded
 
         told_old : TriesLeaf f old key a tried.found w
         told_old = told f u old key word request t.low t.is_pass.knows_table loaded t.fits t.is_stage.lets w ok room_old.holds.0 room_old.holds.1 tried
@@ -120,7 +115,7 @@ module _ (f : ℕ → ℕ → List (ℕ × ℕ) → List ℕ) where
         same_beginning = ⊎_elim (λ (hit : tried.found ≡ old_word a). ap (λ (z : SeatView). z.began) (told_old.hit hit).0.changed) (λ miss. ap (λ (z : SeatView). z.began) (told_old.miss miss).0) (cases_eq tried.found (old_word a))
 
         pub tried_steps : w.steps ≡ old.steps ++ try_leaf key word (word_after request key word) tried.found ∷ []
-        tried_steps = subst (λ (z : ℕ × ℕ). w.steps ≡ old.steps ++ try_leaf key z.0 z.1 tried.found ∷ []) (λ i. (sym (from_word request key word (omega (arith, low_serial))) i, sym (to_word request key word) i)) told_old.stepped
+        tried_steps = step_at_leaf f u old key word request t.low t.is_pass.knows_table loaded t.fits t.is_stage.lets w ok room_old.holds.0 room_old.holds.1 tried
 
         pub try_step : OneStep old w
         try_step = record { taken = try_leaf key word (word_after request key word) tried.found; steps = tried_steps; later = told_old.sees.later; shaped = g_new.1.shaped; same_members = g_new.1.same_members; same_eras = g_new.1.same_eras; lane = g_new.1.lane }

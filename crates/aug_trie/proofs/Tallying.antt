@@ -24,8 +24,7 @@ use Rattle.aug_trie.specs.Knowledge.{StandsIn}
 use Rattle.aug_trie.specs.Tallies.{times, Tallies, Weighs, TalliesWithLost}
 use Rattle.aug_core.specs.inside.EntryCuts.{entry_of}
 use Rattle.aug_core.specs.inside.RootCuts.{root_cut}
-use Rattle.aug_core.specs.Effects.{opening_of}
-use Rattle.aug_core.specs.inside.RoundTables.{KnowsTable}
+use Rattle.aug_core.specs.Effects.{opening_of, KnowsBook}
 use Rattle.aug_trie.specs.inside.Knows.{knows}
 use Rattle.aug_core.proofs.Levels.{root_word}
 use Rattle.aug_core.proofs.CutsUnder.{cut_long, reached}
@@ -66,7 +65,7 @@ same_held : (views : List SeatView) (i j a b : ℕ) (v w : SeatView) (h g : Held
 same_held views i j a b v w h g ij ab pv pw ph pg = let here : get_elem? views j ≡ some v = subst (λ (z : ℕ). get_elem? views z ≡ some v) ij pv in let same : v ≡ w = some-injective v w (sym here ∙ pw) in
     let there : get_elem? v.held b ≡ some h = subst (λ (z : ℕ). get_elem? v.held z ≡ some h) ab ph in some-injective h g (sym (subst (λ (z : SeatView). get_elem? z.held b ≡ some h) same there) ∙ pg)
 
-module _ (face : ℕ → ℕ → List (ℕ × ℕ) → List ℕ) (s : St) (id n : ℕ) (v : SeatView) (r : Kept face (opening_of v) s) (at : get_elem? s.views id ≡ some v) (spare : v.spare ≡ Some n) (kn : KnowsTable face v) where
+module _ (face : ℕ → ℕ → List (ℕ × ℕ) → List ℕ) (s : St) (id n : ℕ) (v : SeatView) (r : Kept face (opening_of v) s) (at : get_elem? s.views id ≡ some v) (spare : v.spare ≡ Some n) (off : v.shape.reservations ≡ 0) (kn : KnowsBook face v) where
   abbrev last : Cut
   last = last_cut (knows v).history
 
@@ -152,7 +151,7 @@ module _ (face : ℕ → ℕ → List (ℕ × ℕ) → List ℕ) (s : St) (id n 
     lost_here : Lost lane
     lost_here = record {
       list = filter stays g.changes;
-      few = let short = filter_shorter stays g.changes in let t = r.changes.tallied kn.keeps_records in let is = t.each i a w g sits ga in let le = t.few g.lane ((r.each_view i w sits).holds a g ga).exists in omega arith;
+      few = let short = filter_shorter stays g.changes in let t = r.changes.tallied off in let is = t.each i a w g sits ga in let le = t.few g.lane ((r.each_view i w sits).holds a g ga).exists in omega arith;
       none = λ key number f. let z = none_here key number f in let le = twice_less (test key number) stays g.changes in omega arith;
       past = λ key number lt. twice_none (test key number) stays
           (λ c is. let e1 = same_number key number c is in let e2 : serial_of last c.key ≡ serial_of last key = ap (serial_of last) (same_key key number c is) in

@@ -7,8 +7,7 @@ use Rattle.aug_monoid.proofs.FoldLemmas.{fold_of-append, of_word-fold_of}
 use Rattle.aug_core.specs.Addresses.{IsInner}
 use Rattle.aug_core.specs.Faces.{face}
 use Rattle.aug_core.specs.inside.Refreshes.{HasEntry}
-use Rattle.aug_core.specs.Effects.{GuardsRecord, Says, stepping}
-use Rattle.aug_core.specs.inside.RoundTables.{KnowsTable}
+use Rattle.aug_core.specs.Effects.{GuardsRecord, Says, stepping, KnowsBook}
 use Rattle.aug_core.specs.declared.step.StepTaken.{StepTaken}
 use Rattle.aug_core.specs.declared.view.SeatView.{SeatView}
 use Rattle.aug_core.proofs.EntryKeys.{are_small}
@@ -21,8 +20,8 @@ use Rattle.aug_trie.proofs.Going.{goes_on, goes_stepping}
 use Rattle.aug_core.proofs.Books.{plainly_named}
 
 -- a record that an entry of a node has may be read
-pub guards_named : (f : ℕ → ℕ → List (ℕ × ℕ) → List ℕ) (v : SeatView) (node number : ℕ) → KnowsTable f v → IsInner v.shape node → HasEntry v.seen node number → GuardsRecord v number
-guards_named f v node number kn inner n = record { place = node; index = n.index; entry = n.entry; guards = record { inner = inner; at = n.at; covers = inl kn.keeps_records }; numbered = sym (plainly_named f v.shape v.seen kn.book kn.keeps_records node n.index n.entry inner n.at) ∙ n.named }
+pub guards_named : (f : ℕ → ℕ → List (ℕ × ℕ) → List ℕ) (v : SeatView) (node number : ℕ) → v.shape.reservations ≡ 0 → KnowsBook f v → IsInner v.shape node → HasEntry v.seen node number → GuardsRecord v number
+guards_named f v node number off kn inner n = record { place = node; index = n.index; entry = n.entry; guards = record { inner = inner; at = n.at; covers = inl off }; numbered = sym (plainly_named f v.shape v.seen kn.book off node n.index n.entry inner n.at) ∙ n.named }
 
 pub guards_on : (v w : SeatView) (taken : StepTaken) (number : ℕ) → w ≡ stepping v taken → GuardsRecord v number → GuardsRecord w number
 guards_on v w taken number is h = guards_same v w number (ap (λ (z : SeatView). z.shape) is) (ap (λ (z : SeatView). z.seen) is) (ap (λ (z : SeatView). z.reserved) is) h
@@ -32,7 +31,7 @@ pub says_before : (v w : SeatView) (taken : StepTaken) (number field r : ℕ) �
 says_before v w taken number field r is says = says_same v w number field r (ap (λ (z : SeatView). z.shape) is) (ap (λ (z : SeatView). z.seen) is) (ap (λ (z : SeatView). z.reserved) is) says
 
 -- three steps that show nothing of the book
-pub goes_three : (f : ℕ → ℕ → List (ℕ × ℕ) → List ℕ) (v v1 v2 v3 : SeatView) (t1 t2 t3 : StepTaken) → KnowsTable f v → v1 ≡ stepping v t1 → v2 ≡ stepping v1 t2 → v3 ≡ stepping v2 t3 → Goes f 0 [] v v3
+pub goes_three : (f : ℕ → ℕ → List (ℕ × ℕ) → List ℕ) (v v1 v2 v3 : SeatView) (t1 t2 t3 : StepTaken) → KnowsBook f v → v1 ≡ stepping v t1 → v2 ≡ stepping v1 t2 → v3 ≡ stepping v2 t3 → Goes f 0 [] v v3
 goes_three f v v1 v2 v3 t1 t2 t3 kn e1 e2 e3 =
     let x = goes_stepping f v v1 t1 e1 kn in let y = goes_stepping f v1 v2 t2 e2 x.knows_table in let z = goes_stepping f v2 v3 t3 e3 y.knows_table in
     goes_on f 0 0 0 [] v v2 v3 (omega arith) (omega arith) (goes_on f 0 0 0 [] v v1 v2 (omega arith) (omega arith) x y) z
@@ -42,19 +41,19 @@ module _ {A B : Type 0} (parts_a : Parts A) (parts_b : Parts B) (laws_a : IsMono
   both = face parts_a parts_b
 
   -- three words of a node's record tell the part of its entry
-  pub part_of_node : (v : SeatView) (node word x y z : ℕ) → 2 ^ v.shape.bits ≤ 65536 → KnowsTable both v → IsInner v.shape node → Says v word 2 x → Says v word 3 y → Says v word 4 z
+  pub part_of_node : (v : SeatView) (node word x y z : ℕ) → 2 ^ v.shape.bits ≤ 65536 → v.shape.reservations ≡ 0 → KnowsBook both v → IsInner v.shape node → Says v word 2 x → Says v word 3 y → Says v word 4 z
       → IsPartOf parts_a parts_b v node word x (parts_a.from_word y) (parts_b.from_word z)
-  part_of_node v node word x y z few kn inner says_x says_y says_z = record {
-    of = λ i e p is. let o = kn.book.over node i e inner p in let number : e.number ≡ word = sym (plainly_named both v.shape v.seen kn.book kn.keeps_records node i e inner p) ∙ is in
+  part_of_node v node word x y z few off kn inner says_x says_y says_z = record {
+    of = λ i e p is. let o = kn.book.over node i e inner p in let number : e.number ≡ word = sym (plainly_named both v.shape v.seen kn.book off node i e inner p) ∙ is in
         let small = (are_small both v.shape v.seen kn.book few node i e inner.inside p).small in record {
-          count_is = says_x node i e (record { inner = inner; at = p; covers = inl kn.keeps_records }) number ∙ ap (λ (w : List ℕ). get_or w 2 0) o.words_say ∙ count_in parts_a parts_b _ _ e.pairs;
-          a_is = ap parts_a.from_word (says_y node i e (record { inner = inner; at = p; covers = inl kn.keeps_records }) number ∙ ap (λ (w : List ℕ). get_or w 3 0) o.words_say ∙ a_in parts_a parts_b _ _ e.pairs) ∙ of_word-fold_of laws_a e.pairs small;
-          b_is = ap parts_b.from_word (says_z node i e (record { inner = inner; at = p; covers = inl kn.keeps_records }) number ∙ ap (λ (w : List ℕ). get_or w 4 0) o.words_say ∙ b_in parts_a parts_b _ _ e.pairs) ∙ of_word-fold_of laws_b e.pairs small;
+          count_is = says_x node i e (record { inner = inner; at = p; covers = inl off }) number ∙ ap (λ (w : List ℕ). get_or w 2 0) o.words_say ∙ count_in parts_a parts_b _ _ e.pairs;
+          a_is = ap parts_a.from_word (says_y node i e (record { inner = inner; at = p; covers = inl off }) number ∙ ap (λ (w : List ℕ). get_or w 3 0) o.words_say ∙ a_in parts_a parts_b _ _ e.pairs) ∙ of_word-fold_of laws_a e.pairs small;
+          b_is = ap parts_b.from_word (says_z node i e (record { inner = inner; at = p; covers = inl off }) number ∙ ap (λ (w : List ℕ). get_or w 4 0) o.words_say ∙ b_in parts_a parts_b _ _ e.pairs) ∙ of_word-fold_of laws_b e.pairs small;
         };
   }
 
   -- a leaf's word has its serial and its weight, and tells whether its key is there
-  pub part_of_leaf : (v : SeatView) (key word n : ℕ) (a : A) (b : B) → KnowsTable both v → key < 2 ^ v.shape.bits → IsPart parts_a parts_b n a b (leaf_pairs key word) → IsPartOf parts_a parts_b v key word n a b
+  pub part_of_leaf : (v : SeatView) (key word n : ℕ) (a : A) (b : B) → KnowsBook both v → key < 2 ^ v.shape.bits → IsPart parts_a parts_b n a b (leaf_pairs key word) → IsPartOf parts_a parts_b v key word n a b
   part_of_leaf v key word n a b kn low part = record {
     of = λ i e p is. let serial = kn.book.serials key i e low p in
         subst (IsPart parts_a parts_b n a b) (sym (pairs_of_serial key i e serial ∙ ap (leaf_pairs key) is)) part;

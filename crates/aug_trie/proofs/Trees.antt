@@ -13,8 +13,7 @@ use Rattle.aug_core.specs.Book.{Book, ArePrefixes, NamesOnce, IsBook}
 use Rattle.aug_core.specs.Counts.{changes_of}
 use Rattle.aug_core.specs.Cuts.{Cut, weight_at}
 use Rattle.aug_core.specs.inside.RootCuts.{root_cut}
-use Rattle.aug_core.specs.Effects.{opening_of}
-use Rattle.aug_core.specs.inside.RoundTables.{KnowsTable}
+use Rattle.aug_core.specs.Effects.{opening_of, KnowsBook}
 use Rattle.aug_core.specs.declared.view.SeatView.{SeatView}
 use Rattle.aug_core.proofs.Levels.{root_word}
 use Rattle.aug_core.proofs.CutsUnder.{cut_long}
@@ -45,7 +44,7 @@ use Rattle.aug_core.proofs.PrefixLemmas.{entry_stays}
 -- ---- the set of a cut
 
 -- a cut that is no longer than the keys, and whose weights fit, is of a set of keys of so many bits
-cut_set : (f : ℕ → ℕ → List (ℕ × ℕ) → List ℕ) (v : SeatView) (cut : Cut) → KnowsTable f v → length cut ≤ 2 ^ v.shape.bits → ((key : ℕ) → key < 2 ^ v.shape.bits → weight_at cut key < 2 ^ 32) → IsTreeSet (members_of v.shape.bits cut)
+cut_set : (f : ℕ → ℕ → List (ℕ × ℕ) → List ℕ) (v : SeatView) (cut : Cut) → KnowsBook f v → length cut ≤ 2 ^ v.shape.bits → ((key : ℕ) → key < 2 ^ v.shape.bits → weight_at cut key < 2 ^ 32) → IsTreeSet (members_of v.shape.bits cut)
 cut_set f v cut kn long light = record {
   some_bits = kn.laid_out.bits.0;
   few_bits = kn.laid_out.bits.1;
@@ -54,13 +53,13 @@ cut_set f v cut kn long light = record {
 }
 
 -- so is a root's
-pub tree_set : (f : ℕ → ℕ → List (ℕ × ℕ) → List ℕ) (v : SeatView) (i : ℕ) → KnowsTable f v → IsTreeSet (members_of v.shape.bits (root_cut v.shape v.seen i))
+pub tree_set : (f : ℕ → ℕ → List (ℕ × ℕ) → List ℕ) (v : SeatView) (i : ℕ) → KnowsBook f v → IsTreeSet (members_of v.shape.bits (root_cut v.shape v.seen i))
 tree_set f v i kn = let long = cut_long v.shape v.seen v.shape.bits (root_place v.shape) i in cut_set f v (root_cut v.shape v.seen i) kn (omega arith) (λ key low. cut_light f v i key kn low)
 
 -- ---- the record of a snapshot
 
 -- what is shown by one that the root has not is no set but the empty one
-pub named_set : (f : ℕ → ℕ → List (ℕ × ℕ) → List ℕ) (v : SeatView) (held : Snapshot) → KnowsTable f v → IsTreeSet (members_of v.shape.bits (cut_named v.shape v.seen held))
+pub named_set : (f : ℕ → ℕ → List (ℕ × ℕ) → List ℕ) (v : SeatView) (held : Snapshot) → KnowsBook f v → IsTreeSet (members_of v.shape.bits (cut_named v.shape v.seen held))
 named_set f v held kn = let i = index_in (root_numbers v.shape v.seen) held in ⊎_elim
     (λ (has : HasNamed v.shape v.seen held). subst (λ (z : Cut). IsTreeSet (members_of v.shape.bits z)) (sym (cut_is v.shape v.seen held has)) (tree_set f v i kn))
     (λ (past : length (root_numbers v.shape v.seen) ≤ i). let long = numbers_long v.shape v.seen in
@@ -71,15 +70,15 @@ module _ {A B : Type 0} (parts_a : Parts A) (parts_b : Parts B) where
   abbrev both : ℕ → ℕ → List (ℕ × ℕ) → List ℕ
   both = face parts_a parts_b
 
-  pub inner_root : (v : SeatView) → KnowsTable both v → IsInner v.shape (root_place v.shape)
+  pub inner_root : (v : SeatView) → KnowsBook both v → IsInner v.shape (root_place v.shape)
   inner_root v kn = root_inner both (opening_of v) (some_bits both v kn)
 
   -- the top of a snapshot's tree
-  pub top_is : (v : SeatView) (held : Snapshot) → KnowsTable both v → HasNamed v.shape v.seen held → IsNodeAt v.shape v.seen (cut_named v.shape v.seen held) v.shape.bits 0 held.number
+  pub top_is : (v : SeatView) (held : Snapshot) → KnowsBook both v → HasNamed v.shape v.seen held → IsNodeAt v.shape v.seen (cut_named v.shape v.seen held) v.shape.bits 0 held.number
   top_is v held kn has = top_node parts_a parts_b v kn.book (cut_named v.shape v.seen held) held.number (entry_shown v.shape v.seen held has) (cut_is v.shape v.seen held has)
 
   -- what a load tells of a node makes it a node of the pass
-  pub has_node : (known : Known) (left : ℕ) (node : Node A B) → KnowsTable both known.view → HasNamed known.view.shape known.view.seen node.snapshot
+  pub has_node : (known : Known) (left : ℕ) (node : Node A B) → KnowsBook both known.view → HasNamed known.view.shape known.view.seen node.snapshot
       → IsNodeAt known.view.shape known.view.seen (cut_named known.view.shape known.view.seen node.snapshot) node.level node.place node.word
       → IsTreeOf (summary_of parts_a parts_b) known.view.shape.bits (cut_named known.view.shape known.view.seen node.snapshot) node.level node.place node.summary
       → HasNode (summary_of parts_a parts_b) (pass_facts known left) node
@@ -87,7 +86,7 @@ module _ {A B : Type 0} (parts_a : Parts A) (parts_b : Parts B) where
 
   -- ---- what a pass keeps as its book grows
 
-  module _ (old new : Known) (left rest : ℕ) (kn : KnowsTable both old.view) (kn' : KnowsTable both new.view) (shaped : new.view.shape ≡ old.view.shape) (grows : ArePrefixes old.view.seen new.view.seen) where
+  module _ (old new : Known) (left rest : ℕ) (off : old.view.shape.reservations ≡ 0) (kn : KnowsBook both old.view) (kn' : KnowsBook both new.view) (shaped : new.view.shape ≡ old.view.shape) (grows : ArePrefixes old.view.seen new.view.seen) where
     abbrev s : Shape
     s = old.view.shape
 
@@ -100,7 +99,7 @@ module _ {A B : Type 0} (parts_a : Parts A) (parts_b : Parts B) where
     -- a snapshot shows the same entry as before
     shows_later : (held : Snapshot) → HasNamed s book held → HasNamed s later held × (cut_named s later held ≡ root_cut s later (index_in (root_numbers s book) held))
     shows_later held has = let t = entry_shown s book held has in
-        shows_entry both s later held t.index t.entry (subst (λ (z : Shape). IsBook both z later) shaped kn'.book) (subst (λ (z : Shape). NamesOnce z later) shaped kn'.named) (inner_root old.view kn) (entry_stays grows (root_place s) t.index t.entry t.at) t.named
+        shows_entry both s later held t.index t.entry (subst (λ (z : Shape). IsBook both z later) shaped kn'.book) (subst (λ (z : Shape). NamesOnce z later) shaped (kn'.in_round (ap (λ (z : Shape). z.reservations) shaped ∙ off)).0) (inner_root old.view kn) (entry_stays grows (root_place s) t.index t.entry t.at) t.named
 
     snapshot_on : (held : Snapshot) → HasNamed s book held → HasNamed new.view.shape later held
     snapshot_on held has = subst (λ (z : Shape). HasNamed z later held) (sym shaped) (shows_later held has).0

@@ -7,8 +7,7 @@ use Rattle.aug_model.specs.Folds.{summary_of}
 use Rattle.aug_core.specs.Faces.{face}
 use Rattle.aug_core.specs.Counts.{changes_of}
 use Rattle.aug_core.specs.Kinds.{load_leaf, try_leaf}
-use Rattle.aug_core.specs.Effects.{own_lane}
-use Rattle.aug_core.specs.inside.RoundTables.{KnowsTable}
+use Rattle.aug_core.specs.Effects.{own_lane, KnowsBook}
 use Rattle.aug_core.specs.declared.view.SeatView.{SeatView}
 use Rattle.aug_model.specs.declared.outcome.Outcome.{Outcome}
 use Rattle.aug_trie.specs.inside.Climbing.{Updated}
@@ -86,8 +85,8 @@ module _ (f : ℕ → ℕ → List (ℕ × ℕ) → List ℕ) where
     start_is (Change word) v t = begun_is v (loaded_begun v word t)
     start_is (Up done a) v t = begun_is v t.is_stage.has_begun
 
-    pub knows_stage : (stage : Stage) (v : SeatView) → StageAt f leaves bits number left key request u stage v → KnowsTable f v
-    knows_stage Leaf v t = subst (KnowsTable f) (sym t.is_stage) t.is_pass.knows_table
+    pub knows_stage : (stage : Stage) (v : SeatView) → StageAt f leaves bits number left key request u stage v → KnowsBook f v
+    knows_stage Leaf v t = subst (KnowsBook f) (sym t.is_stage) t.is_pass.knows_table
     knows_stage (Change word) v t = (goes_begun f u v key word t.is_pass.knows_table t.is_stage.loaded).knows_table
     knows_stage (Up done a) v t = let o = t.is_stage.on_way in (goes_at f o.begun a.node (number + a.level) a.point v o.try_at).knows_table
 
@@ -100,7 +99,7 @@ module _ (f : ℕ → ℕ → List (ℕ × ℕ) → List ℕ) where
     left_steps v done a r = r.has_left.steps ∙ ap (λ z. z.steps ++ load_leaf key r.has_left.found ∷ r.has_left.more) (sym r.has_begun.began)
 
     -- one step
-    pub once : (v w : SeatView) (rest : ℕ) → KnowsTable f v → OneStep v w → StepsOnce (pass_facts (record { table = table; view = v }) left) (pass_facts (record { table = table; view = w }) rest)
+    pub once : (v w : SeatView) (rest : ℕ) → KnowsBook f v → OneStep v w → StepsOnce (pass_facts (record { table = table; view = v }) left) (pass_facts (record { table = table; view = w }) rest)
     once v w rest kn s = record {
       taken = s.taken;
       same = let facts : PassFacts = pass_facts (record { table = table; view = w }) rest in
@@ -191,5 +190,5 @@ module _ {A B : Type 0} (parts_a : Parts A) (parts_b : Parts B) where
             finish = finishes both a.leaves a.bits a.next a.left key request u k.table k.view w.view stage t done step (subst (StageFalls a.bits stage) next_is falls) up;
             keeps = let goes = (gained_by both u w.view a.leaves a.bits a.next a.left key request t.is_pass t.some t.low done up).2 in
                 subst (λ (z : PassFacts). Keeps (summary_of parts_a parts_b) z (pass_facts (record { table = k.table; view = w.view }) (a.left - 1))) (sym (start_is both a.leaves a.bits a.next a.left key request u k.table stage k.view t))
-                (keeps_on parts_a parts_b (record { table = k.table; view = u }) (record { table = k.table; view = w.view }) a.left (a.left - 1) t.is_pass.knows_table goes.knows_table goes.shaped goes.later);
+                (keeps_on parts_a parts_b (record { table = k.table; view = u }) (record { table = k.table; view = w.view }) a.left (a.left - 1) t.is_pass.room.keeps_records t.is_pass.knows_table goes.knows_table goes.shaped goes.later);
           }

@@ -23,7 +23,7 @@ use Rattle.aug_core.specs.Book.{Book, history_of, At, IsBook}
 use Rattle.aug_core.specs.Cuts.{Cut, pairs_of_cut}
 use Rattle.aug_core.specs.inside.EntryCuts.{entry_of, IsPartOfCut}
 use Rattle.aug_core.specs.inside.RootCuts.{root_cut}
-use Rattle.aug_core.specs.inside.RoundTables.{KnowsTable}
+use Rattle.aug_core.specs.Effects.{KnowsBook}
 use Rattle.aug_core.specs.declared.view.Entry.{Entry}
 use Rattle.aug_core.specs.declared.view.SeatView.{SeatView}
 use Rattle.aug_core.proofs.Books.{at_below, plainly_named}
@@ -136,7 +136,7 @@ module _ {A B : Type 0} (parts_a : Parts A) (parts_b : Parts B) where
         (λ k. a k ++ b k) ∙ below_cut list rises level place
 
   -- the version of the root's newest record that a view has seen is that of the last cut that it knows
-  module _ (v : SeatView) (kn : KnowsTable both v) (number : ℕ) (n : NamesRoot v number) (rest : AtRest) (shaped : rest.shape ≡ v.shape) (seen : ShowSeen v.shape v.seen rest) where
+  module _ (v : SeatView) (off : v.shape.reservations ≡ 0) (kn : KnowsBook both v) (number : ℕ) (n : NamesRoot v number) (rest : AtRest) (shaped : rest.shape ≡ v.shape) (seen : ShowSeen v.shape v.seen rest) where
     abbrev last : Cut
     last = last_cut (knows v).history
 
@@ -160,7 +160,7 @@ module _ {A B : Type 0} (parts_a : Parts A) (parts_b : Parts B) where
 
     version : IsVersion both rest (pairs_of_cut last) v.shape.bits 0 number
     version = subst (λ (z : AtRest). IsVersion both z (pairs_of_cut last) v.shape.bits 0 number) same (subst (λ (z : ℕ). IsVersion both (record { shape = v.shape; words = rest.words }) (pairs_of_cut last) v.shape.bits 0 z) named
-        (version_at v.shape kn.keeps_records v.seen kn.book rest.words (subst (ShowSeen v.shape v.seen) (sym same) seen) last v.shape.bits 0 (root_place v.shape) n.index
+        (version_at v.shape off v.seen kn.book rest.words (subst (ShowSeen v.shape v.seen) (sym same) seen) last v.shape.bits 0 (root_place v.shape) n.index
         (subst (λ (z : Cut). IsPartOfCut v.shape v.seen z v.shape.bits 0 (root_place v.shape) n.index) (sym is_last) (root_part both v.shape v.seen kn.book n.index there))))
 
     pub members_are : pairs_at_rest rest v.shape.bits 0 number ≡ pairs_of_cut last

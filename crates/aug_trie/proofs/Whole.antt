@@ -9,8 +9,7 @@ use Rattle.aug_core.specs.Addresses.{place_count, IsInner, left_of, right_of}
 use Rattle.aug_core.specs.Faces.{face}
 use Rattle.aug_core.specs.Book.{At, ArePrefixes, IsBook}
 use Rattle.aug_core.specs.inside.Refreshes.{HasEntry, HasNewest, SaysLoaded, Published}
-use Rattle.aug_core.specs.Effects.{LoadsLeaf, LoadsNode, MayStore}
-use Rattle.aug_core.specs.inside.RoundTables.{KnowsTable}
+use Rattle.aug_core.specs.Effects.{LoadsLeaf, LoadsNode, MayStore, KnowsBook}
 use Rattle.aug_core.specs.declared.view.SeatView.{SeatView}
 use Rattle.aug_core.proofs.Sizes.{twice}
 use Rattle.aug_core.proofs.EntryKeys.{are_small}
@@ -21,7 +20,7 @@ use Rattle.aug_trie.proofs.Going.{took_on, room_on, goes_on}
 use Rattle.aug_trie.proofs.Telling.{words_are}
 use Rattle.aug_core.proofs.PrefixLemmas.{book_trans, entry_stays}
 
-book_at : (f : ℕ → ℕ → List (ℕ × ℕ) → List ℕ) (s : Shape) (w : SeatView) → w.shape ≡ s → KnowsTable f w → IsBook f s w.seen
+book_at : (f : ℕ → ℕ → List (ℕ × ℕ) → List ℕ) (s : Shape) (w : SeatView) → w.shape ≡ s → KnowsBook f w → IsBook f s w.seen
 book_at f s w shaped kn = subst (λ (z : Shape). IsBook f z w.seen) shaped kn.book
 
 -- what a load of a leaf shows
@@ -37,7 +36,7 @@ module _ {A B : Type 0} (parts_a : Parts A) (parts_b : Parts B) where
   both = face parts_a parts_b
 
   -- a part counts few keys
-  pub part_few : (s : Shape) (w : SeatView) (place word m : ℕ) (x : A) (y : B) → w.shape ≡ s → 2 ^ s.bits ≤ 65536 → place < place_count s → KnowsTable both w → HasEntry w.seen place word → IsPartOf parts_a parts_b w place word m x y → m ≤ 65536
+  pub part_few : (s : Shape) (w : SeatView) (place word m : ℕ) (x : A) (y : B) → w.shape ≡ s → 2 ^ s.bits ≤ 65536 → place < place_count s → KnowsBook both w → HasEntry w.seen place word → IsPartOf parts_a parts_b w place word m x y → m ≤ 65536
   part_few s w place word m x y shaped few inside kn there part = let e = (part.of there.index there.entry there.at there.named).count_is in
       let t = (are_small both s w.seen (book_at both s w shaped kn) few place there.index there.entry inside there.at).few in omega arith
 

@@ -111,7 +111,8 @@ pub record IsLost (request : Request) (key found : ℕ) (done : Outcome) (new : 
 
 -- what an update tells of its key: the weights in the word that it found there, between then and now, and in the one that it left. No cut shows the serial in the
 -- word found with another weight; what the update came to and what it stored is what the request makes of that word, unless another change came first. So an
--- update of a key of which it tells the weight 100 does not say that 5 was too much to take from it
+-- update of a key of which it tells the weight 100 does not say that 5 was too much to take from it. The word is taken with its whole serial, of which the leaf
+-- has the last 32 bits: in a round these are all
 pub record Tells (request : Request) (key : ℕ) (told : Told) (old new : Knowledge) : Type 0 where
   pub found : ℕ
   pub comes_to : (told.outcome ≡ outcome_from request found) ⊎ IsLost request key found told.outcome new

@@ -1,6 +1,6 @@
 -- A lead that aims at a part, as `Draft::aim` tells it, and lays the next opening out there.
 use Rattle.std.proofs.Common.{◌≡◌, ◌≢◌, ◌⊎◌, ℕ, ◌+◌, ◌*◌, ◌^◌, ◌<◌, ◌≤◌, List, get_or, length, sym, ap, ◌∙◌, subst, [], arith, inl, inr, refl, ⊎_elim}
-use Rattle.aug_core.proofs.Fits.{round_table, book_as}
+use Rattle.aug_core.proofs.Fits.{book_as}
 use Rattle.atomic_table.specs.Seated.{TableId}
 use Rattle.aug_core.specs.Addresses.{root_place, level_of, place_on}
 use Rattle.aug_core.specs.Effects.{Sat}
@@ -71,7 +71,8 @@ module _ {f : ℕ → ℕ → List (ℕ × ℕ) → List ℕ} {a : TableId} {b n
     shaped = refl;
     wide = subst (λ (z : TableId). me.0.base + word_count me.0.shape ≤ z.words) one placed.wide;
     records_are = begins ∙ (λ i. placed.base_is i + record_start (sym aims.shape i) 0);
-    knows = round_table f me.0 aims.keeps seated.knows;
+    keeps_records = aims.keeps;
+    knows = seated.knows;
     room = aims.room;
   }
 

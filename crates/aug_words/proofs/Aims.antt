@@ -11,7 +11,7 @@ use Rattle.aug_core.specs.Records.{Lists}
 use Rattle.aug_core.specs.inside.ClearParts.{IsClearPart}
 use Rattle.aug_core.specs.declared.step.StepTaken.{StepTaken}
 use Rattle.aug_core.specs.declared.view.SeatView.{SeatView}
-use Rattle.aug_core.proofs.Fits.{book_as, table_as}
+use Rattle.aug_core.proofs.Fits.{book_as}
 use Rattle.aug_core.proofs.ReaderCounts.{lists_without}
 use Rattle.aug_words.specs.Leads.{IsNotTaken, MayOpen}
 use Rattle.aug_words.specs.declared.parts.Parts.{Parts}
@@ -160,5 +160,6 @@ module _ (face : ℕ → ℕ → List (ℕ × ℕ) → List ℕ) (a a' : TableId
     reads = seat.reads;
     no_lane = seat.no_lane;
     follows = seat.follows;
-    knows = table_as face me.0 refl refl refl seat.knows;
+    keeps_records = seat.keeps_records;
+    knows = book_as face me.0 refl refl refl seat.knows;
   }

@@ -11,7 +11,7 @@ use Rattle.aug_words.specs.inside.Builds.{WritesFive}
 use Rattle.aug_core.specs.inside.OwnNumbers.{own_number}
 use Rattle.aug_words.specs.inside.Laying.{FreesLanes, NamesEntry, LaysNode, next_record, next_word}
 use Rattle.aug_words.proofs.Lays.{frees_more}
-use Rattle.aug_core.specs.inside.RoundTables.{KnowsTable}
+use Rattle.aug_core.specs.Effects.{KnowsBook}
 use Rattle.aug_core.specs.declared.view.SeatView.{SeatView}
 use Rattle.aug_core.proofs.Books.{plainly_named}
 
@@ -38,8 +38,8 @@ pub inner_by : (s : Shape) (q leaves : ℕ) → leaves ≡ 2 ^ s.bits → leaves
 inner_by s q leaves many past inside = record { past_leaves = omega (arith, many, past); inside = inside }
 
 -- in a round the word of a node is its record's number
-pub numbered_in : (f : ℕ → ℕ → List (ℕ × ℕ) → List ℕ) (s : Shape) (v : SeatView) (q word : ℕ) → v.shape ≡ s → KnowsTable f v → IsInner s q → (n : NamesEntry v.seen q word) → n.entry.number ≡ word
-numbered_in f s v q word shaped kn inner n = sym (plainly_named f v.shape v.seen kn.book kn.keeps_records q n.index n.entry (subst (λ (z : Shape). IsInner z q) (sym shaped) inner) n.at) ∙ n.named
+pub numbered_in : (f : ℕ → ℕ → List (ℕ × ℕ) → List ℕ) (s : Shape) (v : SeatView) (q word : ℕ) → v.shape ≡ s → v.shape.reservations ≡ 0 → KnowsBook f v → IsInner s q → (n : NamesEntry v.seen q word) → n.entry.number ≡ word
+numbered_in f s v q word shaped off kn inner n = sym (plainly_named f v.shape v.seen kn.book off q n.index n.entry (subst (λ (z : Shape). IsInner z q) (sym shaped) inner) n.at) ∙ n.named
 
 -- and there is a note of it
 pub slot_in : (s : Shape) (q leaves n : ℕ) → leaves ≡ 2 ^ s.bits → leaves ≤ q → q < place_count s → n ≡ 2 ^ s.bits → q - leaves < n

@@ -14,7 +14,7 @@ use Rattle.aug_monoid.specs.Weighted.{FitsPair}
 use Rattle.aug_core.specs.Addresses.{root_place}
 use Rattle.aug_core.specs.Book.{At, Book, history_of, IsBook}
 use Rattle.aug_core.specs.Cuts.{Cut, pairs_of_cut, serial_of, set_of_cut, weight_at}
-use Rattle.aug_core.specs.inside.RoundTables.{KnowsTable}
+use Rattle.aug_core.specs.Effects.{KnowsBook}
 use Rattle.aug_core.specs.Opening.{serial_entry}
 use Rattle.aug_core.specs.Places.{Shape}
 use Rattle.aug_core.specs.inside.EntryCuts.{entry_of}
@@ -67,7 +67,7 @@ light f s book b key i low = ⊎_elim
     (cases_lt i (length (history_of book key)))
 
 -- a key's weight in a root's cut is that of an entry
-pub cut_light : (f : ℕ → ℕ → List (ℕ × ℕ) → List ℕ) (v : SeatView) (i key : ℕ) → KnowsTable f v → key < 2 ^ v.shape.bits → weight_at (root_cut v.shape v.seen i) key < 2 ^ 32
+pub cut_light : (f : ℕ → ℕ → List (ℕ × ℕ) → List ℕ) (v : SeatView) (i key : ℕ) → KnowsBook f v → key < 2 ^ v.shape.bits → weight_at (root_cut v.shape v.seen i) key < 2 ^ 32
 cut_light f v i key kn low = let s : Shape = v.shape in let r : ℕ = reached s v.seen key s.bits i in
     let is : weight_at (root_cut s v.seen i) key ≡ (entry_of v.seen key r).weight = ap (λ (z : ℕ × ℕ). z.1) (shown_is s v.seen key s.bits 0 key (root_place s) i (root_word s) (omega arith) low) in
     let fits = light f s v.seen kn.book key r low in omega arith

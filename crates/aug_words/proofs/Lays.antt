@@ -26,7 +26,7 @@ use Rattle.aug_core.specs.Effects.{Sat, Says}
 use Rattle.aug_core.specs.inside.ClearParts.{IsClear}
 use Rattle.aug_core.specs.Eras.{table_part, Ruled}
 use Rattle.aug_core.proofs.Clients.{says_same}
-use Rattle.aug_core.proofs.Fits.{table_as}
+use Rattle.aug_core.proofs.Fits.{book_as}
 use Rattle.aug_core.proofs.Eras.{part_set, part_long, beside_set}
 use Rattle.aug_core.proofs.Renewals.{looks_beside, lays}
 use Rattle.atomic_table.specs.Table.{step, Allows}
@@ -195,7 +195,8 @@ module _ (base : ℕ) (s : Shape) where
       shaped = m.shaped;
       wide = m.wide;
       records_are = m.records_are;
-      knows = table_as f me.0 refl refl refl m.knows;
+      keeps_records = m.keeps_records;
+      knows = book_as f me.0 refl refl refl m.knows;
       room = m.room;
     }
 

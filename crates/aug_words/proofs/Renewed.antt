@@ -1,11 +1,10 @@
 -- The lead of a table that was opened again, over plain values.
 use Rattle.std.proofs.Common.{◌≡◌, ℕ, ◌+◌, ◌*◌, ◌^◌, ◌≤◌, ◌⊎◌, ⊎_elim, inl, inr, List, [], length, get_or, refl, sym, ap, ◌∙◌, subst}
-use Rattle.aug_core.proofs.Fits.{round_table}
 use Rattle.atomic_table.specs.Seated.{TableId}
 use Rattle.aug_core.specs.Addresses.{root_place}
 use Rattle.aug_core.specs.Cuts.{pairs_of_cut}
 use Rattle.aug_core.specs.Effects.{Sat}
-use Rattle.aug_core.specs.inside.RoundTables.{KnowsTable}
+use Rattle.aug_core.specs.Effects.{KnowsBook}
 use Rattle.aug_core.specs.Eras.{opening_with}
 use Rattle.aug_core.specs.Layout.{IsLayout}
 use Rattle.aug_core.specs.Opening.{Opening, opening_number}
@@ -32,8 +31,8 @@ module _ {f : ℕ → ℕ → List (ℕ × ℕ) → List ℕ} {a : TableId} {bas
   lead : IsLead f a base next root other shown parts me
   lead = aims.lead
 
-  known : KnowsTable f me.0
-  known = round_table f me.0 aims.keeps lead.1.knows
+  known : KnowsBook f me.0
+  known = lead.1.knows
 
   names : NamesRoot me.0 root
   names = lead.1.names_root
@@ -43,20 +42,20 @@ module _ {f : ℕ → ℕ → List (ℕ × ℕ) → List ℕ} {a : TableId} {bas
 
   again : Reopens f members other v3 me'.0
   again = subst (λ (z : ℕ). Reopens f members z v3 me'.0) same
-      (reopens members (subst (λ (z : ℕ). IsOpened f (opening_with v3.shape members) (words_in z v3.shape v3)) (sym same) (opened_by known names here)))
+      (reopens members (subst (λ (z : ℕ). IsOpened f (opening_with v3.shape members) (words_in z v3.shape v3)) (sym same) (opened_by aims.keeps known names here)))
 
   abbrev idle : SeatView
   idle = renewing again.last again.whole
 
   idle_shape : idle.shape ≡ me.0.shape
-  idle_shape = shape_there known names here again
+  idle_shape = shape_there aims.keeps known names here again
 
   -- its view has the table's shape
   pub renewed_shape : me'.0.shape ≡ s
   renewed_shape = ap (λ (z : SeatView). z.shape) again.stepped ∙ idle_shape ∙ aims.shape
 
   pub renewed_opens : OpensAgain f me.0 me'.0
-  renewed_opens = opens_again known names here again
+  renewed_opens = opens_again aims.keeps known names here again
 
   module _ {number top : ℕ} (at : top ≡ root_place s) (numbered : number ≡ own_number s top) where
     idle_layout : IsLayout idle.shape
@@ -76,7 +75,7 @@ module _ {f : ℕ → ℕ → List (ℕ × ℕ) → List ℕ} {a : TableId} {bas
     first = opener f o idle.past idle.era other idle.lent (words_in other idle.shape idle) idle.whole
 
     opened : IsOpened f o (words_in other me.0.shape v3)
-    opened = subst (λ (z : Shape). IsOpened f (opening_with z members) (words_in other me.0.shape v3)) (sym idle_shape) (opened_here known names here)
+    opened = subst (λ (z : Shape). IsOpened f (opening_with z members) (words_in other me.0.shape v3)) (sym idle_shape) (opened_here aims.keeps known names here)
 
     seat : IsLeadSeat f 0 number (first, [])
     seat = opening_seat f o idle.past idle.era other idle.lent (words_in other idle.shape idle) idle.whole number idle_layout opened.key_set
@@ -107,12 +106,12 @@ module _ {f : ℕ → ℕ → List (ℕ × ℕ) → List ℕ} {a : TableId} {bas
           noted = long ∙ draft.noted ∙ ap (λ (z : Shape). 2 ^ z.bits) (sym idle_shape);
           below = none_below f first (words_in base' first.shape first) shown' none;
         } in
-        let lent : idle.lent ≡ me.0.lent = lent_there known names here again in
+        let lent : idle.lent ≡ me.0.lent = lent_there aims.keeps known names here again in
         let was : ArePartsOf a parts' other base idle.shape idle.lent = parts_on a a parts' other base me.0.shape idle.shape me.0.lent idle.lent
         (parts_swapped a parts base other me.0.shape me.0.lent (some_size me.0.shape lead.1.knows.laid_out.workers.0) lead.4 parts' aims.room own next' out) refl
         idle_shape lent in
         let swapped = subst (λ (z : ℕ). ArePartsOf a parts' other z idle.shape idle.lent) (sym turned) was in
-        let wide : length idle.whole ≡ a.words = whole_there known names here again ∙ lead.2 in
+        let wide : length idle.whole ≡ a.words = whole_there aims.keeps known names here again ∙ lead.2 in
         let all : IsLead f a other 0 number base' shown' parts' (first, []) = (placed, seat, wide, (λ _. drafts), swapped) in
         subst (λ (z : TableId × ℕ × SeatView × List (ℕ × Unit {0})). IsLead f z.0 z.1 0 number base' shown' parts' (z.2, z.3)) (λ i. (
           sym one i,

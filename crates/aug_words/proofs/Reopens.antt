@@ -2,8 +2,7 @@
 use Rattle.std.proofs.Common.{◌≡◌, ℕ, ◌+◌, ◌-◌, ◌^◌, ◌<◌, ◌≤◌, ◌⊎◌, List, length, get_or, refl, sym, ap, ◌∙◌, subst, arith}
 use Rattle.aug_core.specs.Addresses.{place_count, root_place, level_of, place_on}
 use Rattle.aug_core.specs.Cuts.{Cut, pairs_of_cut}
-use Rattle.aug_core.specs.Effects.{opening_of}
-use Rattle.aug_core.specs.inside.RoundTables.{KnowsTable}
+use Rattle.aug_core.specs.Effects.{opening_of, KnowsBook}
 use Rattle.aug_core.specs.Opening.{Opening}
 use Rattle.aug_core.specs.Eras.{opening_with, table_part}
 use Rattle.aug_core.specs.Places.{Shape, word_count}
@@ -43,7 +42,7 @@ module _ (f : ℕ → ℕ → List (ℕ × ℕ) → List ℕ) (other root : ℕ)
     pub apart : (other + word_count s ≤ v.base) ⊎ (v.base + word_count s ≤ other)
     pub inside : other + word_count s ≤ length v.whole
 
-module _ {f : ℕ → ℕ → List (ℕ × ℕ) → List ℕ} {other root : ℕ} {v v1 v2 v3 : SeatView} (kn : KnowsTable f v) (n : NamesRoot v root) (r : Renews f other root v v1 v2 v3 v.shape) where
+module _ {f : ℕ → ℕ → List (ℕ × ℕ) → List ℕ} {other root : ℕ} {v v1 v2 v3 : SeatView} (off : v.shape.reservations ≡ 0) (kn : KnowsBook f v) (n : NamesRoot v root) (r : Renews f other root v v1 v2 v3 v.shape) where
   abbrev s : Shape
   s = v.shape
 
@@ -63,12 +62,12 @@ module _ {f : ℕ → ℕ → List (ℕ × ℕ) → List ℕ} {other root : ℕ}
   pub opened_here : IsOpened f (opening_with s members) (words_in other s v3)
   opened_here =
       let names = r.laid.names in
-      let same : names.index ≡ n.index = same_word f s v.seen kn.book kn.named (few_serials s v.seen kn.laid_out kn.fits) (root_place s) names.index n.index names.entry n.entry bits names.at n.newest.at (names.named ∙ n.named) in
+      let same : names.index ≡ n.index = same_word f s v.seen kn.book (kn.in_round off).0 (few_serials s v.seen kn.laid_out (kn.in_round off).1) (root_place s) names.index n.index names.entry n.entry bits names.at n.newest.at (names.named ∙ n.named) in
       let on = level_is s (root_place s) s.bits 0 (root_word s) in let has = at_below _ n.index n.entry n.newest.at in
       let part : IsPartOfCut s v.seen cut (level_of s (root_place s)) (place_on s (root_place s)) (root_place s) names.index =
       subst (λ (z : ℕ × ℕ × ℕ). IsPartOfCut s v.seen cut z.0 z.1 (root_place s) z.2) (λ i. (sym on.0 i, sym on.1 i, sym same i)) (root_part f s v.seen kn.book n.index has) in
       let long = cut_long s v.seen s.bits (root_place s) n.index in let few = kn.laid_out.bits.1 in let long1 = part_long other (word_count s) v1.whole (let e = r.brought.beside.long in let inside = r.inside in omega arith) in
-      laid_opens f (opening_with s members) (words_in other s v1) (words_in other s v2) (words_in other s v3) kn.keeps_records r.room (cut_members s.bits cut (omega arith)) (members_fit s.bits cut few (omega arith) (λ key low. cut_light f v n.index key kn low)) long1
+      laid_opens f (opening_with s members) (words_in other s v1) (words_in other s v2) (words_in other s v3) off r.room (cut_members s.bits cut (omega arith)) (members_fit s.bits cut few (omega arith) (λ key low. cut_light f v n.index key kn low)) long1
       (λ q inside. r.laid.laid cut part q (subst (λ (z : ℕ × ℕ). InChunk s z.0 z.1 q) (λ i. (sym on.0 i, sym on.1 i)) (whole s q inside))) r.shares r.frees
 
   shaped : v3.shape ≡ s

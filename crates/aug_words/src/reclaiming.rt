@@ -58,9 +58,9 @@ impl<'r, A: Monoid, B: Monoid> WordPass<'r, A, B> {
         self.words.store::<ReleaseEra>(&mut self.seat, place, 0);
     }
 
-    /// Takes the records that were replaced from its lane, once it has seen the root show later ones: loads the era. It may write such a record once it has
-    /// found no reservation that holds it.
-    pub fn retire_replaced(&mut self, words: &Words<A, B>) -> u64
+    // Takes the records that were replaced from its lane, once it has seen the root show later ones: loads the era. It may write such a record once it has
+    // found no reservation that holds it.
+    pub(crate) fn retire_replaced(&mut self, words: &Words<A, B>) -> u64
         requires together { AreTogether words.now self.old }
         requires slots { HasReservations self.old.view }
         requires later { MayRetire self.old.view }

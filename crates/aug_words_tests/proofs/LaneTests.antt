@@ -2,19 +2,9 @@
 -- each behind them. One of 1 bit, 1 worker, 1 update and 1 member has 2, and one more behind them.
 use Rattle.std.proofs.Common.{◌≡◌, ℕ, List, ◌+◌, ◌*◌, ◌<◌, ◌≤◌, refl, sym, ap, subst, arith}
 use Rattle.aug_core.specs.Places.{Shape, shape_of, with_reservations, own_records, record_count}
-use Rattle.aug_core.specs.Lanes.{first_record, lane_records, new_lane}
+use Rattle.aug_core.specs.Lanes.{first_record, lane_records}
 use Rattle.aug_core.specs.declared.view.SeatView.{SeatView}
 use Rattle.aug_words.specs.Leads.{TakesLaneBack}
-use Rattle.aug_words.specs.Reservations.{MayRetire}
-use Rattle.std.specs.Prelude.{unwrap_or, length}
-use mathlib.Core.Option.{some-ne-none}
-use Rattle.aug_core.specs.Addresses.{place_count}
-use Rattle.aug_core.specs.Book.{history_of}
-use Rattle.aug_core.specs.Opening.{opening_book}
-use Rattle.aug_core.specs.Effects.{KnowsBook, opening_of, taking, handed_out, in_state}
-use Rattle.aug_core.specs.declared.view.LaneState.TheVariants.{Taken}
-use Rattle.aug_core.proofs.Books.{there_is, no_shorter}
-use Rattle.aug_core.proofs.Openings.{newly}
 
 -- the number is that of one of the lane's records
 abbrev pub IsOfLane : Shape → ℕ → ℕ → Type 0
@@ -44,22 +34,6 @@ own_of_two = refl
 -- and so has one of 1 bit and 2 workers that uses records again
 pub reclaiming_lane : (s : Shape) → s ≡ with_reservations 1 2 1 2 2 → (lane : ℕ) → IsOfLane s lane (2 + lane)
 reclaiming_lane s e lane = subst (λ (z : Shape). IsOfLane z lane (2 + lane)) (sym e) (let own = own_of_two in (0, omega arith, omega arith))
-
--- a view that was just handed a lane has replaced nothing from it
-pub may_retire : (face : ℕ → ℕ → List (ℕ × ℕ) → List ℕ) (v lead : SeatView) (place : ℕ) → KnowsBook face v → v ≡ taking (handed_out lead) place → MayRetire v
-may_retire face v lead place kn is = record {
-  lane = in_state Taken (new_lane lead.shape lead.words (unwrap_or lead.spare 0));
-  only = ap (λ (z : SeatView). z.held) is;
-  later = record {
-    from = λ q. 0;
-    reached = λ q inside. some_entry q inside;
-    over = λ q inner. let x = there_is (history_of v.seen q) 0 (some_entry q inner.inside) in (x.0, x.1, omega arith, omega arith);
-    past = λ c l. absurd (some-ne-none c (sym l.1));
-  };
-}
-  where
-    some_entry : (q : ℕ) → q < place_count v.shape → 0 < length (history_of v.seen q)
-    some_entry q inside = let le = no_shorter v.seen (opening_book face (opening_of v)) kn.opened q in let n = (newly face (opening_of v) q inside).newest.last in omega arith
 
 -- a lane that is taken back leaves how the table is laid out
 module _ (face : ℕ → ℕ → List (ℕ × ℕ) → List ℕ) (lead pass after : SeatView) (h : TakesLaneBack face lead pass after) where

@@ -1,7 +1,7 @@
 //! A table that uses records again: its era and its reservations, as the passes find them.
 ghost use Rattle.std.specs.Prelude.{◌≡◌, ◌<◌, ◌≤◌, ◌^◌, ℕ, IfOk, Some};
 ghost use Rattle.aug_core.specs.Places.{with_reservations};
-ghost use Rattle.aug_words.specs.Seats.{AreTogether, IsNextLane};
+ghost use Rattle.aug_words.specs.Seats.{AreTogether};
 
 use super::tables::{WordsOf, next_pass};
 use crate::assertions::equal;
@@ -84,17 +84,6 @@ fn found(pass: &mut PassOf, words: &WordsOf, lane: u32) -> u64
     pass.pass_reservation(words, lane)
 }
 
-// The era in which a new pass takes what was replaced from its lane, which is nothing.
-fn retires(lead: &mut Lead<Sum, Extent>, words: &WordsOf) -> u64
-    requires together { AreTogether words.now lead.old }
-    requires shape { words.now.shape ≡ with_reservations 1 2 1 2 2 }
-    requires room { (lane : ℕ) × IsNextLane lead.old.view lane }
-{
-    let mut pass = lead.split(words);
-    pass.lane();
-    pass.retire_replaced(words)
-}
-
 // The eras that two passes found and reserved, whether they turned the era, and what they found reserved.
 type Played = ([u64; 3], [bool; 3], [[u64; 2]; 3]);
 
@@ -124,22 +113,5 @@ fn an_era_is_turned_once_and_reserved_for_its_lane(rt: HostRuntime) -> Result<()
     equal(&rt, eras, [0, 2, 2]);
     equal(&rt, turned, [true, false, true]);
     equal(&rt, reserved, [[0, 2], [2, 2], [2, 0]]);
-    Ok(())
-}
-
-// Records come to the lane in the era that is found then.
-fn retire(alloc: Global) -> Result<[u64; 2], AllocError> {
-    let (words, mut lead) = opened(alloc)?;
-    let mut first = next_pass(&mut lead, &words, 0, 2);
-    turns(&mut first, &words, 0);
-    let now = era(&mut first, &words);
-    Ok([now, retires(&mut lead, &words)])
-}
-
-#[test]
-fn what_was_replaced_is_retired_in_the_era_of_that_moment(
-    rt: HostRuntime,
-) -> Result<(), AllocError> {
-    equal(&rt, retire(rt.alloc())?, [1, 1]);
     Ok(())
 }

@@ -15,7 +15,7 @@ use Rattle.aug_trie.specs.declared.updates.request.Request.TheVariants.{Insert}
 use Rattle.aug_trie.specs.UpdateBatches.{BatchPart, no_part, most_rises}
 use Rattle.aug_trie.specs.Pass.{TryNoLeaf, ExchangesOnce, most_rise_steps}
 use Rattle.aug_trie.specs.Requests.{goes_from, outcome_at_once}
-use Rattle.aug_trie.specs.inside.Climbing.{CameTo}
+use Rattle.aug_trie.specs.inside.Climbing.{CameBy}
 use Rattle.aug_trie.specs.inside.Counted.{HasCounts, insertions_by, removals_by}
 use Rattle.aug_trie.specs.inside.Goes.{Goes, Took}
 
@@ -44,7 +44,7 @@ module _ (face : ℕ → ℕ → List (ℕ × ℕ) → List ℕ) where
     pub few_gained : length gained ≤ 2
     pub counts : HasCounts gained (insertions_by request done) (removals_by request done)
     pub goes : Goes face 0 gained v w
-    pub came : (used : ℕ) (u z : SeatView) → u.shape ≡ v.shape → ArePrefixes u.seen v.seen → ArePrefixes w.seen z.seen → Lifts v.shape w.seen z.seen key v.shape.bits → Goes face used gained u z → CameTo face used u key request z word done
+    pub came : (used : ℕ) (u z : SeatView) → u.shape ≡ v.shape → ArePrefixes u.seen v.seen → ArePrefixes w.seen z.seen → Lifts v.shape w.seen z.seen key v.shape.bits → Goes face used gained u z → CameBy face used u key request z word done
 
   -- one update of a batch was at its leaf, between two views
   pub record LeftPart (v w : SeatView) (key : ℕ) (request : Request) (done : Outcome) (part : BatchPart) : Type 0 where

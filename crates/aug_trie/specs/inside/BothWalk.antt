@@ -1,6 +1,5 @@
 -- What a walk over two snapshots at once keeps of the words of who walks, and which names of nodes it has.
 use Rattle.std.specs.Prelude.{◌≡◌, ℕ, ◌+◌, ◌*◌, ◌≤◌, List, ◌++◌, length}
-use Rattle.aug_core.specs.inside.RoundTables.{KnowsTable}
 use Rattle.aug_core.specs.inside.RootCuts.{root_cut}
 use Rattle.aug_core.specs.declared.step.StepTaken.{StepTaken}
 use Rattle.aug_core.specs.declared.view.SeatView.{SeatView}
@@ -14,6 +13,7 @@ use Rattle.aug_trie.specs.inside.NamedCuts.{cut_named}
 use Rattle.aug_trie.specs.inside.NodesUnder.{same_under, IsNodeUnder}
 use Rattle.aug_trie.specs.inside.SnapshotWalk.{set_seen}
 use Rattle.aug_trie.specs.declared.queries.snapshot.Snapshot.{Snapshot}
+use Rattle.aug_trie.specs.inside.Goes.{KnowsRecords}
 
 -- the index of the root's entry that a snapshot saw
 abbrev pub top_of : SeatView → Snapshot → ℕ
@@ -26,7 +26,7 @@ both_seen v earlier later = record { earlier = set_seen v earlier; later = set_s
 module _ (face : ℕ → ℕ → List (ℕ × ℕ) → List ℕ) where
   -- the word names the node at a level and a place of the snapshot's tree
   pub record IsNamedUnder (v : SeatView) (s : Snapshot) (level place word : ℕ) : Type 0 where
-    pub knows_table : KnowsTable face v
+    pub knows_records : KnowsRecords face v
     pub is_tree_set : IsTreeSet (set_seen v s)
     pub cut_is : cut_named v.shape v.seen s ≡ root_cut v.shape v.seen (top_of v s)
     pub node : IsNodeUnder v.shape v.seen (top_of v s) level place word

@@ -58,14 +58,14 @@ module _ (f : ℕ → ℕ → List (ℕ × ℕ) → List ℕ) (v : SeatView) (ea
       a ∙ eqb-true (word_under v.shape v.seen (top_of v earlier) level place) (word_under v.shape v.seen (top_of v later) level place) same ∙ sym b
 
   pub stand_in_both : StandInBoth (both_seen v earlier later) level place
-  stand_in_both = let mine = named.in_earlier in let other = named.in_later in let node = mine.node.node in let twin = other.node.node in let kn = mine.knows_table in
+  stand_in_both = let mine = named.in_earlier in let other = named.in_later in let node = mine.node.node in let twin = other.node.node in let kn = mine.knows_records.knows_table in let round = kn.in_round mine.knows_records.keeps_records in
       let here : twin.q ≡ node.q = twin.part.word.is ∙ sym node.part.word.is in record {
         are_both = record { is_earlier = mine.is_tree_set; is_later = other.is_tree_set; same_bits = refl };
         level_fits = node.part.word.level_fits;
         place_fits = part_fits f v.shape v.seen kn.book (root_cut v.shape v.seen (top_of v earlier)) level place node.q node.index node.part;
         same_below = λ same.
             ap (λ (z : Cut). pairs_below (pairs_of_cut z) level place) mine.cut_is
-            ∙ same_pairs f v.shape v.seen kn.book kn.named (few_serials v.shape v.seen kn.laid_out kn.fits) (root_cut v.shape v.seen (top_of v earlier)) (root_cut v.shape v.seen (top_of v later)) level place node.q node.index twin.index node.part
+            ∙ same_pairs f v.shape v.seen kn.book round.0 (few_serials v.shape v.seen kn.laid_out round.1) (root_cut v.shape v.seen (top_of v earlier)) (root_cut v.shape v.seen (top_of v later)) level place node.q node.index twin.index node.part
             (subst (λ (z : ℕ). IsPartOfCut v.shape v.seen (root_cut v.shape v.seen (top_of v later)) level place z twin.index) here twin.part)
             (node.named ∙ same_words same ∙ sym twin.named ∙ ap (λ (z : ℕ). (entry_of v.seen z twin.index).word) here)
             ∙ ap (λ (z : Cut). pairs_below (pairs_of_cut z) level place) (sym other.cut_is);

@@ -1,5 +1,6 @@
 -- An update as a whole: its steps, and its result.
 use Rattle.std.specs.Prelude.{◌≡◌, ℕ, ◌+◌, ◌-◌, ◌%◌, ◌^◌, ◌<◌, ◌≤◌, ◌==◌, nat_lt, ⊤, true, false, List, [], ◌∷◌, ◌++◌, length}
+use Rattle.aug_core.specs.Places.{Shape}
 use Rattle.aug_core.specs.Book.{IsPassed}
 use Rattle.aug_core.specs.Kinds.{load_leaf}
 use Rattle.aug_core.specs.inside.Shows.{NewestShows, ShowsAtMost}
@@ -41,6 +42,11 @@ advance_from (Add amount) key word = record { serial = serial_in_word word; weig
 advance_from (Sub amount) key word = record { serial = serial_in_word word; weight = weight_in_word word; replaces = nat_lt amount (weight_in_word word); new_weight = weight_in_word word - amount }
 advance_from (Take weight) key word = record { serial = serial_in_word word; weight = weight_in_word word; replaces = false; new_weight = 0 }
 
+-- a leaf's word, with its whole serial before the weight: the word has the last bits of that, and in a round all of them
+pub record IsWholeWord (s : Shape) (word whole : ℕ) : Type 0 where
+  pub last_bits : whole % 2 ^ 64 ≡ word
+  pub in_round : s.reservations ≡ 0 → whole ≡ word
+
 module _ (face : ℕ → ℕ → List (ℕ × ℕ) → List ℕ) (used : ℕ) (v : SeatView) (key : ℕ) (request : Request) (w : SeatView) where
   -- the key's serial went up as the request says, which are changes of the view, and the root shows it with its weight; what it went past it never shows
   pub record WentUp (a : Advance) : Type 0 where
@@ -64,14 +70,20 @@ module _ (face : ℕ → ℕ → List (ℕ × ℕ) → List ℕ) (used : ℕ) (v
     pub stops : goes_from request loaded ≡ false
     pub says : done ≡ outcome_at_once request
 
-  -- the result of an update whose leaf had this word when it was loaded
+  -- the result of an update whose leaf had this word, with its whole serial, when it was loaded, or at the exchange if that succeeded
   abbrev pub CameTo : ℕ → Outcome → Type 0
   CameTo loaded outcome.Accepted = WentUp (advance_from request key loaded) × ((advance_from request key loaded).replaces ≡ false) × (goes_from request loaded ≡ true)
   CameTo loaded outcome.Replaced = WentUp (advance_from request key loaded) × ((advance_from request key loaded).replaces ≡ true) × (goes_from request loaded ≡ true)
   CameTo loaded outcome.Refused = Stayed loaded
   CameTo loaded done = StayedAtOnce loaded done
 
-  -- an update by the word that it found, whatever its other steps were
+  -- that of an update which loaded this word
+  pub record CameBy (loaded : ℕ) (done : Outcome) : Type 0 where
+    pub whole : ℕ
+    pub is_whole : IsWholeWord v.shape loaded whole
+    pub came_to : CameTo whole done
+
+  -- an update by the word that it found, with its whole serial, whatever its other steps were
   pub record Settled (done : Outcome) : Type 0 where
     pub loaded : ℕ
     pub more : List StepTaken
@@ -87,7 +99,7 @@ module _ (face : ℕ → ℕ → List (ℕ × ℕ) → List ℕ) (used : ℕ) (v
     pub most_steps : length more + 1 ≤ most_update_steps v.shape.bits
     pub tried : goes_from request loaded ≡ true → ExchangesOnce request key loaded more done
     pub refusing : goes_from request loaded ≡ false → (done ≡ outcome_at_once request) × TryNoLeaf more
-    pub came_to : CameTo loaded done
+    pub came : CameBy loaded done
 
   -- and by this word, which it found
   abbrev pub UpdatedFrom : ℕ → Outcome → Type 0

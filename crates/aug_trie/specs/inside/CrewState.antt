@@ -4,7 +4,7 @@ use Rattle.aug_core.specs.Counts.{changes_of}
 use Rattle.aug_core.specs.declared.view.SeatView.{SeatView}
 use Rattle.aug_words.specs.Leads.{MayOpen}
 use Rattle.aug_words.specs.Seats.{Known}
-use Rattle.aug_core.specs.inside.RoundTables.{KnowsTable}
+use Rattle.aug_core.specs.Effects.{KnowsBook}
 use Rattle.aug_trie.specs.Knowledge.{inserts_of, removals_of}
 use Rattle.aug_trie.specs.inside.Knows.{knows, KnowsRound}
 use Rattle.aug_trie.specs.inside.RoundState.{round_of, past_rounds}
@@ -17,7 +17,8 @@ crew_facts known free = record { round = round_of known.table known.view; past =
 module _ (face : ℕ → ℕ → List (ℕ × ℕ) → List ℕ) where
   -- the view of a lead that handed out `handed` lanes and took `back` passes back
   pub record IsCrew (v : SeatView) (handed back : ℕ) : Type 0 where
-    pub knows_table : KnowsTable face v
+    pub keeps_records : v.shape.reservations ≡ 0
+    pub knows_table : KnowsBook face v
     pub hands_out : v.spare ≡ Some handed
     pub took_back : length v.held ≡ back
     pub knowledge : KnowsRound v

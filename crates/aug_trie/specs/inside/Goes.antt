@@ -5,8 +5,7 @@ use Rattle.aug_monoid.specs.Fold.{fold_of}
 use Rattle.aug_core.specs.Places.{Shape, record_words}
 use Rattle.aug_core.specs.Book.{At, ArePrefixes, IsFresh}
 use Rattle.aug_core.specs.Counts.{changes_of}
-use Rattle.aug_core.specs.Effects.{HoldsOnly, MayStore, own_lane}
-use Rattle.aug_core.specs.inside.RoundTables.{KnowsTable}
+use Rattle.aug_core.specs.Effects.{HoldsOnly, MayStore, own_lane, KnowsBook}
 use Rattle.aug_core.specs.inside.Refreshes.{Refreshed}
 use Rattle.aug_core.specs.declared.step.StepTaken.{StepTaken}
 use Rattle.aug_core.specs.declared.view.Change.{Change}
@@ -20,8 +19,9 @@ use Rattle.aug_trie.specs.Pass.{TryNoLeaf}
 abbrev pub HoldsOne : SeatView → Type 0
 HoldsOne v = (h : Held) × HoldsOnly v h
 
--- and it owns `records` records from the record `next` on
+-- and it owns `records` records from the record `next` on, in a table that uses none again
 pub record HasRoom (v : SeatView) (next records : ℕ) : Type 0 where
+  pub keeps_records : v.shape.reservations ≡ 0
   pub holds : HoldsOne v
   pub owns : (n : ℕ) → next ≤ n → n < next + records → MayStore v n
 
@@ -50,7 +50,7 @@ module _ (face : ℕ → ℕ → List (ℕ × ℕ) → List ℕ) where
   pub record Goes (used : ℕ) (gained : List Change) (v w : SeatView) : Type 0 where
     pub later : ArePrefixes v.seen w.seen
     pub fresh : IsFresh v.shape w.seen v.seen
-    pub knows_table : KnowsTable face w
+    pub knows_table : KnowsBook face w
     pub shaped : w.shape ≡ v.shape
     pub same_members : w.members ≡ v.members
     pub same_eras : eras_of w ≡ eras_of v
@@ -64,6 +64,11 @@ pub record Tries (v : SeatView) (q number : ℕ) (done : Bool) (w : SeatView) : 
   pub refreshed : Refreshed v.shape v.seen q done w.seen
   pub again : done ≡ false → MayStore v number → MayStore w number
 
+-- the view knows its table, and may read all records that it has seen, since none is used again
+pub record KnowsRecords (face : ℕ → ℕ → List (ℕ × ℕ) → List ℕ) (v : SeatView) : Type 0 where
+  pub knows_table : KnowsBook face v
+  pub keeps_records : v.shape.reservations ≡ 0
+
 -- the table has `leaves` leaves
 pub record HasLeaves (s : Shape) (leaves : ℕ) : Type 0 where
   pub are : leaves ≡ 2 ^ s.bits
@@ -72,7 +77,7 @@ pub record HasLeaves (s : Shape) (leaves : ℕ) : Type 0 where
 -- and the view knows the table
 pub record KnowsLeaves (face : ℕ → ℕ → List (ℕ × ℕ) → List ℕ) (v : SeatView) (many : ℕ) : Type 0 where
   pub leaves : HasLeaves v.shape many
-  pub knows : KnowsTable face v
+  pub knows : KnowsBook face v
 
 -- how many words of a record tell what is below its node: a count and two folds
 abbrev pub part_words : ℕ

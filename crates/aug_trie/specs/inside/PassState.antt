@@ -1,8 +1,7 @@
 -- What the fields of a pass keep, and how the value that contracts see of it is made of them.
 use Rattle.std.specs.Prelude.{◌≡◌, ℕ, ◌+◌, ◌-◌, ◌*◌, ◌^◌, ◌<◌, ◌≤◌, Option, Some, unwrap_or, List, [], length}
 use Rattle.aug_core.specs.Counts.{changes_of}
-use Rattle.aug_core.specs.Effects.{own_lane, spent}
-use Rattle.aug_core.specs.inside.RoundTables.{KnowsTable}
+use Rattle.aug_core.specs.Effects.{own_lane, spent, KnowsBook}
 use Rattle.aug_words.specs.Seats.{Known}
 use Rattle.aug_core.specs.declared.view.SeatView.{SeatView}
 use Rattle.aug_trie.specs.declared.rounds.account.Account.{Account}
@@ -34,7 +33,7 @@ module _ (face : ℕ → ℕ → List (ℕ × ℕ) → List ℕ) where
   pub record IsPass (v : SeatView) (leaves bits next left : ℕ) : Type 0 where
     pub leaves_are : HasLeaves v.shape leaves
     pub bits_are : bits ≡ v.shape.bits
-    pub knows_table : KnowsTable face v
+    pub knows_table : KnowsBook face v
     pub room : HasRoom v next (left * bits)
     pub budget : length (changes_of v.held) + 2 * left ≤ 2 * v.shape.updates
     pub small : next + left * bits < 2 ^ 60

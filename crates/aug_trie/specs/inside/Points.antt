@@ -5,8 +5,7 @@ use Rattle.aug_core.specs.Places.{record_words}
 use Rattle.aug_core.specs.Addresses.{IsInner, left_of, right_of}
 use Rattle.aug_core.specs.Book.{ArePrefixes}
 use Rattle.aug_core.specs.inside.Refreshes.{HasNewest, SaysLoaded, stored}
-use Rattle.aug_core.specs.Effects.{Says, own_lane}
-use Rattle.aug_core.specs.inside.RoundTables.{KnowsTable}
+use Rattle.aug_core.specs.Effects.{Says, own_lane, KnowsBook}
 use Rattle.aug_core.specs.declared.step.StepTaken.{StepTaken}
 use Rattle.aug_core.specs.declared.view.SeatView.{SeatView}
 use Rattle.aug_trie.specs.inside.RoundState.{eras_of}
@@ -68,7 +67,7 @@ module _ (face : ℕ → ℕ → List (ℕ × ℕ) → List ℕ) (v : SeatView) 
   pub record MayRefresh (many number : ℕ) : Type 0 where
     pub leaves : HasLeaves v.shape many
     pub inner : IsInner v.shape q
-    pub knows : KnowsTable face v
+    pub knows : KnowsBook face v
     pub room : HasRoom v number 1
 
   -- the node's word was loaded
@@ -127,7 +126,7 @@ module _ (face : ℕ → ℕ → List (ℕ × ℕ) → List ℕ) (v : SeatView) 
   -- the try is at a point
   pub record TryAt (number : ℕ) (point : Point) (w : SeatView) : Type 0 where
     pub inner : IsInner v.shape q
-    pub knows_table : KnowsTable face v
+    pub knows_table : KnowsBook face v
     pub room : HasRoom v number 1
     pub is_at : IsAt number point w
 

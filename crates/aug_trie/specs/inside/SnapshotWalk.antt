@@ -1,6 +1,5 @@
 -- What a walk over a snapshot keeps of the words of its pass, and which names of nodes it has.
 use Rattle.std.specs.Prelude.{◌≡◌, ℕ, ◌+◌, ◌*◌, ◌≤◌, Option, Some, List, ◌++◌, length}
-use Rattle.aug_core.specs.inside.RoundTables.{KnowsTable}
 use Rattle.aug_core.specs.declared.step.StepTaken.{StepTaken}
 use Rattle.aug_core.specs.declared.view.SeatView.{SeatView}
 use Rattle.aug_model.specs.Keys.{SetFacts}
@@ -10,6 +9,7 @@ use Rattle.aug_words.specs.Seats.{Known}
 use Rattle.aug_trie.specs.inside.NodeWords.{IsNodeAt}
 use Rattle.aug_trie.specs.inside.NamedCuts.{cut_named, members_of}
 use Rattle.aug_trie.specs.declared.queries.snapshot.Snapshot.{Snapshot}
+use Rattle.aug_trie.specs.inside.Goes.{KnowsRecords}
 
 -- the set that a snapshot shows in what a pass has seen
 abbrev pub set_seen : SeatView → Snapshot → SetFacts
@@ -18,7 +18,7 @@ set_seen v s = members_of v.shape.bits (cut_named v.shape v.seen s)
 module _ (face : ℕ → ℕ → List (ℕ × ℕ) → List ℕ) where
   -- the word names the node at a level and a place of the snapshot's tree
   pub record IsNamed (v : SeatView) (s : Snapshot) (level place word : ℕ) : Type 0 where
-    pub knows_table : KnowsTable face v
+    pub knows_records : KnowsRecords face v
     pub is_tree_set : IsTreeSet (set_seen v s)
     pub node : IsNodeAt v.shape v.seen (cut_named v.shape v.seen s) level place word
 

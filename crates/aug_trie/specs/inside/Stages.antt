@@ -5,8 +5,7 @@ use Rattle.aug_core.specs.Book.{history_of}
 use Rattle.aug_core.specs.Counts.{changes_of}
 use Rattle.aug_core.specs.inside.Shows.{above, Lifts}
 use Rattle.aug_core.specs.inside.Refreshes.{NewestCovers}
-use Rattle.aug_core.specs.Effects.{own_lane, BeginsAtLeaf}
-use Rattle.aug_core.specs.inside.RoundTables.{KnowsTable}
+use Rattle.aug_core.specs.Effects.{own_lane, BeginsAtLeaf, KnowsBook}
 use Rattle.aug_core.specs.declared.view.SeatView.{SeatView}
 use Rattle.aug_trie.specs.inside.RoundState.{eras_of}
 use Rattle.aug_trie.specs.inside.Goes.{Goes, Took, TookBetween, HasRoom, part_words, part_steps, try_steps, level_steps, least_rise_steps}
@@ -55,7 +54,7 @@ module _ (face : ℕ → ℕ → List (ℕ × ℕ) → List ℕ) where
     pub record MayRise : Type 0 where
       pub low : key < 2 ^ leaf.shape.bits
       pub bits_are : bits ≡ leaf.shape.bits
-      pub knows_table : KnowsTable face leaf
+      pub knows_table : KnowsBook face leaf
       pub room : HasRoom leaf number bits
 
     -- it is at a node

@@ -1,10 +1,9 @@
 //! Two snapshots as a comparison walks them at once, over the words of whoever has taken them.
 ghost use Rattle.std.specs.Prelude.{◌≡◌, ℕ, ◌+◌, ◌*◌};
-ghost use Rattle.aug_core.specs.inside.RoundTables.{KnowsTable};
 ghost use Rattle.aug_core.specs.Faces.{face};
 ghost use Rattle.aug_model.specs.Queries.{weight_of};
 ghost use Rattle.aug_trie.specs.inside.BothWalk.{IsBothWalk, top_of};
-ghost use Rattle.aug_trie.specs.inside.Goes.{Looks};
+ghost use Rattle.aug_trie.specs.inside.Goes.{Looks, KnowsRecords};
 ghost use Rattle.aug_trie.specs.inside.LeafPairs.{leaf_pairs};
 ghost use Rattle.aug_trie.specs.inside.NodesUnder.{IsNodeUnder};
 
@@ -26,7 +25,7 @@ fn left_under<A: Monoid, B: Monoid, W: RecordWords>(
     place: u32,
     word: u64,
 ) -> u64
-    requires knows { KnowsTable (face A.parts B.parts) (W.known words.old).view }
+    requires knows { KnowsRecords (face A.parts B.parts) (W.known words.old).view }
     requires node { IsNodeUnder (W.known words.old).view.shape (W.known words.old).view.seen (top_of (W.known words.old).view snapshot) (level + 1) place word }
     ensures table { (W.known words.new).table ≡ (W.known words.old).table }
     ensures looks { Looks 1 (W.known words.old).view (W.known words.new).view }
@@ -45,7 +44,7 @@ fn right_under<A: Monoid, B: Monoid, W: RecordWords>(
     place: u32,
     word: u64,
 ) -> u64
-    requires knows { KnowsTable (face A.parts B.parts) (W.known words.old).view }
+    requires knows { KnowsRecords (face A.parts B.parts) (W.known words.old).view }
     requires node { IsNodeUnder (W.known words.old).view.shape (W.known words.old).view.seen (top_of (W.known words.old).view snapshot) (level + 1) place word }
     ensures table { (W.known words.new).table ≡ (W.known words.old).table }
     ensures looks { Looks 1 (W.known words.old).view (W.known words.new).view }

@@ -1,13 +1,12 @@
 //! From one node of a snapshot's tree to the next, over a pass that knows only its words.
 ghost use Rattle.std.specs.Prelude.{◌≡◌, ◌+◌, ◌*◌, ◌≤◌};
 ghost use Rattle.aug_core.specs.Faces.{face};
-ghost use Rattle.aug_core.specs.inside.RoundTables.{KnowsTable};
 ghost use Rattle.aug_model.specs.Folds.{summary_of};
 ghost use Rattle.aug_trie.specs.inside.NodeWords.{IsNodeAt};
 ghost use Rattle.aug_trie.specs.inside.LeafPairs.{leaf_pairs};
 ghost use Rattle.aug_trie.specs.TreeOf.{IsTreeOf};
 ghost use Rattle.aug_trie.specs.inside.NamedCuts.{cut_named};
-ghost use Rattle.aug_trie.specs.inside.Goes.{Looks};
+ghost use Rattle.aug_trie.specs.inside.Goes.{Looks, KnowsRecords};
 
 use crate::queries::node::Node;
 use crate::queries::record_words::RecordWords;
@@ -40,7 +39,7 @@ pub(crate) fn summary_at<A: Monoid, B: Monoid, W: RecordWords>(
     place: u32,
     word: u64,
 ) -> Summary<A, B>
-    requires knows { KnowsTable (face A.parts B.parts) (W.known words.old).view }
+    requires knows { KnowsRecords (face A.parts B.parts) (W.known words.old).view }
     requires node { IsNodeAt (W.known words.old).view.shape (W.known words.old).view.seen (cut_named (W.known words.old).view.shape (W.known words.old).view.seen snapshot) level place word }
     ensures table { (W.known words.new).table ≡ (W.known words.old).table }
     ensures looks { Looks 3 (W.known words.old).view (W.known words.new).view }
@@ -68,7 +67,7 @@ pub(crate) fn node_at<A: Monoid, B: Monoid>(
     place: u32,
     word: u64,
 ) -> Node<A, B>
-    requires knows { KnowsTable (face A.parts B.parts) pass.old.view }
+    requires knows { KnowsRecords (face A.parts B.parts) pass.old.view }
     requires node { IsNodeAt pass.old.view.shape pass.old.view.seen (cut_named pass.old.view.shape pass.old.view.seen snapshot) level place word }
     ensures table { pass.new.table ≡ pass.old.table }
     ensures looks { Looks 3 pass.old.view pass.new.view }
@@ -94,7 +93,7 @@ pub(crate) fn left_of<A: Monoid, B: Monoid>(
     pass: &mut WordPass<A, B>,
     node: &Node<A, B>,
 ) -> Node<A, B>
-    requires knows { KnowsTable (face A.parts B.parts) pass.old.view }
+    requires knows { KnowsRecords (face A.parts B.parts) pass.old.view }
     requires node { IsNodeAt pass.old.view.shape pass.old.view.seen (cut_named pass.old.view.shape pass.old.view.seen node.now.snapshot) node.now.level node.now.place node.now.word }
     requires inner { 1 ≤ node.now.level }
     ensures table { pass.new.table ≡ pass.old.table }
@@ -115,7 +114,7 @@ pub(crate) fn right_of<A: Monoid, B: Monoid>(
     pass: &mut WordPass<A, B>,
     node: &Node<A, B>,
 ) -> Node<A, B>
-    requires knows { KnowsTable (face A.parts B.parts) pass.old.view }
+    requires knows { KnowsRecords (face A.parts B.parts) pass.old.view }
     requires node { IsNodeAt pass.old.view.shape pass.old.view.seen (cut_named pass.old.view.shape pass.old.view.seen node.now.snapshot) node.now.level node.now.place node.now.word }
     requires inner { 1 ≤ node.now.level }
     ensures table { pass.new.table ≡ pass.old.table }

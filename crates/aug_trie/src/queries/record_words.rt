@@ -4,12 +4,11 @@ ghost use Rattle.std.specs.Prelude.{◌≡◌, ℕ, ◌+◌, ◌*◌, ◌^◌, �
 ghost use Rattle.aug_core.specs.Cuts.{set_of_cut};
 ghost use Rattle.aug_core.specs.Faces.{face};
 ghost use Rattle.aug_core.specs.Effects.{GuardsRecord};
-ghost use Rattle.aug_core.specs.inside.RoundTables.{KnowsTable};
 ghost use Rattle.aug_core.specs.Fields.{field_offset};
 ghost use Rattle.aug_words.specs.Seats.{Known, LoadsRecordWord};
 ghost use Rattle.aug_model.specs.NodeKeys.{keys_below};
 ghost use Rattle.aug_trie.specs.inside.NodeWords.{IsNodeAt};
-ghost use Rattle.aug_trie.specs.inside.Goes.{Looks};
+ghost use Rattle.aug_trie.specs.inside.Goes.{Looks, KnowsRecords};
 ghost use Rattle.aug_trie.specs.inside.NamedCuts.{cut_named};
 
 use crate::queries::snapshot::Snapshot;
@@ -101,7 +100,7 @@ pub(crate) fn left_word<A: Monoid, B: Monoid, W: RecordWords>(
     place: u32,
     word: u64,
 ) -> u64
-    requires knows { KnowsTable (face A.parts B.parts) (W.known words.old).view }
+    requires knows { KnowsRecords (face A.parts B.parts) (W.known words.old).view }
     requires node { IsNodeAt (W.known words.old).view.shape (W.known words.old).view.seen (cut_named (W.known words.old).view.shape (W.known words.old).view.seen snapshot) (level + 1) place word }
     ensures table { (W.known words.new).table ≡ (W.known words.old).table }
     ensures looks { Looks 1 (W.known words.old).view (W.known words.new).view }
@@ -120,7 +119,7 @@ pub(crate) fn right_word<A: Monoid, B: Monoid, W: RecordWords>(
     place: u32,
     word: u64,
 ) -> u64
-    requires knows { KnowsTable (face A.parts B.parts) (W.known words.old).view }
+    requires knows { KnowsRecords (face A.parts B.parts) (W.known words.old).view }
     requires node { IsNodeAt (W.known words.old).view.shape (W.known words.old).view.seen (cut_named (W.known words.old).view.shape (W.known words.old).view.seen snapshot) (level + 1) place word }
     ensures table { (W.known words.new).table ≡ (W.known words.old).table }
     ensures looks { Looks 1 (W.known words.old).view (W.known words.new).view }
@@ -139,7 +138,7 @@ pub(crate) fn count_at<A: Monoid, B: Monoid, W: RecordWords>(
     place: u32,
     word: u64,
 ) -> u32
-    requires knows { KnowsTable (face A.parts B.parts) (W.known words.old).view }
+    requires knows { KnowsRecords (face A.parts B.parts) (W.known words.old).view }
     requires node { IsNodeAt (W.known words.old).view.shape (W.known words.old).view.seen (cut_named (W.known words.old).view.shape (W.known words.old).view.seen snapshot) level place word }
     ensures table { (W.known words.new).table ≡ (W.known words.old).table }
     ensures looks { Looks 1 (W.known words.old).view (W.known words.new).view }

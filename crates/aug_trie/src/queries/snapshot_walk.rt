@@ -1,9 +1,9 @@
 //! A snapshot as a descent walks it, over the words of its pass, of its crew or of a reader.
 ghost use Rattle.std.specs.Prelude.{◌≡◌, Some};
-ghost use Rattle.aug_core.specs.inside.RoundTables.{KnowsTable};
 ghost use Rattle.aug_core.specs.Faces.{face};
 ghost use Rattle.aug_words.specs.Seats.{AreTogether, NamesRoot};
 ghost use Rattle.aug_trie.specs.inside.SnapshotWalk.{HasWalk, IsWalk};
+ghost use Rattle.aug_trie.specs.inside.Goes.{KnowsRecords};
 
 use crate::queries::nodes::summary_at;
 use crate::queries::record_words::{
@@ -93,7 +93,7 @@ impl<'r, A: Monoid, B: Monoid> SnapshotWalk<CrewWords<'r, A, B>, A, B> {
     ) -> SnapshotWalk<CrewWords<'r, A, B>, A, B>
         requires together { AreTogether words.now lead }
         requires bits { bits ≡ lead.view.shape.bits }
-        requires knows { KnowsTable (face A.parts B.parts) lead.view }
+        requires knows { KnowsRecords (face A.parts B.parts) lead.view }
         ensures words { result.words ≡ lead }
         ensures newest { NamesRoot lead.view result.snapshot.number }
     {

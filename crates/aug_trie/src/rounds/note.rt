@@ -31,7 +31,7 @@ pub struct Note<A: Monoid, B: Monoid> {
 
 impl<A: Monoid, B: Monoid> Model for Note<A, B> {
     ghost use Rattle.aug_core.specs.Faces.{face};
-    ghost use Rattle.aug_core.specs.inside.RoundTables.{KnowsTable};
+    ghost use Rattle.aug_core.specs.Effects.{KnowsBook};
     ghost use Rattle.aug_trie.specs.Note.{NoteFacts};
     ghost use Rattle.aug_trie.specs.inside.NoteState.{note_facts};
 
@@ -39,7 +39,7 @@ impl<A: Monoid, B: Monoid> Model for Note<A, B> {
 
     ghost view = { λ n. note_facts n.words };
 
-    ghost invariant = { λ n. KnowsTable (face A.parts B.parts) n.words.view };
+    ghost invariant = { λ n. KnowsBook (face A.parts B.parts) n.words.view };
 }
 
 impl<A: Monoid, B: Monoid> Note<A, B> {

@@ -2,8 +2,7 @@
 ghost use Rattle.std.specs.Prelude.{◌≡◌, ◌+◌, ◌*◌, ◌^◌, ◌<◌, ◌≤◌, All, length, drop};
 ghost use Rattle.aug_core.specs.Faces.{face};
 ghost use Rattle.aug_core.specs.Counts.{changes_of};
-ghost use Rattle.aug_core.specs.Effects.{MayChange};
-ghost use Rattle.aug_core.specs.inside.RoundTables.{KnowsTable};
+ghost use Rattle.aug_core.specs.Effects.{MayChange, KnowsBook};
 ghost use Rattle.aug_words.specs.Seats.{StaysAt};
 ghost use Rattle.aug_trie.specs.UpdateBatches.{apart};
 ghost use Rattle.aug_trie.specs.inside.Climbing.{FitsRequest};
@@ -38,7 +37,7 @@ pub(crate) fn amount_in(request: Request) -> u32
 #[inline(always)]
 fn at_leaf<A: Monoid, B: Monoid>(pass: &mut WordPass<A, B>, key: u32, request: Request) -> Outcome
     requires key { key < 2 ^ pass.old.view.shape.bits }
-    requires knows { KnowsTable (face A.parts B.parts) pass.old.view }
+    requires knows { KnowsBook (face A.parts B.parts) pass.old.view }
     requires may { MayChange pass.old.view }
     ensures { StaysAt pass.old pass.new (LeftLeaf (face A.parts B.parts) pass.old.view key request result pass.new.view) }
 {
@@ -112,7 +111,7 @@ pub(crate) fn propagate_all<'r, A: Monoid, B: Monoid>(
     requires leaves { HasLeaves pass.view.shape leaves }
     requires bits { bits ≡ pass.view.shape.bits }
     requires keys { All (λ k. k < 2 ^ pass.view.shape.bits) keys.now }
-    requires knows { KnowsTable (face A.parts B.parts) pass.view }
+    requires knows { KnowsBook (face A.parts B.parts) pass.view }
     requires room { HasRoom pass.view number (length keys.now * bits) }
     requires small { number + length keys.now * bits < 2 ^ 60 }
     ensures table { result.table ≡ pass.entry.table }

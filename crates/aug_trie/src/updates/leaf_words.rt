@@ -19,11 +19,10 @@ pub(crate) fn leaf_weight(word: u64) -> u32
     (word % 0x1_0000_0000) as u32
 }
 
-// The word of a leaf with this serial, whose key has this weight.
+// The word of a leaf with this serial, of which it has the last 32 bits, and whose key has this weight.
 #[inline(always)]
 pub(crate) fn leaf_word(serial: u64, weight: u32) -> u64
-    requires { serial < 2 ^ 32 }
     ensures { result ≡ word_of_leaf serial weight }
 {
-    serial * 0x1_0000_0000 + u64::from(weight)
+    serial % 0x1_0000_0000 * 0x1_0000_0000 + u64::from(weight)
 }

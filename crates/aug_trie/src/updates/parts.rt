@@ -67,6 +67,7 @@ fn node_part<A: Monoid, B: Monoid>(
     number: u64,
 ) -> Part<A, B>
     requires over { KnowsLeaves (face A.parts B.parts) pass.old.view leaves }
+    requires keeps { pass.old.view.shape.reservations ≡ 0 }
     requires inner { IsInner pass.old.view.shape node }
     requires named { HasEntry pass.old.view.seen node number }
     ensures table { pass.new.table ≡ pass.old.table }
@@ -89,6 +90,7 @@ pub(crate) fn any_part<A: Monoid, B: Monoid>(
     word: u64,
 ) -> Part<A, B>
     requires over { KnowsLeaves (face A.parts B.parts) pass.old.view leaves }
+    requires keeps { pass.old.view.shape.reservations ≡ 0 }
     requires place { place < place_count pass.old.view.shape }
     requires named { HasEntry pass.old.view.seen place word }
     ensures table { pass.new.table ≡ pass.old.table }

@@ -2,8 +2,7 @@
 ghost use Rattle.std.specs.Prelude.{◌≡◌, ℕ, ◌+◌, ◌^◌, ◌<◌, [], ◌∷◌, slice_index, false};
 ghost use Rattle.aug_core.specs.Faces.{face};
 ghost use Rattle.aug_core.specs.Addresses.{place_count, IsInner};
-ghost use Rattle.aug_core.specs.Effects.{MayStore};
-ghost use Rattle.aug_core.specs.inside.RoundTables.{KnowsTable};
+ghost use Rattle.aug_core.specs.Effects.{MayStore, KnowsBook};
 ghost use Rattle.aug_core.specs.inside.Refreshes.{HasNewest, SaysLoaded, Published};
 ghost use Rattle.aug_words.specs.Seats.{StaysAt};
 ghost use Rattle.aug_trie.specs.inside.Goes.{Goes, Took, HasRoom, KnowsLeaves, publish_steps};
@@ -65,7 +64,7 @@ fn publish<A: Monoid, B: Monoid>(
     five: [u64; RECORD_WORDS],
 ) -> bool
     requires inner { IsInner pass.old.view.shape node }
-    requires knows { KnowsTable (face A.parts B.parts) pass.old.view }
+    requires knows { KnowsBook (face A.parts B.parts) pass.old.view }
     requires room { HasRoom pass.old.view number 1 }
     requires loaded { SaysLoaded (face A.parts B.parts) pass.old.view.shape pass.old.view.seen node from five }
     ensures table { pass.new.table ≡ pass.old.table }

@@ -2,7 +2,7 @@
 ghost use Rattle.std.specs.Prelude.{◌≡◌, ℕ, ◌+◌, ◌*◌, ◌^◌, ◌<◌, ◌≤◌, Bool, true, false, if◌then◌else◌, length};
 ghost use Rattle.aug_core.specs.Faces.{face};
 ghost use Rattle.aug_core.specs.Counts.{changes_of};
-ghost use Rattle.aug_core.specs.inside.RoundTables.{KnowsTable};
+ghost use Rattle.aug_core.specs.Effects.{KnowsBook};
 ghost use Rattle.aug_model.specs.declared.outcome.Outcome.TheVariants as outcome;
 ghost use Rattle.aug_trie.specs.inside.Climbing.{UpdatedFrom, FitsRequest};
 ghost use Rattle.aug_trie.specs.inside.Goes.{HasLeaves, HasRoom};
@@ -50,8 +50,7 @@ pub(crate) fn at_once(request: Request) -> Outcome
 // insertion after it, so that no word ever says that the key was gone.
 #[inline(always)]
 pub(crate) fn word_after(request: Request, key: u32, word: u64) -> u64
-    requires few { serial_in_word word < 2 ^ 31 }
-    requires lets { goes_from request word ≡ true }
+    requires { goes_from request word ≡ true }
     ensures { result ≡ word_of_request request key word }
 {
     let serial = leaf_serial(word);
@@ -94,7 +93,7 @@ pub(crate) fn update<'r, A: Monoid, B: Monoid>(
     requires leaves { HasLeaves pass.view.shape leaves }
     requires bits { bits ≡ pass.view.shape.bits }
     requires key { key < 2 ^ pass.view.shape.bits }
-    requires knows { KnowsTable (face A.parts B.parts) pass.view }
+    requires knows { KnowsBook (face A.parts B.parts) pass.view }
     requires room { HasRoom pass.view number bits }
     requires budget { length (changes_of pass.view.held) + 2 ≤ 2 * pass.view.shape.updates }
     requires small { number + bits < 2 ^ 60 }

@@ -9,7 +9,7 @@ use Rattle.aug_core.specs.Prefixes.{IsPrefix}
 use Rattle.aug_core.specs.Book.{Book, At}
 use Rattle.aug_core.specs.Cuts.{pairs_of_cut, Cut}
 use Rattle.aug_core.specs.Effects.{Sat}
-use Rattle.aug_core.specs.inside.RoundTables.{KnowsTable}
+use Rattle.aug_core.specs.Effects.{KnowsBook}
 use Rattle.aug_core.specs.Eras.{table_part, IsBeside, opening_with}
 use Rattle.aug_core.specs.Addresses.{place_count, IsInner, level_of, place_on, left_of, right_of}
 use Rattle.aug_core.specs.Lanes.{word_of_state}
@@ -147,7 +147,8 @@ pub record MayBring (face : ℕ → ℕ → List (ℕ × ℕ) → List ℕ) (sea
   pub shaped : me.0.shape ≡ s
   pub wide : me.0.base + word_count me.0.shape ≤ table.words
   pub records_are : records ≡ me.0.base + record_start me.0.shape 0
-  pub knows : KnowsTable face me.0
+  pub keeps_records : me.0.shape.reservations ≡ 0
+  pub knows : KnowsBook face me.0
   pub room : 2 ^ s.bits ≤ s.members
 
 -- what is noted of a part of a table that is being laid out beside the one at work, if each node has a record of its own

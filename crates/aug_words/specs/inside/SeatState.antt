@@ -5,7 +5,6 @@ use Rattle.aug_core.specs.Places.{Shape, lane_place, record_start, word_count}
 use Rattle.aug_core.specs.Layout.{IsLayout}
 use Rattle.aug_core.specs.Book.{At}
 use Rattle.aug_core.specs.Effects.{Sat, HoldsOnly, KnowsBook}
-use Rattle.aug_core.specs.inside.RoundTables.{KnowsTable}
 use Rattle.aug_core.specs.Readers.{times_in}
 use Rattle.aug_core.specs.Records.{Lists}
 use Rattle.aug_core.specs.declared.opening.TableKey.{TableKey}
@@ -105,7 +104,8 @@ module _ (face : ℕ → ℕ → List (ℕ × ℕ) → List ℕ) where
     pub reads : me.0.reads ≡ true
     pub no_lane : me.0.held ≡ []
     pub follows : me.0.spare ≡ None
-    pub knows : KnowsTable face me.0
+    pub keeps_records : me.0.shape.reservations ≡ 0
+    pub knows : KnowsBook face me.0
 
   -- what holds for the seat of a lead: it hands out the lanes from the next one on, knows its table, and has the number of the root's newest record
   pub record IsLeadSeat (next root : ℕ) (me : Sat) : Type 0 where

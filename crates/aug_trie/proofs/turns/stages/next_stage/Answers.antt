@@ -6,7 +6,7 @@ use Rattle.aug_words.specs.Seats.{MayAdvance, TriedLeaf}
 use Rattle.aug_trie.specs.Requests.{word_after}
 use Rattle.aug_trie.specs.inside.Stages.{Ascends}
 use Rattle.aug_trie.specs.declared.turns.ascents.Ascent.{Ascent}
-use Rattle.aug_trie.proofs.Staging.{room_one, stage_is, begun_change, begun_up, low_serial, may_advance, exchanged_word, tried_steps, try_step, tried_up, rising_on, risen_up}
+use Rattle.aug_trie.proofs.Staging.{room_one, stage_is, begun_change, begun_up, may_advance, exchanged_word, tried_steps, try_step, tried_up, rising_on, risen_up}
 use Rattle.aug_trie.proofs.turns.stages.next_stage.Goals as goal
 
 pub ascend-requires-clause-small : goal.ascend-requires-clause-small
@@ -34,9 +34,6 @@ returns-in-Change-clause-second g c = λ word is. let f = face g.A.Monoid.parts 
     let tried = subst (λ (z : ℕ). TriedLeaf f old c.args.key c.in-Change.word z c.try_leaf-done.result w) c.word_after.ensures c.try_leaf-done.ensures.view in
     subst (λ (z : ℕ). (x : ℕ) × (w.steps ≡ old.steps ++ try_leaf c.args.key z (word_after c.args.request c.args.key z) x ∷ [])) (ap exchanged_word (sym c.in-Change.is ∙ is)) (tried.found, tried_steps f (stage_is f c.in-Change.is c.requires.at.2) tried)
 
-pub word_after-requires-clause-few : goal.word_after-requires-clause-few
-word_after-requires-clause-few g c = let f = face g.A.Monoid.parts g.B.Monoid.parts in low_serial f (stage_is f c.in-Change.is c.requires.at.2)
-
 pub try_leaf-done-requires-clause-advance : goal.try_leaf-done-requires-clause-advance
 try_leaf-done-requires-clause-advance g c = let f = face g.A.Monoid.parts g.B.Monoid.parts in
     subst (MayAdvance c.args.pass.now.view c.args.key c.in-Change.word) (sym c.word_after.ensures) (may_advance f (stage_is f c.in-Change.is c.requires.at.2))
@@ -53,5 +50,5 @@ returns-in-None-clause-on g c = λ left u t. let f = face g.A.Monoid.parts g.B.M
 pub returns-then-goes_on-clause-on : goal.returns-then-goes_on-clause-on
 returns-then-goes_on-clause-on g c = λ left u t. let f = face g.A.Monoid.parts g.B.Monoid.parts in begun_change f (stage_is f c.in-Leaf.is t) c.begin_at_leaf-word.ensures.view (sym c.goes_on.ensures ∙ c.if-goes_on.true)
 
-pub word_after-requires-clause-lets : goal.word_after-requires-clause-lets
-word_after-requires-clause-lets g c = let f = face g.A.Monoid.parts g.B.Monoid.parts in (stage_is f c.in-Change.is c.requires.at.2).is_stage.lets
+pub word_after-requires : goal.word_after-requires
+word_after-requires g c = let f = face g.A.Monoid.parts g.B.Monoid.parts in (stage_is f c.in-Change.is c.requires.at.2).is_stage.lets

@@ -6,16 +6,16 @@ use Rattle.aug_trie.proofs.Telling.{guards_named, guards_on, says_before, goes_t
 use Rattle.aug_trie.proofs.updates.parts.node_part.Goals as goal
 
 pub load_record_word-count-requires : goal.load_record_word-count-requires
-load_record_word-count-requires g c = inl (guards_named (face g.A.Monoid.parts g.B.Monoid.parts) c.args.pass.now.view c.args.node c.args.number c.requires.over.knows c.requires.inner c.requires.named)
+load_record_word-count-requires g c = inl (guards_named (face g.A.Monoid.parts g.B.Monoid.parts) c.args.pass.now.view c.args.node c.args.number c.requires.keeps c.requires.over.knows c.requires.inner c.requires.named)
 
 pub load_record_word-a-requires : goal.load_record_word-a-requires
 load_record_word-a-requires g c = inl (guards_on c.args.pass.now.view c.load_record_word-count.new.self.view _ c.args.number c.load_record_word-count.ensures.view.stepped
-    (guards_named (face g.A.Monoid.parts g.B.Monoid.parts) c.args.pass.now.view c.args.node c.args.number c.requires.over.knows c.requires.inner c.requires.named))
+    (guards_named (face g.A.Monoid.parts g.B.Monoid.parts) c.args.pass.now.view c.args.node c.args.number c.requires.keeps c.requires.over.knows c.requires.inner c.requires.named))
 
 pub load_record_word-b-requires : goal.load_record_word-b-requires
 load_record_word-b-requires g c = inl (guards_on c.load_record_word-count.new.self.view c.load_record_word-a.new.self.view _ c.args.number c.load_record_word-a.ensures.view.stepped
     (guards_on c.args.pass.now.view c.load_record_word-count.new.self.view _ c.args.number c.load_record_word-count.ensures.view.stepped
-    (guards_named (face g.A.Monoid.parts g.B.Monoid.parts) c.args.pass.now.view c.args.node c.args.number c.requires.over.knows c.requires.inner c.requires.named)))
+    (guards_named (face g.A.Monoid.parts g.B.Monoid.parts) c.args.pass.now.view c.args.node c.args.number c.requires.keeps c.requires.over.knows c.requires.inner c.requires.named)))
 
 pub returns-clause-goes : goal.returns-clause-goes
 returns-clause-goes g c = goes_three (face g.A.Monoid.parts g.B.Monoid.parts) c.args.pass.now.view c.load_record_word-count.new.self.view c.load_record_word-a.new.self.view c.load_record_word-b.new.self.view _ _ _ c.requires.over.knows
@@ -25,6 +25,6 @@ pub returns-clause-part : goal.returns-clause-part
 returns-clause-part g c = let m = g.A.Monoid in let n = g.B.Monoid in let v : SeatView = c.args.pass.now.view in let w1 : SeatView = c.load_record_word-count.new.self.view in let w2 : SeatView = c.load_record_word-a.new.self.view in
     let are = c.requires.over.leaves.are in let few = c.requires.over.leaves.few in
     let l1 = c.load_record_word-count.ensures.view in let l2 = c.load_record_word-a.ensures.view in let l3 = c.load_record_word-b.ensures.view in
-    let told = part_of_node m.parts n.parts (laws_of g.met.A.Monoid) (laws_of g.met.B.Monoid) v c.args.node c.args.number _ _ _ (omega arith) c.requires.over.knows c.requires.inner l1.known
+    let told = part_of_node m.parts n.parts (laws_of g.met.A.Monoid) (laws_of g.met.B.Monoid) v c.args.node c.args.number _ _ _ (omega arith) c.requires.keeps c.requires.over.knows c.requires.inner l1.known
     (says_before v w1 _ c.args.number 3 _ l1.stepped l2.known) (says_before v w1 _ c.args.number 4 _ l1.stepped (says_before w1 w2 _ c.args.number 4 _ l2.stepped l3.known)) in
     record { of = λ i e p is. let t = told.of i e p is in record { count_is = c.part_of_words.ensures.count ∙ t.count_is; a_is = c.part_of_words.ensures.a ∙ t.a_is; b_is = c.part_of_words.ensures.b ∙ t.b_is } }

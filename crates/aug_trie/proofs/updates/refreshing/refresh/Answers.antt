@@ -1,6 +1,7 @@
-use Rattle.std.proofs.Common.{arith, refl, ◌∙◌}
+use Rattle.std.proofs.Common.{arith, ap, refl, ◌∙◌}
 use Rattle.aug_monoid.proofs.BoundLaws.{laws_of}
 use Rattle.aug_core.specs.Faces.{face}
+use Rattle.aug_core.specs.Places.{Shape}
 use Rattle.aug_core.proofs.Refreshing.{has_entry}
 use Rattle.aug_trie.proofs.Levels.{child_places}
 use Rattle.aug_trie.proofs.Whole.{try_loaded}
@@ -45,3 +46,9 @@ any_part-l-requires-clause-place g c = (child_places c.requires.leaves c.require
 
 pub any_part-r-requires-clause-place : goal.any_part-r-requires-clause-place
 any_part-r-requires-clause-place g c = (child_places c.requires.leaves c.requires.inner refl (c.any_part-l.ensures.goes.shaped ∙ c.look-right.ensures.goes.shaped ∙ c.look-left.ensures.goes.shaped ∙ c.look-from.ensures.goes.shaped)).1
+
+pub any_part-l-requires-clause-keeps : goal.any_part-l-requires-clause-keeps
+any_part-l-requires-clause-keeps g c = ap (λ (z : Shape). z.reservations) (c.look-right.ensures.goes.shaped ∙ c.look-left.ensures.goes.shaped ∙ c.look-from.ensures.goes.shaped) ∙ c.requires.room.keeps_records
+
+pub any_part-r-requires-clause-keeps : goal.any_part-r-requires-clause-keeps
+any_part-r-requires-clause-keeps g c = ap (λ (z : Shape). z.reservations) (c.any_part-l.ensures.goes.shaped ∙ c.look-right.ensures.goes.shaped ∙ c.look-left.ensures.goes.shaped ∙ c.look-from.ensures.goes.shaped) ∙ c.requires.room.keeps_records

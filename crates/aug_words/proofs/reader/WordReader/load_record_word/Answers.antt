@@ -1,5 +1,4 @@
 use Rattle.std.proofs.Common.{refl, subst, sym, ◌+◌, ℕ, arith, rules}
-use Rattle.aug_core.proofs.Fits.{any_table}
 use Rattle.aug_core.specs.Effects.{GuardsRecord}
 use Rattle.aug_core.specs.Faces.{face}
 use Rattle.aug_core.specs.Fields.{field_offset}
@@ -14,15 +13,15 @@ pub record_word-place-requires : goal.record_word-place-requires
 record_word-place-requires g c =
     let w = c.words.invariant in let sits = sits_at _ _ _ _ c.self.inside.base c.words.inside.lanes c.words.inside.records c.self.view_is c.words.view_is c.requires.together c.self.invariant.placed w.lanes_are w.records_are in
     let begins = sits.records_are in let far = sits.placed.wide in let most = sits.placed.few in let small = c.self.invariant.knows.laid_out.words in let field = c.offset.ensures.small in
-    let below = guarded_inside (face g.A.Monoid.parts g.B.Monoid.parts) c.self.inside.seat.me.0 c.args.number (any_table (face g.A.Monoid.parts g.B.Monoid.parts) _ c.self.invariant.knows) (subst (λ (k : Known). GuardsRecord k.view c.args.number) (sym c.self.view_is) c.requires.guards) in
+    let below = guarded_inside (face g.A.Monoid.parts g.B.Monoid.parts) c.self.inside.seat.me.0 c.args.number c.self.invariant.knows (subst (λ (k : Known). GuardsRecord k.view c.args.number) (sym c.self.view_is) c.requires.guards) in
     omega arith
 
 pub load-requires : goal.load-requires
 load-requires g c =
     let w = c.words.invariant in let sits = sits_at _ _ _ _ c.self.inside.base c.words.inside.lanes c.words.inside.records c.self.view_is c.words.view_is c.requires.together c.self.invariant.placed w.lanes_are w.records_are in
     let begins = sits.records_are in let wide = sits.placed.wide in let field = c.offset.ensures.small in let at = c.record_word-place.ensures in
-    let below = guarded_inside (face g.A.Monoid.parts g.B.Monoid.parts) c.self.inside.seat.me.0 c.args.number (any_table (face g.A.Monoid.parts g.B.Monoid.parts) _ c.self.invariant.knows) (subst (λ (k : Known). GuardsRecord k.view c.args.number) (sym c.self.view_is) c.requires.guards) in
-    (sits.seated, omega arith, reads_record_word _ _ _ _ (record_start c.self.inside.seat.me.0.shape c.args.number + c.offset.result) _ _ c.self.invariant.knows.keeps_records c.self.invariant.reads c.self.invariant.live c.self.invariant.no_lane c.self.invariant.no_slot (omega arith))
+    let below = guarded_inside (face g.A.Monoid.parts g.B.Monoid.parts) c.self.inside.seat.me.0 c.args.number c.self.invariant.knows (subst (λ (k : Known). GuardsRecord k.view c.args.number) (sym c.self.view_is) c.requires.guards) in
+    (sits.seated, omega arith, reads_record_word _ _ _ _ (record_start c.self.inside.seat.me.0.shape c.args.number + c.offset.result) _ _ c.self.invariant.keeps_records c.self.invariant.reads c.self.invariant.live c.self.invariant.no_lane c.self.invariant.no_slot (omega arith))
 
 pub invariant_of-self : goal.invariant_of-self
 invariant_of-self g c = let w = c.words.invariant in let sits = sits_at _ _ _ _ c.self.inside.base c.words.inside.lanes c.words.inside.records c.self.view_is c.words.view_is c.requires.together c.self.invariant.placed w.lanes_are w.records_are in let begins = sits.records_are in let at = c.record_word-place.ensures in

@@ -36,28 +36,28 @@ pub overflow_add-word : goal.overflow_add-word
 overflow_add-word g t c =
     let s : Shape = c.args.self.now.shape in let leaves = leaves_are _ _ _ s _ _ c.self.invariant (ap (λ (z : Store). z.shape) c.self.view_is) in let m = c.requires.may in let f = face g.A.Monoid.parts g.B.Monoid.parts in let v : SeatView = c.args.seat.now.me.0 in let base : ℕ = c.args.draft.now.base in let q : ℕ = c.args.node in
     let book : Book = v.seen in let b : IsBook f s book = subst (λ (z : Shape). IsBook f z book) m.shaped m.knows.book in let named = c.requires.named in
-    let past = c.if-node-leaves.false in let inner : IsInner s q = record { past_leaves = omega arith; inside = c.requires.node } in let number : named.entry.number ≡ c.args.word = numbered_in f s v q c.args.word m.shaped m.knows inner named in
+    let past = c.if-node-leaves.false in let inner : IsInner s q = record { past_leaves = omega arith; inside = c.requires.node } in let number : named.entry.number ≡ c.args.word = numbered_in f s v q c.args.word m.shaped m.keeps_records m.knows inner named in
     let fits = m.knows.book.below q named.index named.entry (subst (λ (z : Shape). IsInner z q) (sym m.shaped) inner) named.at in let most = m.knows.laid_out.words in omega (arith, number, fits)
 
 pub overflow_add-word-then-right : goal.overflow_add-word-then-right
 overflow_add-word-then-right g t c =
     let s : Shape = c.args.self.now.shape in let leaves = leaves_are _ _ _ s _ _ c.self.invariant (ap (λ (z : Store). z.shape) c.self.view_is) in let m = c.requires.may in let f = face g.A.Monoid.parts g.B.Monoid.parts in let v : SeatView = c.args.seat.now.me.0 in let base : ℕ = c.args.draft.now.base in let q : ℕ = c.args.node in
     let book : Book = v.seen in let b : IsBook f s book = subst (λ (z : Shape). IsBook f z book) m.shaped m.knows.book in let named = c.requires.named in
-    let past = c.if-node-leaves.false in let inner : IsInner s q = record { past_leaves = omega arith; inside = c.requires.node } in let number : named.entry.number ≡ c.args.word = numbered_in f s v q c.args.word m.shaped m.knows inner named in
+    let past = c.if-node-leaves.false in let inner : IsInner s q = record { past_leaves = omega arith; inside = c.requires.node } in let number : named.entry.number ≡ c.args.word = numbered_in f s v q c.args.word m.shaped m.keeps_records m.knows inner named in
     let fits = m.knows.book.below q named.index named.entry (subst (λ (z : Shape). IsInner z q) (sym m.shaped) inner) named.at in let most = m.knows.laid_out.words in omega (arith, number, fits)
 
 pub load_record-five-requires-clause-guards : goal.load_record-five-requires-clause-guards
 load_record-five-requires-clause-guards g t c =
     let s : Shape = c.args.self.now.shape in let leaves = leaves_are _ _ _ s _ _ c.self.invariant (ap (λ (z : Store). z.shape) c.self.view_is) in let m = c.requires.may in let f = face g.A.Monoid.parts g.B.Monoid.parts in let v : SeatView = c.args.seat.now.me.0 in let base : ℕ = c.args.draft.now.base in let q : ℕ = c.args.node in
     let book : Book = v.seen in let b : IsBook f s book = subst (λ (z : Shape). IsBook f z book) m.shaped m.knows.book in let named = c.requires.named in
-    let past = c.if-node-leaves.false in let inner : IsInner s q = record { past_leaves = omega arith; inside = c.requires.node } in let number : named.entry.number ≡ c.args.word = numbered_in f s v q c.args.word m.shaped m.knows inner named in
-    record { place = q; index = named.index; entry = named.entry; guards = record { inner = subst (λ (z : Shape). IsInner z q) (sym m.shaped) inner; at = named.at; covers = inl m.knows.keeps_records }; numbered = number }
+    let past = c.if-node-leaves.false in let inner : IsInner s q = record { past_leaves = omega arith; inside = c.requires.node } in let number : named.entry.number ≡ c.args.word = numbered_in f s v q c.args.word m.shaped m.keeps_records m.knows inner named in
+    record { place = q; index = named.index; entry = named.entry; guards = record { inner = subst (λ (z : Shape). IsInner z q) (sym m.shaped) inner; at = named.at; covers = inl m.keeps_records }; numbered = number }
 
 pub returns-then-index-word-clause-done : goal.returns-then-index-word-clause-done
 returns-then-index-word-clause-done g t c is =
     let s : Shape = c.args.self.now.shape in let leaves = leaves_are _ _ _ s _ _ c.self.invariant (ap (λ (z : Store). z.shape) c.self.view_is) in let m = c.requires.may in let f = face g.A.Monoid.parts g.B.Monoid.parts in let v : SeatView = c.args.seat.now.me.0 in let base : ℕ = c.args.draft.now.base in let q : ℕ = c.args.node in
     let book : Book = v.seen in let b : IsBook f s book = subst (λ (z : Shape). IsBook f z book) m.shaped m.knows.book in let named = c.requires.named in
-    let past = c.if-node-leaves.false in let inner : IsInner s q = record { past_leaves = omega arith; inside = c.requires.node } in let number : named.entry.number ≡ c.args.word = numbered_in f s v q c.args.word m.shaped m.knows inner named in
+    let past = c.if-node-leaves.false in let inner : IsInner s q = record { past_leaves = omega arith; inside = c.requires.node } in let number : named.entry.number ≡ c.args.word = numbered_in f s v q c.args.word m.shaped m.keeps_records m.knows inner named in
     let on = on_level s q c.requires.node in c.requires.below q c.args.word inner (node_in s (level_of s q) (place_on s q) q on) (let h : List ℕ = c.args.draft.now.shown.items in let slot : q - (c.self.inside.lanes / 2 + 1) ≡ q - 2 ^ s.bits = omega arith in let long = c.requires.noted in let inside = c.requires.node in let t = twice s.bits in
     ap (λ (z : ℕ). get_or h z 0) (sym slot) ∙ sym (get_or_read h (q - (c.self.inside.lanes / 2 + 1)) c.index.result.now (omega arith) c.index.ensures 0) ∙ c.if-index-word.true)
 
@@ -70,9 +70,9 @@ pub bring-left-requires : goal.bring-left-requires
 bring-left-requires g t c κs lives =
     let s : Shape = c.args.self.now.shape in let leaves = leaves_are _ _ _ s _ _ c.self.invariant (ap (λ (z : Store). z.shape) c.self.view_is) in let m = c.requires.may in let f = face g.A.Monoid.parts g.B.Monoid.parts in let v : SeatView = c.args.seat.now.me.0 in let base : ℕ = c.args.draft.now.base in let q : ℕ = c.args.node in
     let book : Book = v.seen in let b : IsBook f s book = subst (λ (z : Shape). IsBook f z book) m.shaped m.knows.book in let named = c.requires.named in
-    let past = c.if-node-leaves.false in let inner : IsInner s q = record { past_leaves = omega arith; inside = c.requires.node } in let number : named.entry.number ≡ c.args.word = numbered_in f s v q c.args.word m.shaped m.knows inner named in
+    let past = c.if-node-leaves.false in let inner : IsInner s q = record { past_leaves = omega arith; inside = c.requires.node } in let number : named.entry.number ≡ c.args.word = numbered_in f s v q c.args.word m.shaped m.keeps_records m.knows inner named in
     let h : List ℕ = c.args.draft.now.shown.items in let five : List ℕ = c.load_record-five.result in let w : List ℕ = words_in base s v in
-    let says : (field : ℕ) → field < record_words → get_or five field 0 ≡ get_or named.entry.words field 0 = λ field low. c.load_record-five.ensures.says field low q named.index named.entry record { inner = subst (λ (z : Shape). IsInner z q) (sym m.shaped) inner; at = named.at; covers = inl m.knows.keeps_records } number in
+    let says : (field : ℕ) → field < record_words → get_or five field 0 ≡ get_or named.entry.words field 0 = λ field low. c.load_record-five.ensures.says field low q named.index named.entry record { inner = subst (λ (z : Shape). IsInner z q) (sym m.shaped) inner; at = named.at; covers = inl m.keeps_records } number in
     let slot : q - (c.self.inside.lanes / 2 + 1) ≡ q - 2 ^ s.bits = omega arith in let left_at : 2 * (q - (c.self.inside.lanes / 2 + 1)) ≡ left_of s q = omega arith in let right_at : 2 * (q - (c.self.inside.lanes / 2 + 1)) + 1 ≡ right_of s q = omega arith in
     let same : c.passes.new.self.base ≡ base = c.passes.ensures.base in
     let cleared : set c.passes.new.self.shown.items (q - (c.self.inside.lanes / 2 + 1)) 0 ≡ set h (q - 2 ^ s.bits) 0 = λ i. set ((ap (λ z. z.items) c.passes.ensures.shown) i) (slot i) 0 in
@@ -84,9 +84,9 @@ pub bring-right-requires : goal.bring-right-requires
 bring-right-requires g t c κs lives =
     let s : Shape = c.args.self.now.shape in let leaves = leaves_are _ _ _ s _ _ c.self.invariant (ap (λ (z : Store). z.shape) c.self.view_is) in let m = c.requires.may in let f = face g.A.Monoid.parts g.B.Monoid.parts in let v : SeatView = c.args.seat.now.me.0 in let base : ℕ = c.args.draft.now.base in let q : ℕ = c.args.node in
     let book : Book = v.seen in let b : IsBook f s book = subst (λ (z : Shape). IsBook f z book) m.shaped m.knows.book in let named = c.requires.named in
-    let past = c.if-node-leaves.false in let inner : IsInner s q = record { past_leaves = omega arith; inside = c.requires.node } in let number : named.entry.number ≡ c.args.word = numbered_in f s v q c.args.word m.shaped m.knows inner named in
+    let past = c.if-node-leaves.false in let inner : IsInner s q = record { past_leaves = omega arith; inside = c.requires.node } in let number : named.entry.number ≡ c.args.word = numbered_in f s v q c.args.word m.shaped m.keeps_records m.knows inner named in
     let h : List ℕ = c.args.draft.now.shown.items in let five : List ℕ = c.load_record-five.result in let w : List ℕ = words_in base s v in
-    let says : (field : ℕ) → field < record_words → get_or five field 0 ≡ get_or named.entry.words field 0 = λ field low. c.load_record-five.ensures.says field low q named.index named.entry record { inner = subst (λ (z : Shape). IsInner z q) (sym m.shaped) inner; at = named.at; covers = inl m.knows.keeps_records } number in
+    let says : (field : ℕ) → field < record_words → get_or five field 0 ≡ get_or named.entry.words field 0 = λ field low. c.load_record-five.ensures.says field low q named.index named.entry record { inner = subst (λ (z : Shape). IsInner z q) (sym m.shaped) inner; at = named.at; covers = inl m.keeps_records } number in
     let slot : q - (c.self.inside.lanes / 2 + 1) ≡ q - 2 ^ s.bits = omega arith in let left_at : 2 * (q - (c.self.inside.lanes / 2 + 1)) ≡ left_of s q = omega arith in let right_at : 2 * (q - (c.self.inside.lanes / 2 + 1)) + 1 ≡ right_of s q = omega arith in
     let same : c.passes.new.self.base ≡ base = c.passes.ensures.base in
     let cleared : set c.passes.new.self.shown.items (q - (c.self.inside.lanes / 2 + 1)) 0 ≡ set h (q - 2 ^ s.bits) 0 = λ i. set ((ap (λ z. z.items) c.passes.ensures.shown) i) (slot i) 0 in
@@ -102,9 +102,9 @@ pub returns-then-right : goal.returns-then-right
 returns-then-right g t c =
     let s : Shape = c.args.self.now.shape in let leaves = leaves_are _ _ _ s _ _ c.self.invariant (ap (λ (z : Store). z.shape) c.self.view_is) in let m = c.requires.may in let f = face g.A.Monoid.parts g.B.Monoid.parts in let v : SeatView = c.args.seat.now.me.0 in let base : ℕ = c.args.draft.now.base in let q : ℕ = c.args.node in
     let book : Book = v.seen in let b : IsBook f s book = subst (λ (z : Shape). IsBook f z book) m.shaped m.knows.book in let named = c.requires.named in
-    let past = c.if-node-leaves.false in let inner : IsInner s q = record { past_leaves = omega arith; inside = c.requires.node } in let number : named.entry.number ≡ c.args.word = numbered_in f s v q c.args.word m.shaped m.knows inner named in
+    let past = c.if-node-leaves.false in let inner : IsInner s q = record { past_leaves = omega arith; inside = c.requires.node } in let number : named.entry.number ≡ c.args.word = numbered_in f s v q c.args.word m.shaped m.keeps_records m.knows inner named in
     let h : List ℕ = c.args.draft.now.shown.items in let five : List ℕ = c.load_record-five.result in let w : List ℕ = words_in base s v in
-    let says : (field : ℕ) → field < record_words → get_or five field 0 ≡ get_or named.entry.words field 0 = λ field low. c.load_record-five.ensures.says field low q named.index named.entry record { inner = subst (λ (z : Shape). IsInner z q) (sym m.shaped) inner; at = named.at; covers = inl m.knows.keeps_records } number in
+    let says : (field : ℕ) → field < record_words → get_or five field 0 ≡ get_or named.entry.words field 0 = λ field low. c.load_record-five.ensures.says field low q named.index named.entry record { inner = subst (λ (z : Shape). IsInner z q) (sym m.shaped) inner; at = named.at; covers = inl m.keeps_records } number in
     let slot : q - (c.self.inside.lanes / 2 + 1) ≡ q - 2 ^ s.bits = omega arith in let left_at : 2 * (q - (c.self.inside.lanes / 2 + 1)) ≡ left_of s q = omega arith in let right_at : 2 * (q - (c.self.inside.lanes / 2 + 1)) + 1 ≡ right_of s q = omega arith in
     let same : c.passes.new.self.base ≡ base = c.passes.ensures.base in
     let cleared : set c.passes.new.self.shown.items (q - (c.self.inside.lanes / 2 + 1)) 0 ≡ set h (q - 2 ^ s.bits) 0 = λ i. set ((ap (λ z. z.items) c.passes.ensures.shown) i) (slot i) 0 in
@@ -123,7 +123,7 @@ returns-then-right g t c =
     let as_left : IsLaidAs f s book (left_of s q) (get_or five 0 0) w1 = laid_same s m.room f book _ _ (left_of s q) _ (get_or five 0 0) _ w1 seen0 left_at refl (ap (λ (z : ℕ). words_in z s c.bring-left.new.seat.me.0) same) (c.bring-left.ensures.done c.if-left.true) in
     let as_right : IsLaidAs f s book (right_of s q) (get_or five 1 0) w2 = laid_same s m.room f book _ _ (right_of s q) _ (get_or five 1 0) _ w2 seen1 right_at refl (ap (λ (z : ℕ). words_in z s c.bring-right.new.seat.me.0) same1) (c.bring-right.ensures.done c.if-right.true) in
     let below = c.requires.below in
-    let laid = node_laid g.A.Monoid.parts g.B.Monoid.parts s m.room book b q named.index inner named.entry five named.at says (subst (λ (z : Shape). NamesOnce z book) m.shaped m.knows.named) (subst (λ (z : Shape). HasFewSerials z book) m.shaped (few_serials v.shape book m.knows.laid_out m.knows.fits)) c.args.word named.named w h w1 h1 w2 h2 w3 below left right slots lays wide as_left as_right in
+    let laid = node_laid g.A.Monoid.parts g.B.Monoid.parts s m.room book b q named.index inner named.entry five named.at says (subst (λ (z : Shape). NamesOnce z book) m.shaped (m.knows.in_round m.keeps_records).0) (subst (λ (z : Shape). HasFewSerials z book) m.shaped (few_serials v.shape book m.knows.laid_out (m.knows.in_round m.keeps_records).1)) c.args.word named.named w h w1 h1 w2 h2 w3 below left right slots lays wide as_left as_right in
     let two : StepsBeside base s v c.bring-right.new.seat.me.0 = beside_on base s _ _ _ (beside_on base s _ _ _ (subst (λ (z : ℕ). StepsBeside z s v c.load_record-five.new.seat.me.0) c.passes.ensures.base c.load_record-five.ensures.view)
     (subst (λ (z : ℕ). StepsBeside z s c.load_record-five.new.seat.me.0 c.bring-left.new.seat.me.0) c.passes.ensures.base c.bring-left.ensures.view)) (subst (λ (z : ℕ). StepsBeside z s c.bring-left.new.seat.me.0 c.bring-right.new.seat.me.0) (c.bring-left.ensures.base ∙ c.passes.ensures.base) c.bring-right.ensures.view) in
     let was = subst (λ (z : ℕ). MayBring f c.bring-right.new.seat.table_id c.args.self.now.table c.args.records z s c.bring-right.new.seat.me) same1 c.bring-right.ensures.may in
@@ -147,9 +147,9 @@ pub returns-else-left-clause-brings : goal.returns-else-left-clause-brings
 returns-else-left-clause-brings g t c =
     let s : Shape = c.args.self.now.shape in let leaves = leaves_are _ _ _ s _ _ c.self.invariant (ap (λ (z : Store). z.shape) c.self.view_is) in let m = c.requires.may in let f = face g.A.Monoid.parts g.B.Monoid.parts in let v : SeatView = c.args.seat.now.me.0 in let base : ℕ = c.args.draft.now.base in let q : ℕ = c.args.node in
     let book : Book = v.seen in let b : IsBook f s book = subst (λ (z : Shape). IsBook f z book) m.shaped m.knows.book in let named = c.requires.named in
-    let past = c.if-node-leaves.false in let inner : IsInner s q = record { past_leaves = omega arith; inside = c.requires.node } in let number : named.entry.number ≡ c.args.word = numbered_in f s v q c.args.word m.shaped m.knows inner named in
+    let past = c.if-node-leaves.false in let inner : IsInner s q = record { past_leaves = omega arith; inside = c.requires.node } in let number : named.entry.number ≡ c.args.word = numbered_in f s v q c.args.word m.shaped m.keeps_records m.knows inner named in
     let h : List ℕ = c.args.draft.now.shown.items in let five : List ℕ = c.load_record-five.result in let w : List ℕ = words_in base s v in
-    let says : (field : ℕ) → field < record_words → get_or five field 0 ≡ get_or named.entry.words field 0 = λ field low. c.load_record-five.ensures.says field low q named.index named.entry record { inner = subst (λ (z : Shape). IsInner z q) (sym m.shaped) inner; at = named.at; covers = inl m.knows.keeps_records } number in
+    let says : (field : ℕ) → field < record_words → get_or five field 0 ≡ get_or named.entry.words field 0 = λ field low. c.load_record-five.ensures.says field low q named.index named.entry record { inner = subst (λ (z : Shape). IsInner z q) (sym m.shaped) inner; at = named.at; covers = inl m.keeps_records } number in
     let slot : q - (c.self.inside.lanes / 2 + 1) ≡ q - 2 ^ s.bits = omega arith in let left_at : 2 * (q - (c.self.inside.lanes / 2 + 1)) ≡ left_of s q = omega arith in let right_at : 2 * (q - (c.self.inside.lanes / 2 + 1)) + 1 ≡ right_of s q = omega arith in
     let same : c.passes.new.self.base ≡ base = c.passes.ensures.base in
     let cleared : set c.passes.new.self.shown.items (q - (c.self.inside.lanes / 2 + 1)) 0 ≡ set h (q - 2 ^ s.bits) 0 = λ i. set ((ap (λ z. z.items) c.passes.ensures.shown) i) (slot i) 0 in

@@ -1,5 +1,4 @@
 use Rattle.std.proofs.Common.{arith, ap, refl, subst, sym, ◌<◌, ◌+◌, ◌∙◌}
-use Rattle.aug_core.proofs.Fits.{any_table}
 use Rattle.aug_core.specs.Faces.{face}
 use Rattle.aug_core.specs.Places.{record_start}
 use Rattle.aug_core.specs.declared.view.SeatView.{SeatView}
@@ -13,7 +12,7 @@ use Rattle.aug_words.proofs.words.Words.load_field.Goals as goal
 pub load-requires : goal.load-requires
 load-requires g c = let m = c.requires.may in let l = m.may.leads in let v : SeatView = c.args.seat.now.me.0 in let begins = m.records_are in let far = m.wide in let field = c.requires.field in let at = c.record_word-place.ensures in
     let same = ap (λ (z : Store). z.table) c.self.view_is in
-    let below = guarded_inside (face g.A.Monoid.parts g.B.Monoid.parts) v c.args.number (any_table (face g.A.Monoid.parts g.B.Monoid.parts) v m.knows) c.requires.guards in
+    let below = guarded_inside (face g.A.Monoid.parts g.B.Monoid.parts) v c.args.number m.knows c.requires.guards in
     (m.may.seated ∙ sym same, subst (λ z. c.record_word-place.result < z.words) (sym same) (omega arith), loads_record_word _ _ _ _ (record_start v.shape c.args.number + c.args.field) _ _ (hands_out v l.next l.leads) l.live m.may.no_slot (omega arith) (omega arith))
 
 pub returns-clause-view : goal.returns-clause-view

@@ -1,5 +1,4 @@
 use Rattle.std.proofs.Common.{refl, ap, sym, subst, ◌∙◌, ◌≡◌, ◌+◌, ◌-◌, ℕ}
-use Rattle.aug_core.proofs.Fits.{round_table}
 use Rattle.aug_core.specs.Addresses.{IsInner, root_place}
 use Rattle.aug_core.specs.Faces.{face}
 use Rattle.aug_core.specs.Places.{Shape, record_start, word_count}
@@ -46,12 +45,12 @@ bring-requires-clause-below g c = let at = goal.at.bring-requires-clause-below g
 pub reopen-requires-clause-opened : goal.reopen-requires-clause-opened
 reopen-requires-clause-opened g c = let at = goal.at.reopen-requires-clause-opened g c in let b = c.bring.ensures in let l = c.lay_shared.ensures in let d = c.free_lanes.ensures in
     let a = aims g at.After-aim in let r = aimed_renews a (top g at.After-self) b.base b.view (b.done (b.all refl).0) l.changes l.shares d.changes d.frees in
-    subst (λ (z : ℕ). OpensOver (face g.A.Monoid.parts g.B.Monoid.parts) z c.free_lanes.new.seat.me.0) (sym b.base) (opens_over (round_table (face g.A.Monoid.parts g.B.Monoid.parts) _ a.keeps a.lead.1.knows) a.lead.1.names_root r (a.clear (c.aim.ensures.free c.if-not-aim.false)))
+    subst (λ (z : ℕ). OpensOver (face g.A.Monoid.parts g.B.Monoid.parts) z c.free_lanes.new.seat.me.0) (sym b.base) (opens_over a.keeps a.lead.1.knows a.lead.1.names_root r (a.clear (c.aim.ensures.free c.if-not-aim.false)))
 
 pub reopen-requires-clause-all : goal.reopen-requires-clause-all
 reopen-requires-clause-all g c = let at = goal.at.reopen-requires-clause-all g c in let b = c.bring.ensures in let l = c.lay_shared.ensures in let d = c.free_lanes.ensures in
     let a = aims g at.After-aim in let r = aimed_renews a (top g at.After-self) b.base b.view (b.done (b.all refl).0) l.changes l.shares d.changes d.frees in
-    still_all (round_table (face g.A.Monoid.parts g.B.Monoid.parts) _ a.keeps a.lead.1.knows) a.lead.1.names_root r (subst (λ (k : Known). HoldsAll k.view) (sym c.lead.view_is) c.requires.all)
+    still_all a.keeps a.lead.1.knows a.lead.1.names_root r (subst (λ (k : Known). HoldsAll k.view) (sym c.lead.view_is) c.requires.all)
 
 pub own_number-requires : goal.own_number-requires
 own_number-requires g c = let bits = c.lead.invariant.1.knows.laid_out.bits in

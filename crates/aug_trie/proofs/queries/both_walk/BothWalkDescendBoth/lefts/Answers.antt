@@ -8,7 +8,7 @@ use Rattle.aug_trie.proofs.Comparing.{both_walk_on, both_named_then, node_under_
 use Rattle.aug_trie.proofs.queries.both_walk.BothWalkDescendBoth.lefts.Goals as goal
 
 pub left_under-later-requires-clause-knows : goal.left_under-later-requires-clause-knows
-left_under-later-requires-clause-knows g c = knows_on (face g.A.Monoid.parts g.B.Monoid.parts) 1 _ _ c.left_under-earlier.ensures.looks c.self.invariant.tops.in_earlier.knows_table
+left_under-later-requires-clause-knows g c = knows_on (face g.A.Monoid.parts g.B.Monoid.parts) 1 _ _ c.left_under-earlier.ensures.looks c.self.invariant.tops.in_earlier.knows_records
 
 pub left_under-later-requires-clause-node : goal.left_under-later-requires-clause-node
 left_under-later-requires-clause-node g c = node_under_on (face g.A.Monoid.parts g.B.Monoid.parts) 1 _ _ c.self.inside.later (c.args.level + 1) c.args.place c.args.nodes.now.1 c.left_under-earlier.ensures.looks

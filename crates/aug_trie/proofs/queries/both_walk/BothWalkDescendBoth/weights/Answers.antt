@@ -8,8 +8,8 @@ use Rattle.aug_trie.proofs.queries.both_walk.BothWalkDescendBoth.weights.Goals a
 
 pub returns-clause-earlier : goal.returns-clause-earlier
 returns-clause-earlier g c = let w = c.args.self.now in let v = w.words.view in let n = c.requires.in_earlier in
-    c.weight_by_word.ensures ∙ leaf_says (face g.A.Monoid.parts g.B.Monoid.parts) v (top_of v w.earlier) c.args.place c.args.nodes.now.0 n.knows_table n.node ∙ ap (λ (z : Cut). weight_of (pairs_of_cut z) c.args.place) (sym n.cut_is)
+    c.weight_by_word.ensures ∙ leaf_says (face g.A.Monoid.parts g.B.Monoid.parts) v (top_of v w.earlier) c.args.place c.args.nodes.now.0 n.knows_records.knows_table n.node ∙ ap (λ (z : Cut). weight_of (pairs_of_cut z) c.args.place) (sym n.cut_is)
 
 pub returns-clause-later : goal.returns-clause-later
 returns-clause-later g c = let w = c.args.self.now in let v = w.words.view in let n = c.requires.in_later in
-    c.weight_by_word-2.ensures ∙ leaf_says (face g.A.Monoid.parts g.B.Monoid.parts) v (top_of v w.later) c.args.place c.args.nodes.now.1 n.knows_table n.node ∙ ap (λ (z : Cut). weight_of (pairs_of_cut z) c.args.place) (sym n.cut_is)
+    c.weight_by_word-2.ensures ∙ leaf_says (face g.A.Monoid.parts g.B.Monoid.parts) v (top_of v w.later) c.args.place c.args.nodes.now.1 n.knows_records.knows_table n.node ∙ ap (λ (z : Cut). weight_of (pairs_of_cut z) c.args.place) (sym n.cut_is)

@@ -13,13 +13,13 @@ three : (g : _) (c : goal.After-right_word-right g) → Looks 3 (g.W.RecordWords
 three g c = looks_on 2 1 3 _ _ _ (omega arith) (looks_on 1 1 2 _ _ _ (omega arith) c.left_word-left.ensures.looks c.count_at-passed.ensures.looks) c.right_word-right.ensures.looks
 
 pub count_at-passed-requires-clause-knows : goal.count_at-passed-requires-clause-knows
-count_at-passed-requires-clause-knows g c = knows_on (face g.A.Monoid.parts g.B.Monoid.parts) 1 _ _ c.left_word-left.ensures.looks c.self.invariant.top.knows_table
+count_at-passed-requires-clause-knows g c = knows_on (face g.A.Monoid.parts g.B.Monoid.parts) 1 _ _ c.left_word-left.ensures.looks c.self.invariant.top.knows_records
 
 pub count_at-passed-requires-clause-node : goal.count_at-passed-requires-clause-node
 count_at-passed-requires-clause-node g c = node_on (face g.A.Monoid.parts g.B.Monoid.parts) 1 c.args.level (2 * c.args.place) c.left_word-left.result _ _ c.self.inside.snapshot c.left_word-left.ensures.looks c.left_word-left.ensures.node
 
 pub right_word-right-requires-clause-knows : goal.right_word-right-requires-clause-knows
-right_word-right-requires-clause-knows g c = knows_on (face g.A.Monoid.parts g.B.Monoid.parts) 2 _ _ (looks_on 1 1 2 _ _ _ (omega arith) c.left_word-left.ensures.looks c.count_at-passed.ensures.looks) c.self.invariant.top.knows_table
+right_word-right-requires-clause-knows g c = knows_on (face g.A.Monoid.parts g.B.Monoid.parts) 2 _ _ (looks_on 1 1 2 _ _ _ (omega arith) c.left_word-left.ensures.looks c.count_at-passed.ensures.looks) c.self.invariant.top.knows_records
 
 pub right_word-right-requires-clause-node : goal.right_word-right-requires-clause-node
 right_word-right-requires-clause-node g c = node_on (face g.A.Monoid.parts g.B.Monoid.parts) 2 (c.args.level + 1) c.args.place c.args.node.now _ _ c.self.inside.snapshot (looks_on 1 1 2 _ _ _ (omega arith) c.left_word-left.ensures.looks c.count_at-passed.ensures.looks)

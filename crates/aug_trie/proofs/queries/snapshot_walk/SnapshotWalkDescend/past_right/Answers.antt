@@ -13,13 +13,13 @@ three : (g : _) (c : goal.After-left_word-left g) → Looks 3 (g.W.RecordWords.k
 three g c = looks_on 2 1 3 _ _ _ (omega arith) (looks_on 1 1 2 _ _ _ (omega arith) c.right_word-right.ensures.looks c.count_at-passed.ensures.looks) c.left_word-left.ensures.looks
 
 pub count_at-passed-requires-clause-knows : goal.count_at-passed-requires-clause-knows
-count_at-passed-requires-clause-knows g c = knows_on (face g.A.Monoid.parts g.B.Monoid.parts) 1 _ _ c.right_word-right.ensures.looks c.self.invariant.top.knows_table
+count_at-passed-requires-clause-knows g c = knows_on (face g.A.Monoid.parts g.B.Monoid.parts) 1 _ _ c.right_word-right.ensures.looks c.self.invariant.top.knows_records
 
 pub count_at-passed-requires-clause-node : goal.count_at-passed-requires-clause-node
 count_at-passed-requires-clause-node g c = node_on (face g.A.Monoid.parts g.B.Monoid.parts) 1 c.args.level (2 * c.args.place + 1) c.right_word-right.result _ _ c.self.inside.snapshot c.right_word-right.ensures.looks c.right_word-right.ensures.node
 
 pub left_word-left-requires-clause-knows : goal.left_word-left-requires-clause-knows
-left_word-left-requires-clause-knows g c = knows_on (face g.A.Monoid.parts g.B.Monoid.parts) 2 _ _ (looks_on 1 1 2 _ _ _ (omega arith) c.right_word-right.ensures.looks c.count_at-passed.ensures.looks) c.self.invariant.top.knows_table
+left_word-left-requires-clause-knows g c = knows_on (face g.A.Monoid.parts g.B.Monoid.parts) 2 _ _ (looks_on 1 1 2 _ _ _ (omega arith) c.right_word-right.ensures.looks c.count_at-passed.ensures.looks) c.self.invariant.top.knows_records
 
 pub left_word-left-requires-clause-node : goal.left_word-left-requires-clause-node
 left_word-left-requires-clause-node g c = node_on (face g.A.Monoid.parts g.B.Monoid.parts) 2 (c.args.level + 1) c.args.place c.args.node.now _ _ c.self.inside.snapshot (looks_on 1 1 2 _ _ _ (omega arith) c.right_word-right.ensures.looks c.count_at-passed.ensures.looks)

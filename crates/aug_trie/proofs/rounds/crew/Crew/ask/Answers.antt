@@ -10,10 +10,10 @@ use Rattle.aug_trie.proofs.RoundLemmas.{of_round, crew_told}
 use Rattle.aug_trie.proofs.rounds.crew.Crew.ask.Goals as goal
 
 pub of_crew-walk-requires-clause-together : goal.of_crew-walk-requires-clause-together
-of_crew-walk-requires-clause-together g c = of_round c.round.inside.words c.in-Some.lead c.args.self.now c.args.round.now c.round.invariant.keeps_records (crew_told c.self.invariant (sym c.take.ensures.value ∙ c.in-Some.is) c.self.view_is).0.is_crew.knows_table.keeps_records (crew_told c.self.invariant (sym c.take.ensures.value ∙ c.in-Some.is) c.self.view_is).1 c.requires.together c.round.view_is
+of_crew-walk-requires-clause-together g c = of_round c.round.inside.words c.in-Some.lead c.args.self.now c.args.round.now c.round.invariant.keeps_records (crew_told c.self.invariant (sym c.take.ensures.value ∙ c.in-Some.is) c.self.view_is).0.is_crew.keeps_records (crew_told c.self.invariant (sym c.take.ensures.value ∙ c.in-Some.is) c.self.view_is).1 c.requires.together c.round.view_is
 
 pub of_crew-walk-requires-clause-bits : goal.of_crew-walk-requires-clause-bits
-of_crew-walk-requires-clause-bits g c = let together = of_round c.round.inside.words c.in-Some.lead c.args.self.now c.args.round.now c.round.invariant.keeps_records (crew_told c.self.invariant (sym c.take.ensures.value ∙ c.in-Some.is) c.self.view_is).0.is_crew.knows_table.keeps_records (crew_told c.self.invariant (sym c.take.ensures.value ∙ c.in-Some.is) c.self.view_is).1 c.requires.together c.round.view_is in
+of_crew-walk-requires-clause-bits g c = let together = of_round c.round.inside.words c.in-Some.lead c.args.self.now c.args.round.now c.round.invariant.keeps_records (crew_told c.self.invariant (sym c.take.ensures.value ∙ c.in-Some.is) c.self.view_is).0.is_crew.keeps_records (crew_told c.self.invariant (sym c.take.ensures.value ∙ c.in-Some.is) c.self.view_is).1 c.requires.together c.round.view_is in
     c.bits.ensures ∙ ap (λ (s : Shape). s.bits) (c.round.invariant.laid_out ∙ sym together.one_shape)
 
 pub invariant_of-self : goal.invariant_of-self
@@ -31,4 +31,4 @@ returns-clause-reads g c = let i = c.self.inside in let e = c.of_crew-walk.ensur
     (le_of_eq (ap (λ (z : SetFacts). steps_for (g.Q.Query.most c.args.query z)) (walked_set g.A.Monoid.parts g.B.Monoid.parts i.lead c.in-Some.lead c.args.self.now i.back i.inserts i.removals c.self.invariant (sym c.take.ensures.value ∙ c.in-Some.is) c.self.view_is c.of_crew-walk.result e.words e.newest)))).1
 
 pub of_crew-walk-requires-clause-knows : goal.of_crew-walk-requires-clause-knows
-of_crew-walk-requires-clause-knows g c = (crew_told c.self.invariant (sym c.take.ensures.value ∙ c.in-Some.is) c.self.view_is).0.is_crew.knows_table
+of_crew-walk-requires-clause-knows g c = let crew = (crew_told c.self.invariant (sym c.take.ensures.value ∙ c.in-Some.is) c.self.view_is).0.is_crew in record { knows_table = crew.knows_table; keeps_records = crew.keeps_records }

@@ -24,7 +24,7 @@ invariant_of-self g c = let f = face g.A.Monoid.parts g.B.Monoid.parts in let i 
     let h = c.join.ensures.view in let holds = crew.0 in let place : ℕ = own_lane_place p in
     let told = pass_told f j.words pk j.account.leaves j.account.bits j.account.next j.account.left c.args.pass c.pass.invariant.pass c.in-Some.is c.pass.view_is in let is = told.0 in let facts = told.1 in let one = is.room.holds in
     let round : round_of pk.table p ≡ round_of k.table v = ap (λ (z : PassFacts). z.round) facts ∙ c.requires.of_crew ∙ ap (λ (z : CrewFacts). z.round) (sym crew.1) in
-    let shape : p.shape ≡ v.shape = same_shapes p.shape v.shape is.knows_table.keeps_records holds.is_crew.knows_table.keeps_records (ap (λ (z : RoundFacts). shape_of z.bits z.workers z.updates z.room) round) in
+    let shape : p.shape ≡ v.shape = same_shapes p.shape v.shape is.room.keeps_records holds.is_crew.keeps_records (ap (λ (z : RoundFacts). shape_of z.bits z.workers z.updates z.room) round) in
     let counts : HasCounts (changes_of p.held) j.account.inserts j.account.removals = subst (λ (z : Option Known). HasCounts (changes_of (known_in z).view.held) j.account.inserts j.account.removals) c.in-Some.is c.pass.invariant.counts in
     record {
       known = new;
@@ -39,7 +39,7 @@ returns g c = let f = face g.A.Monoid.parts g.B.Monoid.parts in let i = c.self.i
     let h = c.join.ensures.view in let holds = crew.0 in let place : ℕ = own_lane_place p in
     let told = pass_told f j.words pk j.account.leaves j.account.bits j.account.next j.account.left c.args.pass c.pass.invariant.pass c.in-Some.is c.pass.view_is in let is = told.0 in let facts = told.1 in let one = is.room.holds in
     let round : round_of pk.table p ≡ round_of k.table v = ap (λ (z : PassFacts). z.round) facts ∙ c.requires.of_crew ∙ ap (λ (z : CrewFacts). z.round) (sym crew.1) in
-    let shape : p.shape ≡ v.shape = same_shapes p.shape v.shape is.knows_table.keeps_records holds.is_crew.knows_table.keeps_records (ap (λ (z : RoundFacts). shape_of z.bits z.workers z.updates z.room) round) in
+    let shape : p.shape ≡ v.shape = same_shapes p.shape v.shape is.room.keeps_records holds.is_crew.keeps_records (ap (λ (z : RoundFacts). shape_of z.bits z.workers z.updates z.room) round) in
     let counts : HasCounts (changes_of p.held) j.account.inserts j.account.removals = subst (λ (z : Option Known). HasCounts (changes_of (known_in z).view.held) j.account.inserts j.account.removals) c.in-Some.is c.pass.invariant.counts in
     let back = takes_back_is f v p w place h.found i.back i.inserts i.removals j.account.inserts j.account.removals holds one.0 one.1 shape is.knows_table is.knowledge counts h.loaded k.table pk.table i.free j.account.left in
     let joined : TakesBack (crew_facts k i.free) (crew_facts new i.free) (pass_facts pk j.account.left) = subst (λ (z : TableId). TakesBack (crew_facts k i.free) (crew_facts (record { table = z; view = w }) i.free) (pass_facts pk j.account.left)) (sym c.join.ensures.table) back in

@@ -10,7 +10,7 @@ use Rattle.aug_trie.proofs.RoundLemmas.{of_round, crew_told}
 use Rattle.aug_trie.proofs.rounds.crew.Crew.look.Goals as goal
 
 pub survey-requires : goal.survey-requires
-survey-requires g c = record { together = of_round c.round.inside.words c.in-Some.lead c.args.self.now c.args.round.now c.round.invariant.keeps_records (crew_told c.self.invariant c.in-Some.is c.self.view_is).0.is_crew.knows_table.keeps_records (crew_told c.self.invariant c.in-Some.is c.self.view_is).1 c.requires.together c.round.view_is }
+survey-requires g c = record { together = of_round c.round.inside.words c.in-Some.lead c.args.self.now c.args.round.now c.round.invariant.keeps_records (crew_told c.self.invariant c.in-Some.is c.self.view_is).0.is_crew.keeps_records (crew_told c.self.invariant c.in-Some.is c.self.view_is).1 c.requires.together c.round.view_is }
 
 pub invariant_of-self : goal.invariant_of-self
 invariant_of-self g c = let i = c.self.inside in let told = crew_told c.self.invariant c.in-Some.is c.self.view_is in

@@ -11,7 +11,7 @@ use Rattle.aug_trie.proofs.RollingOver.{last_crew, closes_account}
 use Rattle.aug_trie.proofs.rounds.crew.Crew.over.Goals as goal
 
 pub survey-requires : goal.survey-requires
-survey-requires g c = record { together = of_round c.round.inside.words c.in-Some.lead c.args.self.now c.args.round.now c.round.invariant.keeps_records (crew_told c.self.invariant c.in-Some.is c.self.view_is).0.is_crew.knows_table.keeps_records (crew_told c.self.invariant c.in-Some.is c.self.view_is).1 c.requires.together c.round.view_is }
+survey-requires g c = record { together = of_round c.round.inside.words c.in-Some.lead c.args.self.now c.args.round.now c.round.invariant.keeps_records (crew_told c.self.invariant c.in-Some.is c.self.view_is).0.is_crew.keeps_records (crew_told c.self.invariant c.in-Some.is c.self.view_is).1 c.requires.together c.round.view_is }
 
 pub invariant_of-self : goal.invariant_of-self
 invariant_of-self g c = let i = c.self.inside in let told = crew_told c.self.invariant c.in-Some.is c.self.view_is in let s = c.survey.ensures.view in

@@ -12,7 +12,7 @@ use Rattle.aug_trie.proofs.rounds.crew.Crew.prepare.Goals as goal
 
 pub prepare-requires : goal.prepare-requires
 prepare-requires g c = let told = crew_told c.self.invariant c.in-Some.is c.self.view_is in
-    record { together = of_round c.round.inside.words c.in-Some.lead c.args.self.now c.args.round.now c.round.invariant.keeps_records told.0.is_crew.knows_table.keeps_records told.1 c.requires.together c.round.view_is; room = subst (λ (z : CrewFacts). 2 ^ z.round.bits ≤ z.round.room) (sym told.1) c.requires.room; keeps = told.0.is_crew.knows_table.keeps_records }
+    record { together = of_round c.round.inside.words c.in-Some.lead c.args.self.now c.args.round.now c.round.invariant.keeps_records told.0.is_crew.keeps_records told.1 c.requires.together c.round.view_is; room = subst (λ (z : CrewFacts). 2 ^ z.round.bits ≤ z.round.room) (sym told.1) c.requires.room; keeps = told.0.is_crew.keeps_records }
 
 pub invariant_of-self : goal.invariant_of-self
 invariant_of-self g c = let f = face g.A.Monoid.parts g.B.Monoid.parts in let i = c.self.inside in let told = crew_told c.self.invariant c.in-Some.is c.self.view_is in let p = c.prepare.ensures.view in

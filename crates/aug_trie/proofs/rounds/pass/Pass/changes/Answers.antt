@@ -6,13 +6,13 @@ use Rattle.aug_words.specs.Seats.{Known}
 use Rattle.aug_trie.specs.inside.BothWalk.{both_seen}
 use Rattle.aug_trie.specs.inside.PassState.{pass_facts, KeepsAccount}
 use Rattle.aug_trie.proofs.Comparing.{walks_both, same_both, still_pass_both, compared, none_read}
-use Rattle.aug_trie.proofs.Passing.{pass_told}
+use Rattle.aug_trie.proofs.Passing.{pass_records, pass_told}
 use Rattle.aug_trie.proofs.rounds.pass.Pass.changes.Goals as goal
 
 pub over-walk-requires : goal.over-walk-requires
 over-walk-requires g c = let i = c.self.inside in
     let told = pass_told (face g.A.Monoid.parts g.B.Monoid.parts) i.words c.in-Some.words i.account.leaves i.account.bits i.account.next i.account.left c.args.self.now c.self.invariant.pass (sym c.take.ensures.value ∙ c.in-Some.is) c.self.view_is in
-    walks_both g.A.Monoid.parts g.B.Monoid.parts c.in-Some.words i.account.bits i.account.left c.args.self.now c.args.earlier c.args.later told.0.knows_table told.0.bits_are told.1 c.requires.earlier c.requires.later
+    walks_both g.A.Monoid.parts g.B.Monoid.parts c.in-Some.words i.account.bits i.account.left c.args.self.now c.args.earlier c.args.later (pass_records told.0) told.0.bits_are told.1 c.requires.earlier c.requires.later
 
 pub invariant_of-self : goal.invariant_of-self
 invariant_of-self g c = let i = c.self.inside in let w = c.over-walk.result in

@@ -17,8 +17,8 @@ pub returns : goal.returns
 returns g c = let i = c.crew.inside in let lead = c.in-Some.lead in let told = crew_told c.crew.invariant c.in-Some.is c.crew.view_is in let r = c.ended.inside in let made = c.at_rest-ended.ensures in
     let ended : EndedFacts = record { bits = r.bits; members = pairs_at_rest r.rest r.bits 0 r.root; inserts = i.inserts; removals = i.removals; missing = c.handed-handed.result - i.back; calls = r.calls.made; rest = r.rest; root = r.root } in
     let closed = round_ended (face g.A.Monoid.parts g.B.Monoid.parts) lead c.args.crew c.handed-handed.result told.1 told.0 c.handed-handed.ensures made.rule
-    ended (ap (λ (z : EndedFacts). z.bits) c.ended.view_is ∙ made.bits ∙ c.bits.ensures ∙ ap (λ (z : Shape). z.bits) (c.self.invariant.laid_out ∙ sym (of_round c.self.inside.words lead c.args.crew c.args.self c.self.invariant.keeps_records told.0.is_crew.knows_table.keeps_records told.1 c.requires.together c.self.view_is).one_shape)) (ap (λ (z : EndedFacts). z.members) c.ended.view_is ∙ made.members) refl refl refl (ap (λ (z : EndedFacts). z.calls) c.ended.view_is ∙ made.no_calls) in
+    ended (ap (λ (z : EndedFacts). z.bits) c.ended.view_is ∙ made.bits ∙ c.bits.ensures ∙ ap (λ (z : Shape). z.bits) (c.self.invariant.laid_out ∙ sym (of_round c.self.inside.words lead c.args.crew c.args.self c.self.invariant.keeps_records told.0.is_crew.keeps_records told.1 c.requires.together c.self.view_is).one_shape)) (ap (λ (z : EndedFacts). z.members) c.ended.view_is ∙ made.members) refl refl refl (ap (λ (z : EndedFacts). z.calls) c.ended.view_is ∙ made.no_calls) in
     record { ends = closed.0; sizes = closed.1; few = subst (λ (n : ℕ). n ≤ 2 ^ r.bits) (length-keys_of ended.members) (IsKeySet-few r.bits (keys_of ended.members) c.ended.invariant.is_key_set) }
 
 pub at_rest-ended-requires-clause-keeps : goal.at_rest-ended-requires-clause-keeps
-at_rest-ended-requires-clause-keeps g c = (crew_told c.crew.invariant c.in-Some.is c.crew.view_is).0.is_crew.knows_table.keeps_records
+at_rest-ended-requires-clause-keeps g c = (crew_told c.crew.invariant c.in-Some.is c.crew.view_is).0.is_crew.keeps_records

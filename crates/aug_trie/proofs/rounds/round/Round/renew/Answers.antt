@@ -28,7 +28,7 @@ open_again-lead-requires g c =
     let first : CrewFacts = c.over-inserts.new.self in let a = c.over-inserts.ensures in let told = crew_told c.crew.invariant c.in-Some.is c.crew.view_is in let spare = told.0.is_crew.hands_out in
     let here : table_of first.round ≡ c.args.self.now = ap (λ (z : CrewFacts). table_of z.round) a.last_is ∙ c.requires.together in
     let all : first.back ≡ first.handed = ap (λ (z : CrewFacts). z.back) a.last_is ∙ c.requires.all_back ∙ sym (ap (λ (z : CrewFacts). z.handed) a.last_is) in record {
-      together = of_round c.self.inside.words c.in-Some.lead first c.args.self.now c.self.invariant.keeps_records told.0.is_crew.knows_table.keeps_records told.1 here c.self.view_is;
+      together = of_round c.self.inside.words c.in-Some.lead first c.args.self.now c.self.invariant.keeps_records told.0.is_crew.keeps_records told.1 here c.self.view_is;
       room = subst (λ (z : TableFacts). 2 ^ z.bits ≤ z.room) (c.requires.together ∙ sym c.self.view_is) c.requires.room;
       keeps = c.self.invariant.keeps_records;
       all = record { next = told.0.handed; hands_out = spare; all = ap (λ (z : CrewFacts). z.back) told.1 ∙ all ∙ sym (ap (λ (z : CrewFacts). z.handed) told.1) ∙ ap (λ (z : Option ℕ). unwrap_or z 0) spare };
@@ -39,7 +39,7 @@ pub invariant_of-crew : goal.invariant_of-crew
 invariant_of-crew g c =
     let f = face g.A.Monoid.parts g.B.Monoid.parts in let old : Store = c.self.inside.words in let s : Shape = old.shape in let i = c.crew.inside in let now : RoundFacts = c.args.crew.round in
     let first : CrewFacts = c.over-inserts.new.self in let a = c.over-inserts.ensures in let lead : Known = c.in-Some.lead in let told = crew_told c.crew.invariant c.in-Some.is c.crew.view_is in
-    let here : table_of first.round ≡ c.args.self.now = ap (λ (z : CrewFacts). table_of z.round) a.last_is ∙ c.requires.together in let together = of_round old lead first c.args.self.now c.self.invariant.keeps_records told.0.is_crew.knows_table.keeps_records told.1 here c.self.view_is in
+    let here : table_of first.round ≡ c.args.self.now = ap (λ (z : CrewFacts). table_of z.round) a.last_is ∙ c.requires.together in let together = of_round old lead first c.args.self.now c.self.invariant.keeps_records told.0.is_crew.keeps_records told.1 here c.self.view_is in
     let laid_out : IsLayout s = subst IsLayout together.one_shape told.0.is_crew.knows_table.laid_out in
     let room : 2 ^ s.bits ≤ s.members = subst (λ (z : TableFacts). 2 ^ z.bits ≤ z.room) (c.requires.together ∙ sym c.self.view_is) c.requires.room in
     let e = c.open_again-lead.ensures in let o = e.opens in let next : Known = c.open_again-lead.result in
@@ -52,7 +52,7 @@ pub returns : goal.returns
 returns g c =
     let f = face g.A.Monoid.parts g.B.Monoid.parts in let old : Store = c.self.inside.words in let s : Shape = old.shape in let i = c.crew.inside in let now : RoundFacts = c.args.crew.round in
     let first : CrewFacts = c.over-inserts.new.self in let a = c.over-inserts.ensures in let lead : Known = c.in-Some.lead in let told = crew_told c.crew.invariant c.in-Some.is c.crew.view_is in
-    let here : table_of first.round ≡ c.args.self.now = ap (λ (z : CrewFacts). table_of z.round) a.last_is ∙ c.requires.together in let together = of_round old lead first c.args.self.now c.self.invariant.keeps_records told.0.is_crew.knows_table.keeps_records told.1 here c.self.view_is in
+    let here : table_of first.round ≡ c.args.self.now = ap (λ (z : CrewFacts). table_of z.round) a.last_is ∙ c.requires.together in let together = of_round old lead first c.args.self.now c.self.invariant.keeps_records told.0.is_crew.keeps_records told.1 here c.self.view_is in
     let laid_out : IsLayout s = subst IsLayout together.one_shape told.0.is_crew.knows_table.laid_out in
     let room : 2 ^ s.bits ≤ s.members = subst (λ (z : TableFacts). 2 ^ z.bits ≤ z.room) (c.requires.together ∙ sym c.self.view_is) c.requires.room in
     let e = c.open_again-lead.ensures in let o = e.opens in let next : Known = c.open_again-lead.result in

@@ -83,11 +83,6 @@ names_one s b n c m few same = ⊎_elim
     (λ (off : s.reservations ≡ 0). (sym (plain_word s b n off) ∙ same ∙ plain_word s c m off, λ used. absurd (omega arith)))
     (λ used. let is : b * 2 ^ 24 + n ≡ c * 2 ^ 24 + m = sym (born_word s b n used) ∙ same ∙ born_word s c m used in let low = few (omega arith) in let l0 = low.0 in let l1 = low.1 in (omega arith, λ _. omega arith)) (cases_eq s.reservations 0)
 
--- of one birth it names one number
-pub same_number : (s : Shape) (birth n m : ℕ) → word_of_node s birth n ≡ word_of_node s birth m → n ≡ m
-same_number s birth n m same = ⊎_elim (λ off. sym (plain_word s birth n off) ∙ same ∙ plain_word s birth m off)
-    (λ used. let is : birth * 2 ^ 24 + n ≡ birth * 2 ^ 24 + m = sym (born_word s birth n used) ∙ same ∙ born_word s birth m used in omega arith) (cases_eq s.reservations 0)
-
 module _ (face : ℕ → ℕ → List (ℕ × ℕ) → List ℕ) (s : Shape) (book : Book) (b : IsBook face s book) where
   -- so two entries of a node with one word are of one record, which was made once
   pub one_name : (q i j : ℕ) (e f : Entry) → IsInner s q → At book q i e → At book q j f → e.word ≡ f.word → (e.number ≡ f.number) × (0 < s.reservations → e.birth ≡ f.birth)

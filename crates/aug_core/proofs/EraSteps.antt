@@ -9,7 +9,9 @@ use Rattle.aug_core.specs.Lanes.{word_of_state}
 use Rattle.aug_core.specs.Eras.{IsAtWork, Ruled}
 use Rattle.aug_core.specs.Reclaiming.{loaded_era, turned_era, reserved_era, released_era, retired, scanned, own_reservation, ShowsLater}
 use Rattle.aug_core.specs.inside.Reclaims.{MayReserve}
-use Rattle.aug_core.specs.Effects.{Sat, HoldsOnly, in_part, read_record, MayStore, word_by, stored_record, own_lane_place, took_lane, finished_lane, loaded_leaf, began_at_leaf, MayChange, old_word, new_word, IsAdvance, KnowsSerial, tried_leaf, loaded_node, IsFilled, tried_node}
+use Rattle.aug_core.specs.Book.{word_of_node}
+use Rattle.aug_core.specs.Records.{first_era}
+use Rattle.aug_core.specs.Effects.{Sat, HoldsOnly, in_part, read_record, MayStore, stored_record, own_lane_place, took_lane, finished_lane, loaded_leaf, began_at_leaf, MayChange, old_word, new_word, IsAdvance, KnowsSerial, tried_leaf, loaded_node, IsFilled, tried_node}
 use Rattle.aug_core.specs.inside.LaneStates.{MayTake, HasTakenLane}
 use Rattle.aug_core.specs.declared.view.Advance.{Advance}
 use Rattle.aug_core.specs.declared.view.Held.{Held}
@@ -61,10 +63,10 @@ module _ (face : ℕ → ℕ → List (ℕ × ℕ) → List ℕ) (shape : Shape)
   allows_leaf key i old new b me from to live empty inside at low has may known is = in_its_era face shape n id key i me (λ z. either (eqb z old) new z) (λ w. tried_leaf face (step n w old new none) me)
       (holds_lane me.0 has.lane has.only) live inside at (λ o. leaf.allows_leaf face o n id key old new b me from to live empty low has may known is)
 
-  pub tries_node : (q i old number new : ℕ) (me : Sat) → new ≡ word_by me.0 number → me.0.live ≡ true → me.1 ≡ [] → q < word_count me.0.shape → i ≡ me.0.base + q → IsInner me.0.shape q → HasTakenLane me.0 → MayStore me.0 number → IsFilled face me.0 q old number
+  pub tries_node : (q i old birth number new : ℕ) (me : Sat) → new ≡ word_of_node me.0.shape birth number → me.0.live ≡ true → me.1 ≡ [] → q < word_count me.0.shape → i ≡ me.0.base + q → IsInner me.0.shape q → HasTakenLane me.0 → MayStore me.0 number → IsFilled face me.0 q old birth number
       → Allows (Ruled face shape) n id me i (λ x. either (eqb x old) new x) (in_part (tried_node face) (step n i old new none) me)
-  tries_node q i old number new me named live empty inside at inner has may c = in_its_era face shape n id q i me (λ x. either (eqb x old) new x) (λ w. tried_node face (step n w old new none) me)
-      (holds_lane me.0 has.lane has.only) live inside at (λ o. node.allows_node face o n id q old number new me named live empty inner has may c)
+  tries_node q i old birth number new me named live empty inside at inner has may c = in_its_era face shape n id q i me (λ x. either (eqb x old) new x) (λ w. tried_node face (step n w old new none) me)
+      (holds_lane me.0 has.lane has.only) live inside at (λ o. node.allows_node face o n id q old birth number new me named live empty inner has may c)
 
   -- where records are used again
 
@@ -76,7 +78,7 @@ module _ (face : ℕ → ℕ → List (ℕ × ℕ) → List ℕ) (shape : Shape)
   turns_era place i era me work live empty inside at used is = in_its_era face shape n id place i me (λ x. either (eqb x era) (era + 1) x) (λ w. turned_era (step n w era (era + 1) none) me) work live inside at
       (λ o. reserve.turns_era face o n id place era me live empty used is)
 
-  pub reserves_era : (place i era : ℕ) (me : Sat) → me.0.live ≡ true → me.1 ≡ [] → place < word_count me.0.shape → i ≡ me.0.base + place → MayReserve me.0 → place ≡ own_reservation me.0 → 0 < era → era ≤ me.0.reached
+  pub reserves_era : (place i era : ℕ) (me : Sat) → me.0.live ≡ true → me.1 ≡ [] → place < word_count me.0.shape → i ≡ me.0.base + place → MayReserve me.0 → place ≡ own_reservation me.0 → 0 < era → first_era era ≤ me.0.reached
       → Allows (Ruled face shape) n id me i (λ _. era) (λ _. in_part reserved_era (step n i era 0 none) me era)
   reserves_era place i era me live empty inside at may is some_era known = in_its_era face shape n id place i me (λ _. era) (λ w _ m. reserved_era (step n w era 0 none) me era m) (holds_lane me.0 may.lane may.only) live inside at
       (λ o. reserve.reserves_era face o n id place era me live empty may is some_era known)

@@ -15,7 +15,7 @@ use Rattle.aug_core.specs.Opening.{Opening}
 use Rattle.aug_core.specs.Rule.{NamesNewest, HoldsLane, Kept}
 use Rattle.aug_core.specs.Records.{Lists, Fate, standing, owned_by, StandsAs, HasWords, IsThere, IsClosed, floor_of, Waits, IsReplaced, KeepsView, OwnsRecord}
 use Rattle.aug_core.specs.Kinds.{try_node}
-use Rattle.aug_core.specs.Effects.{Sat, HoldsOnly, Owns, MayStore, birth_of, word_by, IsNoYounger, on_first, last_replaced, ReplacesOther, publishing_from, seeing, publishing, IsFilled, TriesNode, tried_node}
+use Rattle.aug_core.specs.Effects.{Sat, HoldsOnly, Owns, MayStore, reserved_by, IsBornBy, on_first, last_replaced, ReplacesOther, publishing_from, seeing, publishing, IsFilled, TriesNode, tried_node}
 use Rattle.aug_core.specs.inside.EraSteps.{WithEra}
 use Rattle.aug_core.specs.inside.LaneStates.{HasTakenLane}
 use Rattle.aug_core.specs.declared.step.StepTaken.{StepTaken}
@@ -32,7 +32,7 @@ use Rattle.aug_core.proofs.Owning.{listed_filter}
 use Rattle.aug_core.proofs.EntryCuts.{entry_is}
 use Rattle.aug_core.proofs.LastNamed.{LastOf, last_of}
 use Rattle.aug_core.proofs.Leaves.{word_apart}
-use Rattle.aug_core.proofs.Books.{at_below, grown, grown_at, at_grown, one_name, same_number, snoc_at, longer, no_shorter, one_entry, newest_here, there, grows}
+use Rattle.aug_core.proofs.Books.{at_below, grown, grown_at, at_grown, names_one, one_name, snoc_at, longer, no_shorter, one_entry, newest_here, there, grows}
 use Rattle.aug_core.proofs.Keeping.{one_standing, one_place, stands_unowned, holds_lane_on, view_on}
 use Rattle.aug_core.proofs.Moves.{St, MayMove, moves_on, holds_on, knows_seeing, in_book, book', after, Publishes, tree_leaves, tree_slots, tree_moves, watches}
 use Rattle.aug_core.proofs.Stores.{alone, one_lane, is_taken}
@@ -48,7 +48,7 @@ placed_at fate number q i n = if n == number then standing q i else fate n
 
 module _ (face : ℕ → ℕ → List (ℕ × ℕ) → List ℕ) (o : Opening) where
   module _ (s : St) (r : Kept face o s) (id : ℕ) (v : SeatView) (at : get_elem? s.views id ≡ some v) (shaped : v.shape ≡ o.shape) (h : Held) (only : HoldsOnly v h) (taken : h.state ≡ Taken) (number : ℕ)
-      (q : ℕ) (inner : IsInner o.shape q) (old : ℕ) (c : IsFilled face v q old number) (free : c.own.life.scanned ≡ o.shape.reservations) where
+      (q : ℕ) (inner : IsInner o.shape q) (old birth : ℕ) (c : IsFilled face v q old birth number) (free : c.own.life.scanned ≡ o.shape.reservations) where
     held : get_elem? v.held 0 ≡ some h
     held = subst (λ (z : List Held). get_elem? z 0 ≡ some h) (sym only) refl
 
@@ -62,29 +62,32 @@ module _ (face : ℕ → ℕ → List (ℕ × ℕ) → List ℕ) (o : Opening) w
     abbrev HeldFrom : ℕ → ℕ → Type 0
     HeldFrom p i = (o.shape.reservations ≡ 0) ⊎ ((x : Reserved) × (v.reserved ≡ Some x) × (floor_of x p ≤ i))
 
+    by_used : {birth era : ℕ} → 0 < o.shape.reservations → IsBornBy v birth era → birth ≤ era
+    by_used used le = ⊎_elim (λ off. let same = ap (λ (z : Shape). z.reservations) shaped in absurd (omega arith)) (λ le. le) le
+
     -- the last entry of a child with the word of one that was loaded: of the same keys with the same weights, and no younger
     pub record LastChild (p i : ℕ) (e : Entry) : Type 0 where
       pub is : LastOf (history_of r.book p) e.word
       pub later : i ≤ is.index
       pub pairs_are : is.entry.pairs ≡ e.pairs
-      pub no_younger : 0 < o.shape.reservations → is.entry.birth ≤ birth_of v
+      pub born : 0 < o.shape.reservations → is.entry.birth ≤ birth
 
-    module _ (p i : ℕ) (e : Entry) (inside : p < place_count o.shape) (at_i : At r.book p i e) (shown : e.passed ≡ false) (young : IsNoYounger v e) (from : HeldFrom p i) where
+    module _ (p i : ℕ) (e : Entry) (inside : p < place_count o.shape) (at_i : At r.book p i e) (shown : e.passed ≡ false) (young : IsBornBy v e.birth birth) (from : HeldFrom p i) where
       found : LastOf (history_of r.book p) e.word
       found = last_of (history_of r.book p) i e at_i shown
 
       up : i ≤ found.index
       up = found.last i e at_i shown refl
 
-      born_by : 0 < o.shape.reservations → e.birth ≤ birth_of v
-      born_by used = ⊎_elim (λ off. let same = ap (λ (z : Shape). z.reservations) shaped in absurd (omega arith)) (λ le. le) young
+      born_by : 0 < o.shape.reservations → e.birth ≤ birth
+      born_by used = by_used used young
 
       -- two entries of a node with one word, of which the view guards the first, are one
       one_inner : IsInner o.shape p → found.entry ≡ e
       one_inner inner' = let n = one_name face o.shape r.book r.tree.is_book p found.index i found.entry e inner' found.at at_i found.named in
           let same : found.index ≡ i = ⊎_elim (λ off. (named_once o.shape s.words r.fate r.gone r.book r.records off).once p found.index i found.entry e inner' found.at at_i n.0)
           (λ x. let t = (r.each_view id v at).records.reserved x.0 x.1 in let used : 0 < o.shape.reservations = (let low = t.1.exists in omega arith) in let le = born_by used in let one = n.1 used in
-          let era : birth_of v ≡ x.0.era = ap (λ (z : Option Reserved). unwrap_or (option_map (λ (y : Reserved). y.era) z) 0) x.1 in let low = x.2 in let later = up in
+          let era : reserved_by v ≡ x.0.era = ap (λ (z : Option Reserved). unwrap_or (option_map (λ (y : Reserved). y.era) z) 0) x.1 in let low = x.2 in let later = up in let most = by_used used c.born in
           t.1.once p found.index i found.entry e inner' found.at at_i (omega arith) (omega arith) (omega arith) low n.0) from in
           one_entry r.book p i found.entry e (subst (λ (z : ℕ). At r.book p z found.entry) same found.at) at_i
 
@@ -96,13 +99,13 @@ module _ (face : ℕ → ℕ → List (ℕ × ℕ) → List ℕ) (o : Opening) w
             is = found;
             later = up;
             pairs_are = x.there_if_odd ∙ (λ k. if eqb (odd k) 1 then (p, a.1 k) ∷ [] else []) ∙ sym y.there_if_odd;
-            no_younger = λ used. omega arith;
+            born = λ used. omega arith;
           })
           (λ past. let one = one_inner record { past_leaves = past; inside = inside } in record {
             is = found;
             later = up;
             pairs_are = ap (λ (z : Entry). z.pairs) one;
-            no_younger = λ used. subst (λ (z : Entry). z.birth ≤ birth_of v) (sym one) (born_by used);
+            born = λ used. subst (λ (z : Entry). z.birth ≤ birth) (sym one) (born_by used);
           }) (cases_lt p (2 ^ o.shape.bits))
 
     left_at : At r.book (left_of o.shape q) c.is_loaded.left_index c.is_loaded.left
@@ -130,18 +133,18 @@ module _ (face : ℕ → ℕ → List (ℕ × ℕ) → List ℕ) (o : Opening) w
 
     -- the last entries of the children that have the words which were loaded
     pub left_last : LastChild (left_of o.shape q) c.is_loaded.left_index c.is_loaded.left
-    left_last = last_child (left_of o.shape q) c.is_loaded.left_index c.is_loaded.left (let past = inner.past_leaves in let low = inner.inside in let t = twice o.shape.bits in omega arith) left_at c.is_loaded.left_shown c.left_no_younger
+    left_last = last_child (left_of o.shape q) c.is_loaded.left_index c.is_loaded.left (let past = inner.past_leaves in let low = inner.inside in let t = twice o.shape.bits in omega arith) left_at c.is_loaded.left_shown c.left_born
         (held_below (left_of o.shape q) c.is_loaded.left_index (λ x low closed. let b = (closed.below q c.is_loaded.index c.is_loaded.from inner from_at low).0 in let later = c.is_loaded.left_later in omega arith))
 
     pub right_last : LastChild (right_of o.shape q) c.is_loaded.right_index c.is_loaded.right
-    right_last = last_child (right_of o.shape q) c.is_loaded.right_index c.is_loaded.right (let past = inner.past_leaves in let low = inner.inside in let t = twice o.shape.bits in omega arith) right_at c.is_loaded.right_shown c.right_no_younger
+    right_last = last_child (right_of o.shape q) c.is_loaded.right_index c.is_loaded.right (let past = inner.past_leaves in let low = inner.inside in let t = twice o.shape.bits in omega arith) right_at c.is_loaded.right_shown c.right_born
         (held_below (right_of o.shape q) c.is_loaded.right_index (λ x low closed. let b = (closed.below q c.is_loaded.index c.is_loaded.from inner from_at low).1 in let later = c.is_loaded.right_later in omega arith))
 
     abbrev pairs : List (ℕ × ℕ)
     pairs = c.is_loaded.left.pairs ++ c.is_loaded.right.pairs
 
     abbrev pub entry : Entry
-    entry = record { number = number; word = word_by v number; left = left_last.is.index; right = right_last.is.index; left_floor = left_newest.index; right_floor = right_newest.index; weight = 0; passed = false; birth = birth_of v; maker = h.lane; pairs = pairs; words = face c.is_loaded.left.word c.is_loaded.right.word pairs }
+    entry = record { number = number; word = word_of_node v.shape birth number; left = left_last.is.index; right = right_last.is.index; left_floor = left_newest.index; right_floor = right_newest.index; weight = 0; passed = false; birth = birth; maker = h.lane; pairs = pairs; words = face c.is_loaded.left.word c.is_loaded.right.word pairs }
 
     abbrev pub longer_book : Book
     longer_book = book' face o s r id v at q inner.inside entry
@@ -203,7 +206,7 @@ module _ (face : ℕ → ℕ → List (ℕ × ℕ) → List ℕ) (o : Opening) w
     pub is_book' : get_or s.words q 0 ≡ old → IsBook face o.shape longer_book
     is_book' hit = let e = sym (top_is hit) in let t = node_newest in let l : LastChild (left_of o.shape q) c.is_loaded.left_index c.is_loaded.left = left_last in let m : LastChild (right_of o.shape q) c.is_loaded.right_index c.is_loaded.right = right_last in
         let up : (n : ℕ) → n ≤ c.is_loaded.left_index → n ≤ l.is.index = λ n le. (let on = l.later in omega arith) in let up' : (n : ℕ) → n ≤ c.is_loaded.right_index → n ≤ m.is.index = λ n le. (let on = m.later in omega arith) in
-        grows r.book q ib entry face o.shape r.tree.is_book inner t.index t.entry t.newest (ap (λ (z : Shape). word_of_node z (birth_of v) number) shaped) (subst (λ (z : ℕ). z < record_count o.shape) c.owns.numbered owned.exists)
+        grows r.book q ib entry face o.shape r.tree.is_book inner t.index t.entry t.newest (ap (λ (z : Shape). word_of_node z birth number) shaped) (subst (λ (z : ℕ). z < record_count o.shape) c.owns.numbered owned.exists)
         record {
           left_child = l.is.entry;
           right_child = m.is.entry;
@@ -213,8 +216,8 @@ module _ (face : ℕ → ℕ → List (ℕ × ℕ) → List ℕ) (o : Opening) w
           right_shown = m.is.shown;
           pairs_of_both = λ i. sym l.pairs_are i ++ sym m.pairs_are i;
           words_say = λ i. face (sym l.is.named i) (sym m.is.named i) pairs;
-          left_born = l.no_younger;
-          right_born = m.no_younger;
+          left_born = l.born;
+          right_born = m.born;
         }
         (up t.entry.left (subst (λ (z : Entry). z.left ≤ c.is_loaded.left_index) e c.is_loaded.left_later)) (up' t.entry.right (subst (λ (z : Entry). z.right ≤ c.is_loaded.right_index) e c.is_loaded.right_later))
         (up t.entry.left_floor (subst (λ (z : Entry). z.left_floor ≤ c.is_loaded.left_index) e c.is_loaded.left_known)) (up' t.entry.right_floor (subst (λ (z : Entry). z.right_floor ≤ c.is_loaded.right_index) e c.is_loaded.right_known))
@@ -327,9 +330,9 @@ module _ (face : ℕ → ℕ → List (ℕ × ℕ) → List ℕ) (o : Opening) w
           last_named (right_of o.shape q) c.is_loaded.right.word right_last.is (λ is. omega arith) right b,
         ))
 
-  tries_node : (n id q old number : ℕ) (me : Sat) → me.0.live ≡ true → me.1 ≡ [] → IsInner me.0.shape q → HasTakenLane me.0 → MayStore me.0 number → IsFilled face me.0 q old number
-      → Allows (Kept face o) n id me q (λ x. either (eqb x old) (word_by me.0 number) x) (WithEra me (tried_node face (step n q old (word_by me.0 number) none) me))
-  tries_node n id q old number me live empty inner has may c s r _ at _ =
+  tries_node : (n id q old birth number : ℕ) (me : Sat) → me.0.live ≡ true → me.1 ≡ [] → IsInner me.0.shape q → HasTakenLane me.0 → MayStore me.0 number → IsFilled face me.0 q old birth number
+      → Allows (Kept face o) n id me q (λ x. either (eqb x old) (word_of_node me.0.shape birth number) x) (WithEra me (tried_node face (step n q old (word_of_node me.0.shape birth number) none) me))
+  tries_node n id q old birth number me live empty inner has may c s r _ at _ =
       let v : SeatView = me.0 in let taken0 = is_taken v may.lane may.only has in let h : Held = may.lane in let kn = r.each_view id v at in let shaped : v.shape ≡ o.shape = kn.shaped live in
       let inner' : IsInner o.shape q = subst (λ (z : Shape). IsInner z q) shaped inner in
       -- the record in question is the one that may be stored
@@ -338,36 +341,38 @@ module _ (face : ℕ → ℕ → List (ℕ × ℕ) → List ℕ) (o : Opening) w
       let lives : owned_by h.lane c.own.life ≡ owned_by h.lane may.own.life = sym (mine c.own (subst (λ (z : Held). Lists z.owned c.own) (sym owner) c.owns.listed)).fate_is ∙ ap r.fate (c.owns.numbered ∙ sym may.numbered) ∙ (mine may.own may.listed).fate_is in
       let life : c.own.life ≡ may.own.life = cc lives in let free : c.own.life.scanned ≡ o.shape.reservations = ap (λ (z : Life). z.scanned) life ∙ may.scanned ∙ ap (λ (z : Shape). z.reservations) shaped in
       let found : ℕ = get_or s.words q 0 in
-      let new : ℕ = word_by v number in let taken : StepTaken = try_node q old new found in let steps : List StepTaken = v.steps ++ taken ∷ [] in
-      let mark : Replaced = last_replaced (longer_book s r id v at shaped h may.only taken0 number q inner' old c free) q in
+      let new : ℕ = word_of_node v.shape birth number in let taken : StepTaken = try_node q old new found in let steps : List StepTaken = v.steps ++ taken ∷ [] in
+      let mark : Replaced = last_replaced (longer_book s r id v at shaped h may.only taken0 number q inner' old birth c free) q in
       let held : on_first (publishing_from number mark) v.held ≡ publishing_from number mark h ∷ [] = ap (on_first (publishing_from number mark)) may.only in
-      let told : (w : SeatView) → TriesNode face v q old number new found w → (number' : ℕ) → new ≡ word_by v number' → TriesNode face v q old number' new found w = λ w t number' is. subst (λ (z : ℕ). TriesNode face v q old z new found w) (same_number v.shape (birth_of v) number number' is) t in
+      let exists : number < record_count v.shape = subst (λ (z : ℕ). z < record_count v.shape) may.numbered may.exists in let few : 0 < v.shape.reservations → record_count v.shape ≤ 2 ^ 24 = subst (λ (z : Shape). 0 < z.reservations → record_count z ≤ 2 ^ 24) (sym shaped) r.tree.is_book.numbers in
+      let told : (w : SeatView) → TriesNode face v q old number new found w → (birth' number' : ℕ) → number' < record_count v.shape → new ≡ word_of_node v.shape birth' number' → TriesNode face v q old number' new found w = λ w t birth' number' low is.
+      subst (λ (z : ℕ). TriesNode face v q old z new found w) (names_one v.shape birth number birth' number' (λ used. let most = few used in (omega arith, omega arith)) is).0 t in
       exchanged found old new (Did face o s q id me (WithEra me (tried_node face (step n q old new none) me)))
-      (λ hit. let book2 : Book = longer_book s r id v at shaped h may.only taken0 number q inner' old c free in
-      let e : Entry = entry s r id v at shaped h may.only taken0 number q inner' old c free in
-      let longer = later s r id v at shaped h may.only taken0 number q inner' old c free in
+      (λ hit. let book2 : Book = longer_book s r id v at shaped h may.only taken0 number q inner' old birth c free in
+      let e : Entry = entry s r id v at shaped h may.only taken0 number q inner' old birth c free in
+      let longer = later s r id v at shaped h may.only taken0 number q inner' old birth c free in
       let w : SeatView = publishing v book2 number taken in (
         w,
         keeps,
         tt,
         subst (λ (z : List Held). Kept face o record { words = set s.words q new; homes = s.homes; views = set s.views id record v { seen = book2; held = z; steps = steps } }) (sym held)
-            (publishes s r id v at shaped h may.only taken0 number q inner' old c free hit steps),
+            (publishes s r id v at shaped h may.only taken0 number q inner' old birth c free hit steps),
         (
           (
             empty,
             told w record {
               sees = sees_after face v w o.shape shaped (book_trans kn.saw longer) (book_trans kn.also_saw longer)
-                  (later_fresh s r id v at shaped h may.only taken0 number q inner' old c free hit) (is_book' s r id v at shaped h may.only taken0 number q inner' old c free hit)
-                  (in_round s r id v at shaped h may.only taken0 number q inner' old c free hit);
+                  (later_fresh s r id v at shaped h may.only taken0 number q inner' old birth c free hit) (is_book' s r id v at shaped h may.only taken0 number q inner' old birth c free hit)
+                  (in_round s r id v at shaped h may.only taken0 number q inner' old birth c free hit);
               shaped = refl;
               stepped = refl;
               index = length (history_of r.book q);
               entry = e;
-              newest = newest_now s r id v at shaped h may.only taken0 number q inner' old c free;
-              hit = λ _. (refl, refl, says s r id v at shaped h may.only taken0 number q inner' old c free);
-              last = λ _. lasts s r id v at shaped h may.only taken0 number q inner' old c free;
-              other = λ used _ g its. other_told s r id v at shaped h may.only taken0 number q inner' old c free hit used g its;
-              followed = λ _. followed s r id v at shaped h may.only taken0 number q inner' old c free;
+              newest = newest_now s r id v at shaped h may.only taken0 number q inner' old birth c free;
+              hit = λ _. (refl, refl, says s r id v at shaped h may.only taken0 number q inner' old birth c free);
+              last = λ _. lasts s r id v at shaped h may.only taken0 number q inner' old birth c free;
+              other = λ used _ g its. other_told s r id v at shaped h may.only taken0 number q inner' old birth c free hit used g its;
+              followed = λ _. followed s r id v at shaped h may.only taken0 number q inner' old birth c free;
               miss = λ miss. absurd (miss hit);
             },
           ),
@@ -403,7 +408,7 @@ module _ (face : ℕ → ℕ → List (ℕ × ℕ) → List ℕ) (o : Opening) w
       ))
 
   -- the same, where the word that names the record is given
-  pub allows_node : (n id q old number new : ℕ) (me : Sat) → new ≡ word_by me.0 number → me.0.live ≡ true → me.1 ≡ [] → IsInner me.0.shape q → HasTakenLane me.0 → MayStore me.0 number → IsFilled face me.0 q old number
+  pub allows_node : (n id q old birth number new : ℕ) (me : Sat) → new ≡ word_of_node me.0.shape birth number → me.0.live ≡ true → me.1 ≡ [] → IsInner me.0.shape q → HasTakenLane me.0 → MayStore me.0 number → IsFilled face me.0 q old birth number
       → Allows (Kept face o) n id me q (λ x. either (eqb x old) new x) (WithEra me (tried_node face (step n q old new none) me))
-  allows_node n id q old number new me is live empty inner has may c =
-      subst (λ (z : ℕ). Allows (Kept face o) n id me q (λ x. either (eqb x old) z x) (WithEra me (tried_node face (step n q old z none) me))) (sym is) (tries_node n id q old number me live empty inner has may c)
+  allows_node n id q old birth number new me is live empty inner has may c =
+      subst (λ (z : ℕ). Allows (Kept face o) n id me q (λ x. either (eqb x old) z x) (WithEra me (tried_node face (step n q old z none) me))) (sym is) (tries_node n id q old birth number me live empty inner has may c)

@@ -13,7 +13,7 @@ use Rattle.atomic_table.proofs.Lists.{exchanged}
 use Rattle.aug_core.specs.Places.{Shape, lane_place, record_start, record_count, record_words, era_place, reservation_place}
 use Rattle.aug_core.specs.Addresses.{place_count, IsInner, left_of, right_of}
 use Rattle.aug_core.specs.Opening.{Opening}
-use Rattle.aug_core.specs.Records.{StandsAs, IsClosed, Protects, IsItsLane, KeepsView, OwnsRecord}
+use Rattle.aug_core.specs.Records.{first_era, StandsAs, IsClosed, Protects, IsItsLane, KeepsView, OwnsRecord}
 use Rattle.aug_core.specs.Rule.{HoldsLane, Kept}
 use Rattle.aug_core.specs.Kinds.{load_era, turn_era, store_reservation}
 use Rattle.aug_core.specs.Effects.{Sat, HoldsOnly, own_lane}
@@ -218,7 +218,7 @@ module _ (face : ℕ → ℕ → List (ℕ × ℕ) → List ℕ) (o : Opening) w
     now = record { slot = h.lane; era = x; floors = floors }
 
     -- and what it holds then is there
-    pub reserves : 0 < x → x ≤ v.reached → (steps : List StepTaken) → Kept face o record { words = reserved_words; homes = s.homes; views = set s.views id (standing_by s r id v at (Some now) v.reached steps) }
+    pub reserves : 0 < x → first_era x ≤ v.reached → (steps : List StepTaken) → Kept face o record { words = reserved_words; homes = s.homes; views = set s.views id (standing_by s r id v at (Some now) v.reached steps) }
     reserves some_era known steps = let kn = (r.each_view id v at).records in let l = leaves s r id v at slot_place x slot_behind no_earlier in let is = same_era in let le = kn.reached in let wide = r.tree.wide in
         let after = records_on o.shape s.words r.fate r.gone r.book reserved_words r.fate r.book l r.records in
         keeps_behind s r id v at slot_place x slot_behind no_earlier others_slots (Some now) v.reached steps record {
@@ -248,7 +248,7 @@ module _ (face : ℕ → ℕ → List (ℕ × ℕ) → List ℕ) (o : Opening) w
       subst (λ (z : Shape). may.lane.lane < z.reservations) shaped may.has_slot,
     )
 
-    pub reserves_era : 0 < x → x ≤ me.0.reached → Allows (Kept face o) n id me place (λ _. x) (WithEra me (λ _ m. reserved_era (step n place x 0 none) me x m))
+    pub reserves_era : 0 < x → first_era x ≤ me.0.reached → Allows (Kept face o) n id me place (λ _. x) (WithEra me (λ _ m. reserved_era (step n place x 0 none) me x m))
     reserves_era some_era known s r _ at _ = let v : SeatView = me.0 in let t = at_slot s r at in let steps : List StepTaken = v.steps ++ store_reservation place x ∷ [] in
         let reserved : Reserved = now s r id v at may.lane may.only t.2 x in let w : SeatView = standing_by s r id v at (Some reserved) v.reached steps in let kn = r.each_view id v at in (
           w,

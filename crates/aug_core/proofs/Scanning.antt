@@ -8,7 +8,7 @@ use lib.ListN.{get_elem?}
 use Rattle.atomic_table.specs.Table.{step, keeps, Allows}
 use Rattle.aug_core.specs.Places.{Shape, reservation_place}
 use Rattle.aug_core.specs.Opening.{Opening}
-use Rattle.aug_core.specs.Records.{Fate, at_opening, standing, owned_by, StandsAs, Waits, OwnsRecord}
+use Rattle.aug_core.specs.Records.{Fate, at_opening, standing, owned_by, first_era, StandsAs, Waits, OwnsRecord}
 use Rattle.aug_core.specs.Rule.{HoldsLane, Kept}
 use Rattle.aug_core.specs.Kinds.{load_reservation}
 use Rattle.aug_core.specs.Effects.{Sat, HoldsOnly, on_first}
@@ -27,9 +27,9 @@ use Rattle.aug_core.proofs.ReaderCounts.{still_works}
 use Rattle.aug_core.proofs.PrefixLemmas.{book_refl}
 
 -- what lived is held by a reservation of an era of its life
-held_by : (era : ℕ) (life : Life) → 0 < era → life.birth ≤ era → era ≤ life.death → holds_in era life ≡ true
-held_by era life some_era born died = ap (λ (b : Bool). if b then (if nat_le life.birth era then nat_le era life.death else false) else false) (lt-ltb 0 era some_era)
-    ∙ ap (λ (b : Bool). if b then nat_le era life.death else false) (le-leb life.birth era born) ∙ le-leb era life.death died
+held_by : (era : ℕ) (life : Life) → 0 < era → life.birth ≤ era → first_era era ≤ life.death → holds_in era life ≡ true
+held_by era life some_era born died = ap (λ (b : Bool). if b then (if nat_le life.birth era then nat_le (first_era era) life.death else false) else false) (lt-ltb 0 era some_era)
+    ∙ ap (λ (b : Bool). if b then nat_le (first_era era) life.death else false) (le-leb life.birth era born) ∙ le-leb (first_era era) life.death died
 
 -- its ends stay
 passed_ends : (next held : Bool) (slot : ℕ) (life : Life) → ((passed_if next held slot life).birth ≡ life.birth) × ((passed_if next held slot life).death ≡ life.death)

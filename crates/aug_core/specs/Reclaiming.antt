@@ -7,7 +7,7 @@ use Rattle.atomic_table.specs.Table.{Step}
 use Rattle.aug_core.specs.Places.{record_words, reservation_place}
 use Rattle.aug_core.specs.Addresses.{place_count, IsInner, left_of, right_of}
 use Rattle.aug_core.specs.Book.{history_of, At}
-use Rattle.aug_core.specs.Records.{IsClosed, floor_of, Lists}
+use Rattle.aug_core.specs.Records.{IsClosed, first_era, floor_of, Lists}
 use Rattle.aug_core.specs.Kinds.{load_era, turn_era, load_reservation, store_reservation}
 use Rattle.aug_core.specs.Effects.{Sat, on_first, own_lane}
 use Rattle.aug_core.specs.declared.step.StepTaken.{StepTaken}
@@ -74,9 +74,9 @@ retiring v era taken = record v { held = on_first (retiring_in era) v.held; reac
 abbrev pub retired : Step (Unit {0}) → Sat → ℕ → Sat → Type 0
 retired st m r m' = (m'.1 ≡ []) × (m'.0 ≡ retiring m.0 r (load_era st.word r)) × (m.0.reached ≤ r)
 
--- a reservation of an era holds what lived then; 0 holds nothing
+-- a reservation of an era holds what lived then, and one of all from an era on what lived then or later; 0 holds nothing
 abbrev pub holds_in : ℕ → Life → Bool
-holds_in era life = if nat_lt 0 era then (if nat_le life.birth era then nat_le era life.death else false) else false
+holds_in era life = if nat_lt 0 era then (if nat_le life.birth era then nat_le (first_era era) life.death else false) else false
 
 -- a life of which the reservations before this one are known not to hold it, once this one is known not to
 abbrev pub passed_if : Bool → Bool → ℕ → Life → Life

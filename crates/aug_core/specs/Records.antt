@@ -3,7 +3,7 @@
 -- entries that were in use when it made it, all that were made by then. A record leaves use in two steps. Who replaced its entry owns it from when the
 -- root shows a later one, with the era that is then found; and writes it once each reservation was found to hold no era of its life. In a table that uses
 -- no record again nothing is gone, and there are no reservations.
-use Rattle.std.specs.Prelude.{◌≡◌, ◌⊎◌, ℕ, ◌+◌, ◌<◌, ◌≤◌, List, length, slice_index, Some}
+use Rattle.std.specs.Prelude.{◌≡◌, ◌⊎◌, ℕ, ◌+◌, ◌%◌, ◌^◌, ◌<◌, ◌≤◌, List, length, slice_index, Some}
 use mathlib.Core.Option.{some}
 use lib.ListN.{get_elem?}
 use Rattle.aug_core.specs.Places.{Shape, opening_count, record_start, record_count, record_words, era_place, reservation_place}
@@ -51,6 +51,11 @@ pub record IsThere (s : Shape) (words : List ℕ) (fate : ℕ → Fate) (q i : �
 pub record IsClosed (s : Shape) (book : Book) (from : ℕ → ℕ) : Type 0 where
   pub below : (q i : ℕ) (e : Entry) → IsInner s q → At book q i e → from q ≤ i → (from (left_of s q) ≤ e.left) × (from (right_of s q) ≤ e.right)
 
+-- the first era of a reservation: its word is that era alone, or that and all later ones, which is told by the upmost bit. So the word is no less than each of
+-- its eras
+abbrev pub first_era : ℕ → ℕ
+first_era word = word % 2 ^ 63
+
 -- the first entry of a place that a reservation holds
 abbrev pub floor_of : Reserved → ℕ → ℕ
 floor_of x q = slice_index x.floors q
@@ -61,17 +66,17 @@ pub record Waits (fate : ℕ → Fate) (x : Reserved) (number : ℕ) : Type 0 wh
   pub life : Life
   pub fate_is : fate number ≡ owned_by lane life
   pub born : life.birth ≤ x.era
-  pub died : x.era ≤ life.death
+  pub died : first_era x.era ≤ life.death
   pub unscanned : life.scanned ≤ x.slot
 
 -- what a reservation holds: each entry from its floors on that was made by its era has its words in the table
 pub record Protects (s : Shape) (words : List ℕ) (fate : ℕ → Fate) (gone : ℕ → ℕ) (book : Book) (x : Reserved) : Type 0 where
-  -- there is such a reservation, and its word is the era
+  -- there is such a reservation, and its word is this
   pub exists : x.slot < s.reservations
   pub some_era : 0 < x.era
   pub word : slice_index words (reservation_place s x.slot) ≡ x.era
-  -- which the table has reached
-  pub not_late : x.era ≤ slice_index words (era_place s)
+  -- of which the table has reached the first era
+  pub not_late : first_era x.era ≤ slice_index words (era_place s)
   -- the floors are no higher than what is in use
   pub in_use : (q : ℕ) → floor_of x q ≤ gone q
   pub closed : IsClosed s book (floor_of x)

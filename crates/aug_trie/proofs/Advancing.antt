@@ -1,6 +1,5 @@
 -- A try at a node goes on by one step.
 use Rattle.std.proofs.Common.{◌≡◌, ℕ, zero, suc, add-one, ◌+◌, ◌-◌, ◌*◌, ◌^◌, ◌<◌, ◌≤◌, Bool, true, false, ltb, lt-ltb, le-ltb, if◌then◌else◌, List, [], ◌∷◌, get_or, set, get_or-set_same, get_or-set_other, length-set, sym, refl, ap, ◌∙◌, subst, ⊎_elim, arith}
-use Rattle.aug_words.proofs.Passes.{plainly}
 use Rattle.std.proofs.lemmas.Bool.{cases_eq}
 use Rattle.std.proofs.lemmas.List.{append-nil}
 use Rattle.aug_monoid.specs.Parts.{Parts}
@@ -24,7 +23,8 @@ use Rattle.aug_trie.specs.declared.turns.points.Point.TheVariants.{Node, Left, R
 use Rattle.aug_trie.proofs.Going.{took_none, took_one, took_on, may_store_room, goes_self, goes_on, goes_storing, room_on}
 use Rattle.aug_trie.proofs.Looking.{goes_looking}
 use Rattle.aug_trie.proofs.Looked.{looks_on, looks_one, guards_looking, says_looking}
-use Rattle.aug_trie.proofs.Publishing.{may_publish, published, goes_tried, own_again, names_own}
+use Rattle.aug_trie.proofs.Publishing.{may_publish, published, goes_tried, own_again}
+use Rattle.aug_words.proofs.Passes.{names_plainly, told_plainly}
 use Rattle.aug_trie.proofs.Telling.{guards_named, part_of_leaf, part_of_node}
 use Rattle.aug_trie.proofs.Whole.{says, tries, even, part_few}
 use Rattle.aug_core.proofs.PrefixLemmas.{book_refl, book_trans}
@@ -302,11 +302,11 @@ module _ {A B : Type 0} (parts_a : Parts A) (parts_b : Parts B) (v : SeatView) (
     room_told = room_on f [] v held.told number 1 g_told t.room
 
     pub may_try : NamesOwn f old q r.from number
-    may_try = names_own f old q r.from number room_old.keeps_records may_store_word (subst (λ (z : SeatView). IsFilled f z q r.from number) (sym is_full) (may_publish f held.told number r.five room_told q r.from room_told.keeps_records held.says))
+    may_try = names_plainly room_old.keeps_records may_store_word (subst (λ (z : SeatView). IsFilled f z q r.from 0 number) (sym is_full) (may_publish f held.told number r.five room_told q r.from room_told.keeps_records held.says))
 
     -- and the node's word exchanged, or not
     pub try_over : (w : SeatView) (done : Bool) → TriedNode f old q r.from number done w → TryOver f v q number done w
-    try_over w done told = let found : ℕ = told.found in let decided = told.decided in let tried = told.told number (plainly old room_old.keeps_records number) in let l = held.loaded.lefts in let first = l.first in let second = held.loaded.second in
+    try_over w done told = let found : ℕ = told.found in let decided = told.decided in let tried = told_plainly room_old.keeps_records may_store_word told in let l = held.loaded.lefts in let first = l.first in let second = held.loaded.second in
         let gw = goes_tried f old w q r.from number found done decided tried knows_old in
         let p = published f held.told number r.five room_told w q r.from found done (subst (λ (z : Shape). IsInner z q) (sym g_told.shaped) t.inner) (left_in parts_a parts_b) (right_in parts_a parts_b) decided
         (subst (λ (z : SeatView). TriesNode f z q r.from number number found w) is_full tried) in

@@ -1,7 +1,7 @@
 -- A record of the own lane is filled and published.
 use Rattle.std.proofs.Common.{inl, ◌≡◌, ◌≢◌, ◌↔◌, ℕ, ◌+◌, Bool, true, false, IsTrue, List, [], get_or, sym, refl, ap, ◌∙◌, subst, ⊎_elim, arith}
 use Rattle.aug_trie.specs.inside.Points.{QuietStep}
-use Rattle.aug_words.proofs.Passes.{plainly}
+use Rattle.aug_words.proofs.Passes.{names_plainly, told_plainly}
 use Rattle.std.proofs.lemmas.Bool.{cases_eq, false≢true}
 use Rattle.aug_monoid.specs.Parts.{Parts}
 use Rattle.aug_core.specs.Addresses.{IsInner}
@@ -20,8 +20,8 @@ use Rattle.aug_trie.proofs.Going.{took_one, took_on, room_on, goes_on, goes_more
 module _ (face : ℕ → ℕ → List (ℕ × ℕ) → List ℕ) where
   module _ (v : SeatView) (number : ℕ) (five : List ℕ) (room : HasRoom v number 1) where
     -- a record that says what was loaded may be published
-    pub may_publish : (q old : ℕ) → v.shape.reservations ≡ 0 → SaysLoaded face v.shape v.seen q old five → IsFilled face (filled_view v number five) q old number
-    may_publish q old off says = is_filled v number five (may_store_room v number room) face q old says (inl off) (inl off) (inl off)
+    pub may_publish : (q old : ℕ) → v.shape.reservations ≡ 0 → SaysLoaded face v.shape v.seen q old five → IsFilled face (filled_view v number five) q old 0 number
+    may_publish q old off says = is_filled v number five (may_store_room v number room) face q old 0 says (inl off) (inl off) (inl off) (inl off)
 
     -- what the try tells
     pub published : (w : SeatView) (q old found : ℕ) (done : Bool) → IsInner v.shape q → ((l r : ℕ) (pairs : List (ℕ × ℕ)) → get_or (face l r pairs) 0 0 ≡ l) → ((l r : ℕ) (pairs : List (ℕ × ℕ)) → get_or (face l r pairs) 1 0 ≡ r)
@@ -44,10 +44,6 @@ module _ (face : ℕ → ℕ → List (ℕ × ℕ) → List ℕ) where
       where
         lost : (done : Bool) (found old : ℕ) → (IsTrue done ↔ (found ≡ old)) → done ≡ false → found ≢ old
         lost done found old decided is same = let good : done ≡ true = decided.1 same in false≢true (sym is ∙ good)
-
-  -- in a round it is named by its number
-  pub names_own : (v : SeatView) (q old number : ℕ) → v.shape.reservations ≡ 0 → MayStore v number → IsFilled face v q old number → NamesOwn face v q old number
-  names_own v q old number off own filled = record { number = number; named = plainly v off number; own = own; filled = filled }
 
   module _ (v w : SeatView) (q old number found : ℕ) (done : Bool) (decided : IsTrue done ↔ (found ≡ old)) (told : TriesNode face v q old number number found w) (kn : KnowsBook face v) where
     pub goes_tried : Goes face (number + 1) [] v w
@@ -87,12 +83,12 @@ module _ {A B : Type 0} (parts_a : Parts A) (parts_b : Parts B) where
   module _ {v v1 v2 v3 v4 v5 : SeatView} {number : ℕ} (five : List ℕ) (room : HasRoom v number 1) (e1 : v1 ≡ put v number 0 (get_or five 0 0)) (e2 : v2 ≡ put v1 number 1 (get_or five 1 0)) (e3 : v3 ≡ put v2 number 2 (get_or five 2 0))
       (e4 : v4 ≡ put v3 number 3 (get_or five 3 0)) (e5 : v5 ≡ put v4 number 4 (get_or five 4 0)) where
     pub may_publish_filled : {q old : ℕ} → Goes f 0 [] v v5 → SaysLoaded f v.shape v.seen q old five → NamesOwn f v5 q old number
-    may_publish_filled {q} {old} g says = names_own f v5 q old number (ap (λ (z : Shape). z.reservations) g.shaped ∙ room.keeps_records) (may_store_on room g)
-        (subst (λ (z : SeatView). IsFilled f z q old number) (sym (filled_is v v1 v2 v3 v4 v5 number five e1 e2 e3 e4 e5)) (may_publish f v number five room q old room.keeps_records says))
+    may_publish_filled {q} {old} g says = names_plainly (ap (λ (z : Shape). z.reservations) g.shaped ∙ room.keeps_records) (may_store_on room g)
+        (subst (λ (z : SeatView). IsFilled f z q old 0 number) (sym (filled_is v v1 v2 v3 v4 v5 number five e1 e2 e3 e4 e5)) (may_publish f v number five room q old room.keeps_records says))
 
     pub publishes : {q old : ℕ} {done : Bool} {w : SeatView} → IsInner v.shape q → Goes f 0 [] v v5 → TriedNode f v5 q old number done w → Publishes v w q old number (get_or five 0 0) (get_or five 1 0) done
     publishes {q} {old} {done} {w} inner g t =
-        let told = t.told number (plainly v5 (ap (λ (z : Shape). z.reservations) g.shaped ∙ room.keeps_records) number) in
+        let told = told_plainly (ap (λ (z : Shape). z.reservations) g.shaped ∙ room.keeps_records) (may_store_on room g) t in
         let t1 = took_one v v1 _ refl (ap (λ (z : SeatView). z.steps) e1) in let t2 = took_on v v1 v2 1 1 2 refl t1 (took_one v1 v2 _ refl (ap (λ (z : SeatView). z.steps) e2)) in
         let t3 = took_on v v2 v3 2 1 3 refl t2 (took_one v2 v3 _ refl (ap (λ (z : SeatView). z.steps) e3)) in let t4 = took_on v v3 v4 3 1 4 refl t3 (took_one v3 v4 _ refl (ap (λ (z : SeatView). z.steps) e4)) in
         let t5 = took_on v v4 v5 4 1 record_words refl t4 (took_one v4 v5 _ refl (ap (λ (z : SeatView). z.steps) e5)) in record {

@@ -1,5 +1,5 @@
 -- The seat of a pass after a step.
-use Rattle.std.proofs.Common.{arith, ◌≡◌, ℕ, ◌+◌, ◌*◌, ◌<◌, ◌≤◌, List, [], ◌∷◌, ◌++◌, refl, sym, ap, ◌∙◌, subst, ⊎_elim, Some, None}
+use Rattle.std.proofs.Common.{arith, Bool, ◌≡◌, ℕ, ◌+◌, ◌*◌, ◌<◌, ◌≤◌, List, [], ◌∷◌, ◌++◌, refl, sym, ap, ◌∙◌, subst, ⊎_elim, Some, None}
 use Rattle.std.specs.Prelude.{Option}
 use Rattle.aug_words.specs.Reservations.{HasReservations}
 use Rattle.aug_core.specs.inside.Reclaims.{MayReserve}
@@ -9,7 +9,7 @@ use Rattle.atomic_table.specs.Seated.{TableId}
 use Rattle.aug_core.specs.Places.{Shape, lane_place, record_start, record_count, record_words, word_count}
 use Rattle.aug_core.specs.Book.{Book}
 use Rattle.std.proofs.lemmas.Bool.{cases_eq}
-use Rattle.aug_core.specs.Effects.{Sat, stepping, old_word, new_word, made_by, with_changes, last_replaced, publishing_from, Sees, LoadsLeaf, BeginsAtLeaf, LoadsNode, TriesLeaf, TriesNode, GuardsRecord, KnowsBook, birth_of, word_by, MayStore, ReadsRecord, on_first, storing_in, going_from, storing, beginning, own_lane}
+use Rattle.aug_core.specs.Effects.{Sat, stepping, old_word, new_word, made_by, with_changes, last_replaced, publishing_from, Sees, LoadsLeaf, BeginsAtLeaf, LoadsNode, TriesLeaf, TriesNode, GuardsRecord, KnowsBook, MayStore, ReadsRecord, IsFilled, on_first, storing_in, going_from, storing, beginning, own_lane}
 use Rattle.aug_core.specs.Eras.{IsAtWork}
 use Rattle.aug_core.specs.inside.LaneStates.{HasTakenLane}
 use Rattle.aug_core.specs.Kinds.{load_leaf, try_leaf, load_node, try_node, load_record_word, store_record_word, store_reservation}
@@ -19,11 +19,11 @@ use Rattle.aug_core.specs.declared.view.Advance.{Advance}
 use Rattle.aug_core.specs.declared.view.Held.{Held}
 use Rattle.aug_core.specs.declared.view.LaneState.TheVariants.{Taken}
 use Rattle.aug_core.specs.declared.view.SeatView.{SeatView}
+use Rattle.aug_core.proofs.Books.{plain_word}
 use Rattle.aug_core.proofs.Fits.{book_shown, book_as}
 use Rattle.aug_core.proofs.Eras.{holds_lane}
 use Rattle.aug_words.specs.inside.SeatState.{IsPlaced, SitsAt, IsPassSeat, HasPassSeat, LendsHere}
-use Rattle.aug_words.specs.Seats.{AreTogether, Known, MayLoad, LoadsRecordWord, Store}
-use Rattle.aug_core.proofs.Books.{plain_word}
+use Rattle.aug_words.specs.Seats.{AreTogether, Known, MayLoad, NamesOwn, TriedNode, LoadsRecordWord, Store}
 
 -- a seat that stayed in its part
 pub placed_on : (t : TableId) (b : ℕ) (v w : SeatView) → IsPlaced t b v → w.shape ≡ v.shape → w.base ≡ v.base → IsPlaced t b w
@@ -52,9 +52,12 @@ sits_at k now store words base lanes records is stored together placed l r =
       records_are = λ i. placed.base_is i + (r ∙ ap (λ (s : Shape). record_start s 0) shape) i;
     }
 
--- in a round a record is named by its number
-pub plainly : (v : SeatView) → v.shape.reservations ≡ 0 → (number : ℕ) → number ≡ word_by v number
-plainly v off number = sym (plain_word v.shape (birth_of v) number off)
+-- in a round a record is named by its number, and what a try tells of its name it tells of the number
+pub names_plainly : {face : ℕ → ℕ → List (ℕ × ℕ) → List ℕ} {v : SeatView} {q old number : ℕ} → v.shape.reservations ≡ 0 → MayStore v number → IsFilled face v q old 0 number → NamesOwn face v q old number
+names_plainly {face} {v} {q} {old} {number} off own filled = record { birth = 0; number = number; named = sym (plain_word v.shape 0 number off); own = own; filled = filled }
+
+pub told_plainly : {face : ℕ → ℕ → List (ℕ × ℕ) → List ℕ} {v w : SeatView} {q old number : ℕ} {done : Bool} → v.shape.reservations ≡ 0 → MayStore v number → (t : TriedNode face v q old number done w) → TriesNode face v q old number number t.found w
+told_plainly {face} {v} {w} {q} {old} {number} off may t = t.told 0 number (subst (λ (z : ℕ). z < record_count v.shape) may.numbered may.exists) (sym (plain_word v.shape 0 number off))
 
 -- a record that a view guards is one of the table, and so is one that it may store
 pub guarded_inside : (face : ℕ → ℕ → List (ℕ × ℕ) → List ℕ) (v : SeatView) (number : ℕ) → KnowsBook face v → GuardsRecord v number → number < record_count v.shape

@@ -13,7 +13,7 @@ use Rattle.aug_words.specs.Reservations.{LoadsEra}
 use Rattle.aug_core.specs.Book.{Book, word_of_node}
 use Rattle.aug_core.specs.Kinds.{load_era, load_reservation, store_reservation, try_node}
 use Rattle.aug_core.specs.Records.{Lists, IsClosed, floor_of}
-use Rattle.aug_core.specs.Effects.{HoldsOnly, MayStore, handed_out, in_state, own_lane, own_lane_place, birth_of, word_by, on_first, storing, storing_in, with_word, last_replaced, publishing, publishing_from, ReplacesOther, TriesNode}
+use Rattle.aug_core.specs.Effects.{HoldsOnly, MayStore, handed_out, in_state, own_lane, own_lane_place, reserved_by, on_first, storing, storing_in, with_word, last_replaced, publishing, publishing_from, ReplacesOther, TriesNode}
 use Rattle.aug_core.specs.Reclaiming.{holds_in, passed_if, passed_record, scanning_in, scanning, retired_in, retiring_in, retiring, reaching, Reserves}
 use Rattle.aug_core.specs.declared.step.StepTaken.{StepTaken}
 use Rattle.aug_core.specs.declared.view.Held.{Held}
@@ -27,7 +27,7 @@ use Rattle.aug_core.proofs.Counting.{at_longer, at_after}
 use Rattle.aug_core.proofs.Owning.{map_listed, filter_listed, with_long}
 use Rattle.aug_core.proofs.Clients.{after_store, new_lane_owns, may_store_same, may_store_publishing}
 use Rattle.aug_words.specs.Seats.{IsNextLane, TriedNode}
-use Rattle.aug_words.specs.Stocks.{naming, number_in_word, birth_in_word, StockFacts, OpensStock, HasReplaced, HasWaiting, Stocks, scan_steps, IsHeld, ReservesAnew, Scans}
+use Rattle.aug_words.specs.Stocks.{naming, number_in_word, birth_in_word, reserving, StockFacts, OpensStock, HasReplaced, HasWaiting, Stocks, scan_steps, IsHeld, ReservesAnew, Scans}
 use Rattle.aug_words.specs.inside.Stocking.{passed_all, passing_all, HasLoaded, Sorts}
 
 -- ---- words that name records
@@ -170,7 +170,7 @@ of_lane v k i s low = ⊎_elim
     inl (s.lane, s.only, t.own, t.listed, sym (ap number_in_word t.named ∙ number_named t.own.life.birth t.own.number (omega arith)))) (cases_lt i (k.free + k.replaced))) (cases_lt i k.free)
 
 -- a step that leaves the lane as it was leaves its stock
-pub stocks_on : (v w : SeatView) (k : StockFacts) (era : ℕ) → Stocks v k → w.shape ≡ v.shape → w.held ≡ v.held → era ≡ birth_of w → Stocks w (record k { era = era })
+pub stocks_on : (v w : SeatView) (k : StockFacts) (era : ℕ) → Stocks v k → w.shape ≡ v.shape → w.held ≡ v.held → era ≡ reserved_by w → Stocks w (record k { era = era })
 stocks_on v w k era s shaped held is = record {
   lane = s.lane;
   only = held ∙ s.only;
@@ -456,7 +456,7 @@ module _ (v w : SeatView) (k after : StockFacts) (eras : ℕ → ℕ) (list : Li
     only = only_now s.lane s.only;
     used = subst (λ (z : Shape). 0 < z.reservations) (sym same_shape) s.used;
     numbers = subst (λ (z : Shape). record_count z ≤ 2 ^ 24) (sym same_shape) s.numbers;
-    era = sorted.era ∙ s.era ∙ ap birth_of (sym l.same);
+    era = sorted.era ∙ s.era ∙ ap reserved_by (sym l.same);
     free = free_now;
     replaced = λ i past low. absurd (omega arith);
     waits = λ i past low. let le = sorted.past i (omega arith) in let inside = sorted.inside i (omega arith) in
@@ -480,32 +480,29 @@ module _ (v w : SeatView) (k after : StockFacts) (eras : ℕ → ℕ) (list : Li
 
 -- ---- the calls
 
-named_by : (v : SeatView) (k : StockFacts) → Stocks v k → (number : ℕ) → naming k.era number ≡ word_by v number
-named_by v k s number = ap (λ (z : ℕ). naming z number) s.era ∙ sym (named_used v.shape (birth_of v) number s.used)
-
-module _ (face : ℕ → ℕ → List (ℕ × ℕ) → List ℕ) (v w : SeatView) (k : StockFacts) (q old number : ℕ) (done : Bool) (s : Stocks v k) (next : number ≡ number_in_word (get_or k.words (k.free - 1) 0)) (tried : TriedNode face v q old (naming k.era number) done w) where
-  pub told : TriesNode face v q old number (naming k.era number) tried.found w
-  told = tried.told number (named_by v k s number)
+module _ (face : ℕ → ℕ → List (ℕ × ℕ) → List ℕ) (v w : SeatView) (k : StockFacts) (q old birth number : ℕ) (done : Bool) (s : Stocks v k) (some : 0 < k.free) (next : number ≡ number_in_word (get_or k.words (k.free - 1) 0)) (tried : TriedNode face v q old (naming birth number) done w) where
+  pub told : TriesNode face v q old number (naming birth number) tried.found w
+  told = let may = s.free (k.free - 1) (omega arith) in tried.told birth number (subst (λ (z : ℕ). z < record_count v.shape) (may.numbered ∙ sym next) may.exists) (sym (named_used v.shape birth number s.used))
 
   pub tried_shape : w.shape ≡ v.shape
   tried_shape = told.shaped
 
-  pub stocks_tried : done ≡ true → 0 < k.free → k.free + k.replaced ≤ length k.words → Stocks w (record k { words = set k.words (k.free - 1) old; free = k.free - 1; replaced = k.replaced + 1 })
-  stocks_tried hits free few = let hit = tried.decided.0 hits in stocks_published v w k w.seen number old (try_node q old (naming k.era number) tried.found) s free few next (told.hit hit).0 (λ h only. told.other s.used hit h only)
+  pub stocks_tried : done ≡ true → k.free + k.replaced ≤ length k.words → Stocks w (record k { words = set k.words (k.free - 1) old; free = k.free - 1; replaced = k.replaced + 1 })
+  stocks_tried hits few = let hit = tried.decided.0 hits in stocks_published v w k w.seen number old (try_node q old (naming birth number) tried.found) s some few next (told.hit hit).0 (λ h only. told.other s.used hit h only)
 
   pub stocks_missed : done ≡ false → Stocks w k
   stocks_missed misses = let miss = told.miss (λ hit. false≢true (sym misses ∙ tried.decided.1 hit)) in
-      stocks_on v w k k.era s (ap (λ (z : SeatView). z.shape) miss.0) (ap (λ (z : SeatView). z.held) miss.0) (s.era ∙ ap birth_of (sym miss.0))
+      stocks_on v w k k.era s (ap (λ (z : SeatView). z.shape) miss.0) (ap (λ (z : SeatView). z.held) miss.0) (s.era ∙ ap reserved_by (sym miss.0))
 
 -- an era was loaded and reserved, and perhaps turned in between
-module _ (v u t w : SeatView) (found place era : ℕ) (more : List StepTaken) (loaded : LoadsEra v found u) (after : t ≡ record u { reached = t.reached; steps = u.steps ++ more }) (few : length more ≤ 1) (is : era ≡ max found 1) (r : Reserves t place era w) where
+module _ (v u t w : SeatView) (found place era : ℕ) (more : List StepTaken) (later : Bool) (loaded : LoadsEra v found u) (after : t ≡ record u { reached = t.reached; steps = u.steps ++ more }) (few : length more ≤ 1) (is : era ≡ reserving later (max found 1)) (r : Reserves t place era w) where
   same_u : u ≡ record v { reached = found; steps = v.steps ++ load_era (era_place v.shape) found ∷ [] }
   same_u = loaded.stepped
 
   same_t : t ≡ record v { reached = t.reached; steps = (v.steps ++ load_era (era_place v.shape) found ∷ []) ++ more }
   same_t = after ∙ (λ i. record (same_u i) { reached = t.reached; steps = (ap (λ (z : SeatView). z.steps) same_u i) ++ more })
 
-  pub reserves_anew : ReservesAnew v w era
+  pub reserves_anew : ReservesAnew later v w era
   reserves_anew = record {
     now = r.now;
     same = r.stepped ∙ (λ i. record (same_t i) { reserved = Some r.now; reached = t.reached; steps = t.steps ++ store_reservation place era ∷ [] }) ∙ (λ i. record v { reserved = Some r.now; reached = ap (λ (z : SeatView). z.reached) (sym r.stepped) i; steps = ap (λ (z : SeatView). z.steps) (sym r.stepped) i });
@@ -527,8 +524,8 @@ pub not_turned : (u t : SeatView) → t ≡ u → t ≡ record u { reached = t.r
 not_turned u t is = is ∙ (λ i. record u { reached = ap (λ (z : SeatView). z.reached) (sym is) i; steps = sym (append-nil u.steps) i })
 
 -- the stock stays
-pub stocks_anew : (v w : SeatView) (k : StockFacts) (era : ℕ) → Stocks v k → ReservesAnew v w era → Stocks w (record k { era = era })
-stocks_anew v w k era s r = stocks_on v w k era s (ap (λ (z : SeatView). z.shape) r.same) (ap (λ (z : SeatView). z.held) r.same) (sym r.era_is ∙ ap birth_of (sym r.same))
+pub stocks_anew : (later : Bool) (v w : SeatView) (k : StockFacts) (era : ℕ) → Stocks v k → ReservesAnew later v w era → Stocks w (record k { era = era })
+stocks_anew later v w k era s r = stocks_on v w k era s (ap (λ (z : SeatView). z.shape) r.same) (ap (λ (z : SeatView). z.held) r.same) (sym r.era_is ∙ ap reserved_by (sym r.same))
 
 -- the stock of a pass that was just handed out
 pub opens_stock : (face : ℕ → ℕ → List (ℕ × ℕ) → List ℕ) (lead after v : SeatView) (lane : ℕ) → IsNextLane lead lane → HandsLaneOut face lead after v → OpensStock v

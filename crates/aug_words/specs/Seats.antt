@@ -2,11 +2,11 @@
 -- definition of `Effects` over that view: in the example `load_leaf` asks for a key below 4, and its clause is `LoadsLeaf`.
 use Rattle.std.specs.Prelude.{◌≡◌, ℕ, ◌+◌, ◌<◌, ◌⊎◌, ◌↔◌, Bool, IsTrue, List, Some}
 use Rattle.atomic_table.specs.Seated.{TableId}
-use Rattle.aug_core.specs.Places.{Shape, record_start}
+use Rattle.aug_core.specs.Places.{Shape, record_start, record_count}
 use Rattle.aug_core.specs.Addresses.{root_place}
-use Rattle.aug_core.specs.Book.{IsNewest}
+use Rattle.aug_core.specs.Book.{IsNewest, word_of_node}
 use Rattle.aug_core.specs.Kinds.{load_record_word}
-use Rattle.aug_core.specs.Effects.{stepping, GuardsRecord, MayStore, word_by, Says, SaysOwn, IsAdvance, KnowsSerial, old_word, new_word, TriesLeaf, IsFilled, TriesNode}
+use Rattle.aug_core.specs.Effects.{stepping, GuardsRecord, MayStore, Says, SaysOwn, IsAdvance, KnowsSerial, old_word, new_word, TriesLeaf, IsFilled, TriesNode}
 use Rattle.aug_core.specs.declared.view.Advance.{Advance}
 use Rattle.aug_core.specs.declared.view.Entry.{Entry}
 use Rattle.aug_core.specs.declared.view.SeatView.{SeatView}
@@ -75,13 +75,14 @@ module _ (face : ℕ → ℕ → List (ℕ × ℕ) → List ℕ) where
 
   -- the word names a record of the view's own, which was filled from what was loaded of the node and of its children
   pub record NamesOwn (v : SeatView) (q old new : ℕ) : Type 0 where
+    pub birth : ℕ
     pub number : ℕ
-    pub named : new ≡ word_by v number
+    pub named : new ≡ word_of_node v.shape birth number
     pub own : MayStore v number
-    pub filled : IsFilled face v q old number
+    pub filled : IsFilled face v q old birth number
 
   -- the answer says whether the node's word was the old one
   pub record TriedNode (v : SeatView) (q old new : ℕ) (done : Bool) (w : SeatView) : Type 0 where
     pub found : ℕ
     pub decided : IsTrue done ↔ (found ≡ old)
-    pub told : (number : ℕ) → new ≡ word_by v number → TriesNode face v q old number new found w
+    pub told : (birth number : ℕ) → number < record_count v.shape → new ≡ word_of_node v.shape birth number → TriesNode face v q old number new found w

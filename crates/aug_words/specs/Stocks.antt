@@ -1,12 +1,12 @@
 -- The records of a lane as its pass keeps them, in a table that uses records again: first those that it may write, then those that it replaced since it last
 -- retired any, and then those that wait until no reservation holds them. In a table of 1 bit and two lanes with the records of three updates each, lane 1
 -- opens with the records 5, 6 and 7, all of which it may write. Once it published 7 in place of the root's record 1, it may write 5 and 6, and the third is 1.
-use Rattle.std.specs.Prelude.{◌≡◌, ℕ, suc, zero, ◌+◌, ◌*◌, ◌/◌, ◌%◌, ◌^◌, ◌<◌, ◌≤◌, max, true, Some, None, List, [], ◌∷◌, ◌++◌, length, slice_index}
+use Rattle.std.specs.Prelude.{◌≡◌, ℕ, suc, zero, ◌+◌, ◌*◌, ◌/◌, ◌%◌, ◌^◌, ◌<◌, ◌≤◌, max, Bool, true, if◌then◌else◌, Some, None, List, [], ◌∷◌, ◌++◌, length, slice_index}
 use Rattle.aug_core.specs.Places.{Shape, record_count, record_words, era_place, reservation_place}
 use Rattle.aug_core.specs.Lanes.{first_record, lane_records}
 use Rattle.aug_core.specs.Kinds.{load_era, load_reservation}
 use Rattle.aug_core.specs.Records.{Lists, IsClosed, floor_of}
-use Rattle.aug_core.specs.Effects.{HoldsOnly, MayStore, birth_of, own_lane}
+use Rattle.aug_core.specs.Effects.{HoldsOnly, MayStore, reserved_by, own_lane}
 use Rattle.aug_core.specs.Reclaiming.{holds_in}
 use Rattle.aug_core.specs.declared.step.StepTaken.{StepTaken}
 use Rattle.aug_core.specs.declared.view.Held.{Held}
@@ -27,7 +27,7 @@ abbrev pub birth_in_word : ℕ → ℕ
 birth_in_word word = word / 2 ^ 24
 
 -- a stock: the words that name its records, for each that waits the era in which it was retired, how many it may write, how many were replaced and not
--- retired yet, and the era that is reserved, or 0
+-- retired yet, and what is reserved, or 0
 pub record StockFacts : Type 0 where
   pub words : List ℕ
   pub deaths : List ℕ
@@ -66,7 +66,7 @@ pub record Stocks (v : SeatView) (k : StockFacts) : Type 0 where
   pub only : HoldsOnly v lane
   pub used : 0 < v.shape.reservations
   pub numbers : record_count v.shape ≤ 2 ^ 24
-  pub era : k.era ≡ birth_of v
+  pub era : k.era ≡ reserved_by v
   -- each of its records is one of the lane's
   pub free : (i : ℕ) → i < k.free → MayStore v (number_in_word (slice_index k.words i))
   pub replaced : (i : ℕ) → k.free ≤ i → i < k.free + k.replaced → HasReplaced v.shape lane (slice_index k.words i)
@@ -94,15 +94,19 @@ pub record Scans (v : SeatView) (k : StockFacts) (w : SeatView) (after : StockFa
   pub keeps : (length after.words ≡ length k.words) × (after.replaced ≡ k.replaced)
   pub held : (i : ℕ) → after.free ≤ i → i < length after.words → (slot : ℕ) × (slot < v.shape.reservations) × IsHeld (eras slot) (birth_in_word (slice_index after.words i)) (slice_index after.deaths i)
 
--- the view loaded the era and reserved it, and makes records in it from then on. No era is before 1, to which the first who finds 0 moves it on
-pub record ReservesAnew (v w : SeatView) (era : ℕ) : Type 0 where
+-- a reservation of an era, or of that and all later ones
+abbrev pub reserving : Bool → ℕ → ℕ
+reserving later era = if later then 2 ^ 63 + era else era
+
+-- the view loaded the era and reserved it, or that and all later ones. No era is before 1, to which the first who finds 0 moves it on
+pub record ReservesAnew (later : Bool) (v w : SeatView) (era : ℕ) : Type 0 where
   pub now : Reserved
   pub same : w ≡ record v { reserved = Some now; reached = w.reached; steps = w.steps }
   pub found : ℕ
   pub more : List StepTaken
   pub steps : w.steps ≡ v.steps ++ load_era (era_place v.shape) found ∷ more
   pub few : length more ≤ 2
-  pub era_found : era ≡ max found 1
+  pub era_found : era ≡ reserving later (max found 1)
   pub slot : now.slot ≡ own_lane v.held
   pub era_is : now.era ≡ era
   pub closed : IsClosed v.shape v.seen (floor_of now)

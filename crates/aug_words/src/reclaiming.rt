@@ -1,5 +1,6 @@
 //! The steps by which a pass comes to use records again.
 ghost use Rattle.std.specs.Prelude.{◌≡◌, ◌≤◌, ◌<◌, ◌^◌};
+ghost use Rattle.aug_core.specs.Records.{first_era};
 ghost use Rattle.aug_core.specs.Reclaiming.{Reserves, releasing, own_reservation};
 ghost use Rattle.aug_words.specs.Seats.{AreTogether, StaysAt};
 ghost use Rattle.aug_words.specs.Reservations.{HasReservations, LoadsEra, TurnsEra, Retires, MayRetire, PassesReservation};
@@ -35,13 +36,13 @@ impl<'r, A: Monoid, B: Monoid> WordPass<'r, A, B> {
         found == era
     }
 
-    /// Reserves an era that it has reached: of the records that are in use or named from then on, those that were made by this era are not
-    /// written while the reservation stands. What it reserved before it lets go of.
+    /// Reserves an era that it has reached, or with the upmost bit set that and all later ones: of the records that are in use or named from then on, those
+    /// that were made by these eras are not written while the reservation stands. What it reserved before it lets go of.
     pub fn reserve_era(&mut self, words: &Words<A, B>, era: u64)
         requires together { AreTogether words.now self.old }
         requires slots { HasReservations self.old.view }
         requires some_era { 1 ≤ era }
-        requires reached { era ≤ self.old.view.reached }
+        requires reached { first_era era ≤ self.old.view.reached }
         ensures { StaysAt self.old self.new (Reserves self.old.view (own_reservation self.old.view) era self.new.view) }
     {
         let place = self.base + words.layout.reservation(self.lane);

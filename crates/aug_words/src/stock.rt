@@ -1,14 +1,15 @@
 //! The records of a lane in a table that uses records again, and the era that its pass reserves.
-ghost use Rattle.std.specs.Prelude.{◌≡◌, ◌<◌, ◌≤◌, ◌+◌, ◌-◌, ◌^◌, ◌/◌, ℕ, true, false, length, slice_index, slice_set, IfOk};
+ghost use Rattle.std.specs.Prelude.{◌≡◌, ◌<◌, ◌≤◌, ◌+◌, ◌-◌, ◌^◌, ◌/◌, max, nat_le, ℕ, true, false, length, slice_index, slice_set, IfOk};
 ghost use Rattle.std.specs.Bool.{OnTrue, OnFalse};
 ghost use Rattle.aug_core.specs.Addresses.{IsInner};
 ghost use Rattle.aug_core.specs.Effects.{IsFilled};
 ghost use Rattle.aug_core.specs.Faces.{face};
 ghost use Rattle.aug_core.specs.Lanes.{lane_records};
+ghost use Rattle.aug_core.specs.Records.{first_era};
 ghost use Rattle.aug_core.specs.Reclaiming.{releasing, own_reservation};
 ghost use Rattle.aug_words.specs.Reservations.{HasReservations, MayRetire, Retires};
 ghost use Rattle.aug_words.specs.Seats.{AreTogether, StaysAt, TriedNode};
-ghost use Rattle.aug_words.specs.Stocks.{IsHeld, IsLate, OpensStock, ReservesAnew, Scans, Stocks, birth_in_word, naming, number_in_word};
+ghost use Rattle.aug_words.specs.Stocks.{IsHeld, IsLate, OpensStock, ReservesAnew, Scans, Stocks, birth_in_word, naming, number_in_word, reserving};
 ghost use Rattle.aug_words.specs.inside.Stocking.{HasLoaded, Sorts};
 
 use crate::pass::WordPass;
@@ -19,6 +20,9 @@ use std::marker::Model;
 
 // How many reservations a table has at most.
 const MAX_RESERVATIONS: usize = 64;
+
+// With this bit a reservation is one of its era and of all later ones.
+const LATER: u64 = 1 << 63;
 
 // The first era for which the word that names a record has no room.
 const ERAS: u64 = 1 << 40;
@@ -36,13 +40,23 @@ fn birth_in_word(word: u64) -> u64
     word >> 24
 }
 
-// Whether one of these eras is one in which a record lived. 0 is no era.
+// The word of a reservation of an era, or of that and all later ones.
+fn reservation(era: u64, later: bool) -> u64
+    requires { (1 ≤ era) × (era < 2 ^ 40) }
+    ensures word { result ≡ reserving later era }
+    ensures first { first_era result ≡ era }
+    ensures some { 1 ≤ result }
+{
+    if later { LATER + era } else { era }
+}
+
+// Whether one of these reservations holds a record. 0 is none.
 fn is_held(eras: &[u64], birth: u64, death: u64) -> bool
     ensures held { result ≡ true → (slot : ℕ) × (slot < length eras.now) × IsHeld (slice_index eras.now slot) birth death }
     ensures free { result ≡ false → (slot : ℕ) → slot < length eras.now → IsHeld (slice_index eras.now slot) birth death → ⊥ }
 {
     for era in eras {
-        if 0 < *era && birth <= *era && *era <= death {
+        if 0 < *era && birth <= *era && *era % LATER <= death {
             return true;
         }
     }
@@ -61,7 +75,7 @@ pub struct Stock {
     deaths: Vec<u64>,
     free: usize,
     replaced: usize,
-    // The era that is reserved, or 0.
+    // What is reserved: an era, or with `LATER` that and all later ones, or 0.
     era: u64,
 }
 
@@ -120,11 +134,22 @@ impl Stock {
         self.words.len()
     }
 
-    /// The era that is reserved, or 0.
-    pub fn era(&self) -> u64
-        ensures { result ≡ self.now.era }
+    /// Whether the record that a node's word names was born no later than what is reserved: what is later the pass must not read, and has to reserve anew.
+    pub fn covers(&self, word: u64) -> bool
+        ensures { result ≡ nat_le (birth_in_word word) self.now.era }
     {
-        self.era
+        birth_in_word(word) <= self.era
+    }
+
+    /// The era in which a record is born that names those of two nodes' words, or leaves in place of 0: the first one that is reserved, or that of the
+    /// younger of these two if it is later.
+    pub fn birth_over(&self, left: u64, right: u64) -> u64
+        ensures value { result ≡ max (max (first_era self.now.era) (birth_in_word left)) (birth_in_word right) }
+        ensures fits { result < 2 ^ 40 }
+    {
+        (self.era % LATER)
+            .max(birth_in_word(left))
+            .max(birth_in_word(right))
     }
 
     /// The number of the record that is published next. It is the same until it was published.
@@ -135,28 +160,31 @@ impl Stock {
         number_in_word(self.words[self.free - 1])
     }
 
-    // The word that names it.
-    fn next_word(&self) -> u64
-        requires { 0 < self.now.free }
-        ensures { result ≡ naming self.now.era (number_in_word (slice_index self.now.words (self.now.free - 1))) }
+    // The word that names it, if it is born in this era.
+    fn next_word(&self, birth: u64) -> u64
+        requires some { 0 < self.now.free }
+        requires birth { birth < 2 ^ 40 }
+        ensures { result ≡ naming birth (number_in_word (slice_index self.now.words (self.now.free - 1))) }
     {
-        (self.era << 24) + self.next()
+        (birth << 24) + self.next()
     }
 
-    /// Replaces a node's word by one that names the next record, if the node still has the word that is given. True if it did: then the record is published,
-    /// and the one that it replaced comes to the stock.
+    /// Replaces a node's word by one that names the next record, with its birth, if the node still has the word that is given. True if it did: then the record is
+    /// published, and the one that it replaced comes to the stock.
     pub fn try_node<A: Monoid, B: Monoid>(
         &mut self,
         pass: &mut WordPass<A, B>,
         node: usize,
         from: u64,
+        birth: u64,
     ) -> bool
         requires inner { IsInner pass.old.view.shape node }
         requires stocks { Stocks pass.old.view self.old }
         requires some { 0 < self.old.free }
-        requires filled { IsFilled (face A.parts B.parts) pass.old.view node from (number_in_word (slice_index self.old.words (self.old.free - 1))) }
+        requires birth { birth < 2 ^ 40 }
+        requires filled { IsFilled (face A.parts B.parts) pass.old.view node from birth (number_in_word (slice_index self.old.words (self.old.free - 1))) }
         ensures step { StaysAt pass.old pass.new (TriedNode (face A.parts B.parts) pass.old.view node from
-            (naming self.old.era (number_in_word (slice_index self.old.words (self.old.free - 1)))) result pass.new.view) }
+            (naming birth (number_in_word (slice_index self.old.words (self.old.free - 1)))) result pass.new.view) }
         ensures shape { pass.new.view.shape ≡ pass.old.view.shape }
         ensures stocks { Stocks pass.new.view self.new }
         ensures published { OnTrue result (self.new ≡ record self.old {
@@ -166,7 +194,7 @@ impl Stock {
         }) }
         ensures kept { OnFalse result (self.new ≡ self.old) }
     {
-        let to = self.next_word();
+        let to = self.next_word(birth);
         if !pass.try_node(node, from, to) {
             return false;
         }
@@ -251,11 +279,12 @@ impl Stock {
         self.free = first + 1;
     }
 
-    /// Reserves the era that it loads, in which the pass's next records are made. False if there is no era left: they have 40 bits.
+    /// Reserves the era that it loads, or that and all later ones. False if there is no era left: they have 40 bits.
     pub fn reserve<A: Monoid, B: Monoid>(
         &mut self,
         pass: &mut WordPass<A, B>,
         words: &Words<A, B>,
+        later: bool,
     ) -> bool
         requires together { AreTogether words.now pass.old }
         requires slots { HasReservations pass.old.view }
@@ -263,7 +292,7 @@ impl Stock {
         ensures table { pass.new.table ≡ pass.old.table }
         ensures shape { pass.new.view.shape ≡ pass.old.view.shape }
         ensures stocks { Stocks pass.new.view self.new }
-        ensures reserves { OnTrue result (ReservesAnew pass.old.view pass.new.view self.new.era) }
+        ensures reserves { OnTrue result (ReservesAnew later pass.old.view pass.new.view self.new.era) }
         ensures late { OnFalse result (IsLate pass.old.view pass.new.view) }
         ensures same { self.new ≡ record self.old { era = self.new.era } }
     {
@@ -275,8 +304,9 @@ impl Stock {
         if era >= ERAS {
             return false;
         }
-        pass.reserve_era(words, era);
-        self.era = era;
+        let reserved = reservation(era, later);
+        pass.reserve_era(words, reserved);
+        self.era = reserved;
         true
     }
 

@@ -56,13 +56,13 @@ last_one [] y x _ (zero, e) = sym (some-injective y x e)
 last_one [] y x _ (suc i, e) = absurd (some-ne-none x (sym e))
 last_one (z ∷ zs) y x empty t = absurd (omega arith)
 
-module _ (face : ℕ → ℕ → List (ℕ × ℕ) → List ℕ) (v w : SeatView) (k : StockFacts) (old : ℕ) (done : Bool) (small : IsSmall v.shape) (s : Stocks v k) (none : k.replaced ≡ 0)
-    (tried : TriedNode face v 2 old (naming k.era (number_in_word (get_or k.words (k.free - 1) 0))) done w) (hits : done ≡ true) where
+module _ (face : ℕ → ℕ → List (ℕ × ℕ) → List ℕ) (v w : SeatView) (k : StockFacts) (old birth : ℕ) (done : Bool) (some : 0 < k.free) (small : IsSmall v.shape) (s : Stocks v k) (none : k.replaced ≡ 0)
+    (tried : TriedNode face v 2 old (naming birth (number_in_word (get_or k.words (k.free - 1) 0))) done w) (hits : done ≡ true) where
   abbrev number : ℕ
   number = number_in_word (get_or k.words (k.free - 1) 0)
 
-  t : TriesNode face v 2 old number (naming k.era number) tried.found w
-  t = told face v w k 2 old number done s refl tried
+  t : TriesNode face v 2 old number (naming birth number) tried.found w
+  t = told face v w k 2 old birth number done s some refl tried
 
   hit : tried.found ≡ old
   hit = tried.decided.0 hits

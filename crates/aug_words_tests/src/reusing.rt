@@ -3,6 +3,7 @@
 ghost use Rattle.std.specs.Prelude.{◌≡◌, ◌<◌, ◌≤◌, ◌+◌, ◌-◌, ℕ, Some, IfOk, IfSome, true, false, slice_index};
 ghost use Rattle.aug_core.specs.Faces.{face};
 ghost use Rattle.aug_core.specs.Effects.{IsFilled};
+ghost use Rattle.aug_core.specs.Records.{first_era};
 ghost use Rattle.aug_core.specs.declared.view.Reserved.{Reserved};
 ghost use Rattle.aug_words.specs.Seats.{AreTogether};
 ghost use Rattle.aug_words.specs.Stocks.{Stocks, number_in_word};
@@ -51,7 +52,7 @@ fn look<A: Monoid, B: Monoid>(pass: &mut WordPass<'_, A, B>, stock: &Stock) -> O
     ensures stocks { Stocks pass.new.view stock.now }
 {
     let from = pass.load_node(NODE);
-    if from >> 24 > stock.era() {
+    if !stock.covers(from) {
         return None;
     }
     Some(pass.load_record_word(from % (1 << 24), RecordField::Count))
@@ -66,10 +67,10 @@ fn refill<A: Monoid, B: Monoid>(pass: &mut WordPass<'_, A, B>, stock: &Stock) ->
     requires reserved { (x : Reserved) × (pass.old.view.reserved ≡ Some x) }
     ensures same { (pass.new.table ≡ pass.old.table) × (pass.new.view.shape ≡ pass.old.view.shape) }
     ensures stocks { Stocks pass.new.view stock.now }
-    ensures filled { IfSome result (λ from. IsFilled (face A.parts B.parts) pass.new.view 2 from (number_in_word (slice_index stock.now.words (stock.now.free - 1)))) }
+    ensures filled { IfSome result (λ from. IsFilled (face A.parts B.parts) pass.new.view 2 from (first_era stock.now.era) (number_in_word (slice_index stock.now.words (stock.now.free - 1)))) }
 {
     let from = pass.load_node(NODE);
-    if from >> 24 > stock.era() {
+    if !stock.covers(from) {
         return None;
     }
     let left = pass.load_leaf(0);
@@ -90,12 +91,13 @@ fn publish<A: Monoid, B: Monoid>(
     requires stocks { Stocks pass.old.view stock.old }
     requires some { 0 < stock.old.free }
     requires none { stock.old.replaced ≡ 0 }
-    requires filled { IsFilled (face A.parts B.parts) pass.old.view 2 from (number_in_word (slice_index stock.old.words (stock.old.free - 1))) }
+    requires filled { IsFilled (face A.parts B.parts) pass.old.view 2 from (first_era stock.old.era) (number_in_word (slice_index stock.old.words (stock.old.free - 1))) }
     ensures together { AreTogether words.now pass.new }
     ensures stocks { Stocks pass.new.view stock.new }
     ensures none { stock.new.replaced ≡ 0 }
 {
-    if !stock.try_node(pass, NODE, from) {
+    let birth = stock.birth_over(0, 0);
+    if !stock.try_node(pass, NODE, from, birth) {
         return false;
     }
     stock.retire(pass, words);
@@ -140,11 +142,12 @@ fn try_once<A: Monoid, B: Monoid>(
     }
 }
 
-// A turn: the next record is spoilt, an era is reserved, and a try is made.
+// A turn: the next record is spoilt, an era is reserved, if that is asked with all later ones, and a try is made.
 fn take_turn<A: Monoid, B: Monoid>(
     pass: &mut WordPass<'_, A, B>,
     stock: &mut Stock,
     words: &Words<A, B>,
+    later: bool,
 ) -> Turn
     requires together { AreTogether words.now pass.old }
     requires small { IsSmall words.now.shape }
@@ -161,7 +164,7 @@ fn take_turn<A: Monoid, B: Monoid>(
         return Turn::Full;
     }
     spoil(pass, stock);
-    if !stock.reserve(pass, words) {
+    if !stock.reserve(pass, words, later) {
         return Turn::Late;
     }
     let done = try_once(pass, stock, words);
@@ -190,6 +193,7 @@ fn take_turns<A: Monoid, B: Monoid>(
     words: &Words<A, B>,
     times: u32,
     moves: bool,
+    later: bool,
 ) -> Turns
     requires together { AreTogether words.now pass.old }
     requires small { IsSmall words.now.shape }
@@ -207,7 +211,7 @@ fn take_turns<A: Monoid, B: Monoid>(
         torn: 0,
     };
     for _ in 0..times {
-        match take_turn(pass, stock, words) {
+        match take_turn(pass, stock, words, later) {
             Turn::Published => {
                 made.published = made.published.saturating_add(1);
                 if moves {
@@ -276,16 +280,17 @@ fn work(words: &WordsOf, hand: Hand, times: u32, moves: bool) -> Turns
 {
     let Hand { half, mut stock } = hand;
     let mut pass = words.pass(half);
-    take_turns(&mut pass, &mut stock, words, times, moves)
+    take_turns(&mut pass, &mut stock, words, times, moves, false)
 }
 
-// How many turns of 1,000 publish while another pass stands still with an era that it reserved, how many of 1,000 once it let go of that or was dropped, and how
-// many records the stock has then.
+// How many turns of 1,000 publish while another pass stands still with an era that it reserved, if that is asked with all later ones, how many of 1,000 once it let
+// go of that or was dropped, and how many records the stock has then.
 fn beside_a_holder(
     alloc: Global,
     records: u32,
     moves: bool,
     drops: bool,
+    later: bool,
 ) -> Result<([u32; 2], usize), AllocError> {
     let (words, mut lead) = opened(alloc, records)?;
     let Hand { half, mut stock } = next_hand(alloc, &mut lead, &words, 0)?;
@@ -295,13 +300,13 @@ fn beside_a_holder(
         stock: mut other,
     } = next_hand(alloc, &mut lead, &words, 1)?;
     let mut holder = words.pass(half);
-    other.reserve(&mut holder, &words);
-    let beside = take_turns(&mut pass, &mut stock, &words, 1_000, moves).published;
+    other.reserve(&mut holder, &words, later);
+    let beside = take_turns(&mut pass, &mut stock, &words, 1_000, moves, later).published;
     if !drops {
         other.release(&mut holder, &words);
     }
     drop(holder);
-    let after = take_turns(&mut pass, &mut stock, &words, 1_000, moves).published;
+    let after = take_turns(&mut pass, &mut stock, &words, 1_000, moves, later).published;
     Ok(([beside, after], stock.size()))
 }
 
@@ -310,23 +315,36 @@ fn beside_a_holder(
 fn a_reservation_holds_what_lived_in_its_era(rt: HostRuntime) -> Result<(), AllocError> {
     equal(
         &rt,
-        beside_a_holder(rt.alloc(), 2, false, false)?,
+        beside_a_holder(rt.alloc(), 2, false, false, false)?,
         ([2, 1_000], 2),
     );
     equal(
         &rt,
-        beside_a_holder(rt.alloc(), 30, false, false)?,
+        beside_a_holder(rt.alloc(), 30, false, false, false)?,
         ([30, 1_000], 30),
     );
     equal(
         &rt,
-        beside_a_holder(rt.alloc(), 2, true, false)?,
+        beside_a_holder(rt.alloc(), 2, true, false, false)?,
         ([2, 1_000], 2),
     );
     equal(
         &rt,
-        beside_a_holder(rt.alloc(), 3, true, false)?,
+        beside_a_holder(rt.alloc(), 3, true, false, false)?,
         ([1_000, 1_000], 3),
+    );
+    Ok(())
+}
+
+// One of an era and all later ones holds all that is retired.
+#[test]
+fn a_reservation_of_all_later_eras_holds_what_is_retired(
+    rt: HostRuntime,
+) -> Result<(), AllocError> {
+    equal(
+        &rt,
+        beside_a_holder(rt.alloc(), 30, true, false, true)?,
+        ([30, 1_000], 30),
     );
     Ok(())
 }
@@ -336,12 +354,12 @@ fn a_reservation_holds_what_lived_in_its_era(rt: HostRuntime) -> Result<(), Allo
 fn a_dropped_pass_holds_what_it_reserved(rt: HostRuntime) -> Result<(), AllocError> {
     equal(
         &rt,
-        beside_a_holder(rt.alloc(), 2, true, true)?,
+        beside_a_holder(rt.alloc(), 2, true, true, false)?,
         ([2, 0], 2),
     );
     equal(
         &rt,
-        beside_a_holder(rt.alloc(), 3, true, true)?,
+        beside_a_holder(rt.alloc(), 3, true, true, false)?,
         ([1_000, 1_000], 3),
     );
     Ok(())

@@ -75,7 +75,7 @@ fn refill<A: Monoid, B: Monoid>(pass: &mut WordPass<'_, A, B>, number: u64) -> u
     requires own { MayStore pass.old.view number }
     ensures same { (pass.new.table ≡ pass.old.table) × (pass.new.view.shape ≡ pass.old.view.shape) }
     ensures own { MayStore pass.new.view number }
-    ensures filled { IsFilled (face A.parts B.parts) pass.new.view 2 result number }
+    ensures filled { IsFilled (face A.parts B.parts) pass.new.view 2 result 0 number }
 {
     let from = pass.load_node(NODE);
     let left = pass.load_leaf(0);
@@ -90,7 +90,7 @@ fn publish<A: Monoid, B: Monoid>(pass: &mut WordPass<'_, A, B>, from: u64, numbe
     requires bits { pass.old.view.shape.bits ≡ 1 }
     requires round { pass.old.view.shape.reservations ≡ 0 }
     requires own { MayStore pass.old.view number }
-    requires filled { IsFilled (face A.parts B.parts) pass.old.view 2 from number }
+    requires filled { IsFilled (face A.parts B.parts) pass.old.view 2 from 0 number }
     ensures same { (pass.new.table ≡ pass.old.table) × (pass.new.view.shape ≡ pass.old.view.shape) }
     ensures own { result ≡ false → MayStore pass.new.view number }
 {

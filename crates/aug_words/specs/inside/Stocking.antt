@@ -1,17 +1,18 @@
 -- What a stock's fields keep, and what sorting and loading do.
 use Rattle.std.specs.Prelude.{◌≡◌, ℕ, suc, zero, ◌+◌, ◌^◌, ◌<◌, ◌≤◌, List, ◌++◌, length, map, slice_index}
 use Rattle.aug_core.specs.Effects.{on_first}
+use Rattle.aug_core.specs.Records.{first_era}
 use Rattle.aug_core.specs.Reclaiming.{passed_record}
 use Rattle.aug_core.specs.declared.view.Held.{Held}
 use Rattle.aug_core.specs.declared.view.Owned.{Owned}
 use Rattle.aug_core.specs.declared.view.SeatView.{SeatView}
 use Rattle.aug_words.specs.Stocks.{StockFacts, IsHeld, birth_in_word, scan_steps}
 
--- the three kinds of records fill the stock, and there is room for the era in a word
+-- the three kinds of records fill the stock, and there is room for the first era that is reserved in a word
 pub record IsStock (words deaths : List ℕ) (free replaced era : ℕ) : Type 0 where
   pub few : free + replaced ≤ length words
   pub long : length deaths ≡ length words
-  pub small : era < 2 ^ 40
+  pub small : first_era era < 2 ^ 40
 
 -- a record after so many reservations were loaded
 abbrev pub passed_all : (ℕ → ℕ) → ℕ → Owned → Owned

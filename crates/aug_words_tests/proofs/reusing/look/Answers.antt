@@ -1,4 +1,5 @@
-use Rattle.std.proofs.Common.{inl, ◌≤◌, ap, ◌∙◌, arith}
+use Rattle.std.proofs.Common.{inl, ◌≤◌, ap, sym, ◌∙◌}
+use Rattle.std.proofs.lemmas.Bool.{leb-true}
 use Rattle.aug_core.specs.Faces.{face}
 use Rattle.aug_core.specs.declared.view.SeatView.{SeatView}
 use Rattle.aug_words.specs.Stocks.{birth_in_word}
@@ -6,7 +7,7 @@ use Rattle.aug_words_tests.proofs.ReuseTests.{guards, stocks_same}
 use Rattle.aug_words_tests.proofs.reusing.look.Goals as goal
 
 pub load_record_word-requires : goal.load_record_word-requires
-load_record_word-requires g c = let era = c.era.ensures in let test = c.if-from-era.false in let low : birth_in_word c.load_node-from.result ≤ c.args.stock.now.era = omega arith in
+load_record_word-requires g c = let test = c.covers.ensures in let low : birth_in_word c.load_node-from.result ≤ c.args.stock.now.era = leb-true _ _ (sym test ∙ c.if-not-covers.false) in
     inl (guards (face g.A.Monoid.parts g.B.Monoid.parts) c.args.pass.now.view c.load_node-from.new.self.view c.args.stock.now c.load_node-from.result c.requires.small c.requires.stocks c.load_node-from.ensures.view c.requires.reserved.0 c.requires.reserved.1 low)
 
 pub returns-clause-stocks : goal.returns-clause-stocks

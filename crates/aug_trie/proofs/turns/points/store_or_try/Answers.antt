@@ -1,6 +1,6 @@
 use Rattle.std.proofs.Common.{arith, refl}
 use Rattle.aug_trie.proofs.Publishing.{quiet_try}
-use Rattle.aug_words.proofs.Passes.{plainly}
+use Rattle.aug_words.proofs.Passes.{told_plainly}
 use Rattle.aug_core.specs.Faces.{face}
 use Rattle.aug_trie.proofs.Going.{quiet_storing}
 use Rattle.aug_trie.proofs.Advancing.{may_store_word, may_try, try_over, record_on, knows_old, room_old}
@@ -27,5 +27,5 @@ pub returns-then-count-eq-RECORD_WORDS-clause-step : goal.returns-then-count-eq-
 returns-then-count-eq-RECORD_WORDS-clause-step g c = let m = g.A.Monoid.parts in let n = g.B.Monoid.parts in let told = c.try_node.ensures.view in
     let kn = knows_old m n c.requires.begun.0 c.args.node c.args.number c.args.filling c.args.pass.now.view c.requires.begun.1 in record {
       table = c.try_node.ensures.table;
-      view = quiet_try (face m n) c.args.pass.now.view c.try_node.new.self.view c.args.node _ c.args.number told.found c.try_node.result told.decided (told.told c.args.number (plainly c.args.pass.now.view (room_old m n c.requires.begun.0 c.args.node c.args.number c.args.filling c.args.pass.now.view c.requires.begun.1).keeps_records c.args.number)) kn;
+      view = quiet_try (face m n) c.args.pass.now.view c.try_node.new.self.view c.args.node _ c.args.number told.found c.try_node.result told.decided (told_plainly (room_old m n c.requires.begun.0 c.args.node c.args.number c.args.filling c.args.pass.now.view c.requires.begun.1).keeps_records (may_store_word m n c.requires.begun.0 c.args.node c.args.number c.args.filling c.args.pass.now.view c.requires.begun.1) told) kn;
     }

@@ -1,5 +1,6 @@
 use Rattle.std.proofs.Common.{ap, subst, sym, ◌≡◌, ◌∙◌, ◌<◌, ◌≤◌, ℕ, arith, rules}
 use Rattle.aug_core.specs.Places.{Shape, reservation_place}
+use Rattle.aug_core.specs.Records.{first_era}
 use Rattle.aug_core.specs.Reclaiming.{Reserves, own_reservation}
 use Rattle.aug_core.specs.declared.view.SeatView.{SeatView}
 use Rattle.aug_core.proofs.EraSteps.{reserves_era}
@@ -17,7 +18,7 @@ store-requires g c = let sits = c.self.invariant.sits in let wide = sits.placed.
     let at : c.reservation.result ≡ reservation_place v.shape c.self.inside.lane = c.reservation.ensures ∙ ap (λ (z : Shape). reservation_place z c.self.inside.lane) (one_shape _ _ _ _ c.self.view_is c.words.view_is c.requires.together) in
     let own : reservation_place v.shape c.self.inside.lane ≡ own_reservation v = ap (reservation_place v.shape) (own_lane_is _ _ _ _ seat) in
     let slots = subst (λ (k : Known). HasReservations k.view) (sym c.self.view_is) c.requires.slots in let low = seat.exists in
-    let known = subst (λ (k : Known). c.args.era ≤ k.view.reached) (sym c.self.view_is) c.requires.reached in
+    let known = subst (λ (k : Known). first_era c.args.era ≤ k.view.reached) (sym c.self.view_is) c.requires.reached in
     (sits.seated, omega arith, reserves_era _ _ _ _ (reservation_place v.shape c.self.inside.lane) _ c.args.era _ seat.live seat.no_slot (omega arith) (omega arith) (has_reservation _ _ _ _ seat slots) own (let some = c.requires.some_era in omega arith) known)
 
 pub invariant_of-self : goal.invariant_of-self

@@ -1,5 +1,5 @@
 -- The records of a lane, as its pass keeps them.
-use Rattle.std.proofs.Common.{Some, true, false, ◌≡◌, ◌≢◌, ◌⊎◌, inl, inr, ℕ, zero, suc, ◌+◌, ◌-◌, ◌*◌, ◌^◌, ◌<◌, ◌≤◌, max, Bool, not, eqb-true, eq-eqb, ne_eqb, List, [], ◌∷◌, ◌++◌, length, map, get_or, set, length-set, get_or-set_same, get_or-set_other, length-append, if◌then◌else◌, append_assoc, add-one, refl, sym, ap, ◌∙◌, subst, ⊎_elim, arith}
+use Rattle.std.proofs.Common.{Some, true, false, ◌≡◌, ◌≢◌, ◌⊎◌, inl, inr, ℕ, zero, suc, ◌+◌, ◌-◌, ◌*◌, ◌^◌, ◌<◌, ◌≤◌, Bool, not, eqb-true, eq-eqb, ne_eqb, List, [], ◌∷◌, ◌++◌, length, map, get_or, set, length-set, get_or-set_same, get_or-set_other, length-append, if◌then◌else◌, append_assoc, add-one, refl, sym, ap, ◌∙◌, subst, ⊎_elim, arith}
 use Rattle.std.specs.Prelude.{Option, ◌==◌, unwrap_or, option_map}
 use Rattle.std.proofs.lemmas.Bool.{cases_eq, cases_lt}
 use Rattle.std.proofs.lemmas.List.{append-nil, map-id}
@@ -27,7 +27,7 @@ use Rattle.aug_core.proofs.Counting.{at_longer, at_after}
 use Rattle.aug_core.proofs.Owning.{map_listed, filter_listed, with_long}
 use Rattle.aug_core.proofs.Clients.{after_store, new_lane_owns, may_store_same, may_store_publishing}
 use Rattle.aug_words.specs.Seats.{IsNextLane, TriedNode}
-use Rattle.aug_words.specs.Stocks.{naming, number_in_word, birth_in_word, reserving, StockFacts, OpensStock, HasReplaced, HasWaiting, Stocks, scan_steps, IsHeld, ReservesAnew, Scans}
+use Rattle.aug_words.specs.Stocks.{naming, number_in_word, birth_in_word, StockFacts, OpensStock, HasReplaced, HasWaiting, Stocks, scan_steps, IsHeld, ReservesAnew, Scans}
 use Rattle.aug_words.specs.inside.Stocking.{passed_all, passing_all, HasLoaded, Sorts}
 
 -- ---- words that name records
@@ -495,14 +495,14 @@ module _ (face : ℕ → ℕ → List (ℕ × ℕ) → List ℕ) (v w : SeatView
       stocks_on v w k k.era s (ap (λ (z : SeatView). z.shape) miss.0) (ap (λ (z : SeatView). z.held) miss.0) (s.era ∙ ap reserved_by (sym miss.0))
 
 -- an era was loaded and reserved, and perhaps turned in between
-module _ (v u t w : SeatView) (found place era : ℕ) (more : List StepTaken) (later : Bool) (loaded : LoadsEra v found u) (after : t ≡ record u { reached = t.reached; steps = u.steps ++ more }) (few : length more ≤ 1) (is : era ≡ reserving later (max found 1)) (r : Reserves t place era w) where
+module _ (v u t w : SeatView) (found place era : ℕ) (more : List StepTaken) (word : ℕ → ℕ) (loaded : LoadsEra v found u) (after : t ≡ record u { reached = t.reached; steps = u.steps ++ more }) (few : length more ≤ 1) (is : era ≡ word found) (r : Reserves t place era w) where
   same_u : u ≡ record v { reached = found; steps = v.steps ++ load_era (era_place v.shape) found ∷ [] }
   same_u = loaded.stepped
 
   same_t : t ≡ record v { reached = t.reached; steps = (v.steps ++ load_era (era_place v.shape) found ∷ []) ++ more }
   same_t = after ∙ (λ i. record (same_u i) { reached = t.reached; steps = (ap (λ (z : SeatView). z.steps) same_u i) ++ more })
 
-  pub reserves_anew : ReservesAnew later v w era
+  pub reserves_anew : ReservesAnew word v w era
   reserves_anew = record {
     now = r.now;
     same = r.stepped ∙ (λ i. record (same_t i) { reserved = Some r.now; reached = t.reached; steps = t.steps ++ store_reservation place era ∷ [] }) ∙ (λ i. record v { reserved = Some r.now; reached = ap (λ (z : SeatView). z.reached) (sym r.stepped) i; steps = ap (λ (z : SeatView). z.steps) (sym r.stepped) i });
@@ -524,8 +524,8 @@ pub not_turned : (u t : SeatView) → t ≡ u → t ≡ record u { reached = t.r
 not_turned u t is = is ∙ (λ i. record u { reached = ap (λ (z : SeatView). z.reached) (sym is) i; steps = sym (append-nil u.steps) i })
 
 -- the stock stays
-pub stocks_anew : (later : Bool) (v w : SeatView) (k : StockFacts) (era : ℕ) → Stocks v k → ReservesAnew later v w era → Stocks w (record k { era = era })
-stocks_anew later v w k era s r = stocks_on v w k era s (ap (λ (z : SeatView). z.shape) r.same) (ap (λ (z : SeatView). z.held) r.same) (sym r.era_is ∙ ap reserved_by (sym r.same))
+pub stocks_anew : (word : ℕ → ℕ) (v w : SeatView) (k : StockFacts) (era : ℕ) → Stocks v k → ReservesAnew word v w era → Stocks w (record k { era = era })
+stocks_anew word v w k era s r = stocks_on v w k era s (ap (λ (z : SeatView). z.shape) r.same) (ap (λ (z : SeatView). z.held) r.same) (sym r.era_is ∙ ap reserved_by (sym r.same))
 
 -- the stock of a pass that was just handed out
 pub opens_stock : (face : ℕ → ℕ → List (ℕ × ℕ) → List ℕ) (lead after v : SeatView) (lane : ℕ) → IsNextLane lead lane → HandsLaneOut face lead after v → OpensStock v

@@ -1,7 +1,7 @@
 -- The records of a lane as its pass keeps them, in a table that uses records again: first those that it may write, then those that it replaced since it last
 -- retired any, and then those that wait until no reservation holds them. In a table of 1 bit and two lanes with the records of three updates each, lane 1
 -- opens with the records 5, 6 and 7, all of which it may write. Once it published 7 in place of the root's record 1, it may write 5 and 6, and the third is 1.
-use Rattle.std.specs.Prelude.{◌≡◌, ℕ, suc, zero, ◌+◌, ◌*◌, ◌/◌, ◌%◌, ◌^◌, ◌<◌, ◌≤◌, max, Bool, true, if◌then◌else◌, Some, None, List, [], ◌∷◌, ◌++◌, length, slice_index}
+use Rattle.std.specs.Prelude.{◌≡◌, ℕ, suc, zero, ◌+◌, ◌-◌, ◌*◌, ◌/◌, ◌%◌, ◌^◌, ◌<◌, ◌≤◌, max, min, true, Some, None, List, [], ◌∷◌, ◌++◌, length, slice_index}
 use Rattle.aug_core.specs.Places.{Shape, record_count, record_words, era_place, reservation_place}
 use Rattle.aug_core.specs.Lanes.{first_record, lane_records}
 use Rattle.aug_core.specs.Kinds.{load_era, load_reservation}
@@ -94,19 +94,23 @@ pub record Scans (v : SeatView) (k : StockFacts) (w : SeatView) (after : StockFa
   pub keeps : (length after.words ≡ length k.words) × (after.replaced ≡ k.replaced)
   pub held : (i : ℕ) → after.free ≤ i → i < length after.words → (slot : ℕ) × (slot < v.shape.reservations) × IsHeld (eras slot) (birth_in_word (slice_index after.words i)) (slice_index after.deaths i)
 
--- a reservation of an era, or of that and all later ones
-abbrev pub reserving : Bool → ℕ → ℕ
-reserving later era = if later then 2 ^ 63 + era else era
+-- a reservation of the era that was found: no era is before 1, to which the first who finds 0 moves it on
+abbrev pub that_era : ℕ → ℕ
+that_era found = max found 1
 
--- the view loaded the era and reserved it, or that and all later ones. No era is before 1, to which the first who finds 0 moves it on
-pub record ReservesAnew (later : Bool) (v w : SeatView) (era : ℕ) : Type 0 where
+-- and of that era, or the last for which there is room in a word, and all later ones
+abbrev pub later_eras : ℕ → ℕ
+later_eras found = 2 ^ 63 + min found (2 ^ 40 - 1)
+
+-- the view loaded the era and reserved what this makes of it
+pub record ReservesAnew (word : ℕ → ℕ) (v w : SeatView) (era : ℕ) : Type 0 where
   pub now : Reserved
   pub same : w ≡ record v { reserved = Some now; reached = w.reached; steps = w.steps }
   pub found : ℕ
   pub more : List StepTaken
   pub steps : w.steps ≡ v.steps ++ load_era (era_place v.shape) found ∷ more
   pub few : length more ≤ 2
-  pub era_found : era ≡ reserving later (max found 1)
+  pub era_found : era ≡ word found
   pub slot : now.slot ≡ own_lane v.held
   pub era_is : now.era ≡ era
   pub closed : IsClosed v.shape v.seen (floor_of now)

@@ -9,7 +9,7 @@ ghost use Rattle.aug_core.specs.Records.{first_era};
 ghost use Rattle.aug_core.specs.Reclaiming.{releasing, own_reservation};
 ghost use Rattle.aug_words.specs.Reservations.{HasReservations, MayRetire, Retires};
 ghost use Rattle.aug_words.specs.Seats.{AreTogether, StaysAt, TriedNode};
-ghost use Rattle.aug_words.specs.Stocks.{IsHeld, IsLate, OpensStock, ReservesAnew, Scans, Stocks, birth_in_word, naming, number_in_word, reserving};
+ghost use Rattle.aug_words.specs.Stocks.{IsHeld, IsLate, OpensStock, ReservesAnew, Scans, Stocks, birth_in_word, later_eras, naming, number_in_word, that_era};
 ghost use Rattle.aug_words.specs.inside.Stocking.{HasLoaded, Sorts};
 
 use crate::pass::WordPass;
@@ -38,16 +38,6 @@ fn birth_in_word(word: u64) -> u64
     ensures { result ≡ birth_in_word word }
 {
     word >> 24
-}
-
-// The word of a reservation of an era, or of that and all later ones.
-fn reservation(era: u64, later: bool) -> u64
-    requires { (1 ≤ era) × (era < 2 ^ 40) }
-    ensures word { result ≡ reserving later era }
-    ensures first { first_era result ≡ era }
-    ensures some { 1 ≤ result }
-{
-    if later { LATER + era } else { era }
 }
 
 // Whether one of these reservations holds a record. 0 is none.
@@ -279,12 +269,11 @@ impl Stock {
         self.free = first + 1;
     }
 
-    /// Reserves the era that it loads, or that and all later ones. False if there is no era left: they have 40 bits.
+    /// Reserves the era that it loads. False if there is no era left: they have 40 bits.
     pub fn reserve<A: Monoid, B: Monoid>(
         &mut self,
         pass: &mut WordPass<A, B>,
         words: &Words<A, B>,
-        later: bool,
     ) -> bool
         requires together { AreTogether words.now pass.old }
         requires slots { HasReservations pass.old.view }
@@ -292,7 +281,7 @@ impl Stock {
         ensures table { pass.new.table ≡ pass.old.table }
         ensures shape { pass.new.view.shape ≡ pass.old.view.shape }
         ensures stocks { Stocks pass.new.view self.new }
-        ensures reserves { OnTrue result (ReservesAnew later pass.old.view pass.new.view self.new.era) }
+        ensures reserves { OnTrue result (ReservesAnew that_era pass.old.view pass.new.view self.new.era) }
         ensures late { OnFalse result (IsLate pass.old.view pass.new.view) }
         ensures same { self.new ≡ record self.old { era = self.new.era } }
     {
@@ -304,10 +293,28 @@ impl Stock {
         if era >= ERAS {
             return false;
         }
-        let reserved = reservation(era, later);
-        pass.reserve_era(words, reserved);
-        self.era = reserved;
+        pass.reserve_era(words, era);
+        self.era = era;
         true
+    }
+
+    /// Reserves the era that it loads and all later ones: no record that the pass loads from then on is born too late, and whatever is retired then is held.
+    pub fn reserve_later<A: Monoid, B: Monoid>(
+        &mut self,
+        pass: &mut WordPass<A, B>,
+        words: &Words<A, B>,
+    )
+        requires together { AreTogether words.now pass.old }
+        requires slots { HasReservations pass.old.view }
+        requires stocks { Stocks pass.old.view self.old }
+        ensures step { StaysAt pass.old pass.new (ReservesAnew later_eras pass.old.view pass.new.view self.new.era) }
+        ensures stocks { Stocks pass.new.view self.new }
+        ensures same { self.new ≡ record self.old { era = self.new.era } }
+    {
+        let found = pass.load_era(words);
+        let later = LATER + found.min(ERAS - 1);
+        pass.reserve_era(words, later);
+        self.era = later;
     }
 
     /// Lets go of the era that was reserved.

@@ -142,6 +142,28 @@ fn try_once<A: Monoid, B: Monoid>(
     }
 }
 
+// Reserves the era, or that and all later ones. False if there is none left.
+fn reserve<A: Monoid, B: Monoid>(
+    pass: &mut WordPass<'_, A, B>,
+    stock: &mut Stock,
+    words: &Words<A, B>,
+    later: bool,
+) -> bool
+    requires together { AreTogether words.now pass.old }
+    requires small { IsSmall words.now.shape }
+    requires stocks { Stocks pass.old.view stock.old }
+    ensures together { AreTogether words.now pass.new }
+    ensures stocks { Stocks pass.new.view stock.new }
+    ensures same { stock.new ≡ record stock.old { era = stock.new.era } }
+    ensures reserved { result ≡ true → (x : Reserved) × (pass.new.view.reserved ≡ Some x) }
+{
+    if later {
+        stock.reserve_later(pass, words);
+        return true;
+    }
+    stock.reserve(pass, words)
+}
+
 // A turn: the next record is spoilt, an era is reserved, if that is asked with all later ones, and a try is made.
 fn take_turn<A: Monoid, B: Monoid>(
     pass: &mut WordPass<'_, A, B>,
@@ -164,7 +186,7 @@ fn take_turn<A: Monoid, B: Monoid>(
         return Turn::Full;
     }
     spoil(pass, stock);
-    if !stock.reserve(pass, words, later) {
+    if !reserve(pass, stock, words, later) {
         return Turn::Late;
     }
     let done = try_once(pass, stock, words);
@@ -300,7 +322,7 @@ fn beside_a_holder(
         stock: mut other,
     } = next_hand(alloc, &mut lead, &words, 1)?;
     let mut holder = words.pass(half);
-    other.reserve(&mut holder, &words, later);
+    reserve(&mut holder, &mut other, &words, later);
     let beside = take_turns(&mut pass, &mut stock, &words, 1_000, moves, later).published;
     if !drops {
         other.release(&mut holder, &words);

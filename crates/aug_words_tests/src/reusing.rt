@@ -249,6 +249,128 @@ fn take_turns<A: Monoid, B: Monoid>(
     made
 }
 
+// How many of 100 turns of another pass publish, if it is their moment, while this one stands still.
+fn beside<A: Monoid, B: Monoid>(
+    other: &mut WordPass<'_, A, B>,
+    theirs: &mut Stock,
+    words: &Words<A, B>,
+    now: bool,
+) -> u32
+    requires together { AreTogether words.now other.old }
+    requires small { IsSmall words.now.shape }
+    requires stocks { Stocks other.old.view theirs.old }
+    requires none { theirs.old.replaced ≡ 0 }
+    ensures together { AreTogether words.now other.new }
+    ensures stocks { Stocks other.new.view theirs.new }
+    ensures none { theirs.new.replaced ≡ 0 }
+{
+    if !now {
+        return 0;
+    }
+    take_turns(other, theirs, words, 100, true, false).published
+}
+
+// As `look`, with the turns of another pass between its steps, and how many of these published.
+fn look_slowly<A: Monoid, B: Monoid>(
+    pass: &mut WordPass<'_, A, B>,
+    stock: &Stock,
+    other: &mut WordPass<'_, A, B>,
+    theirs: &mut Stock,
+    words: &Words<A, B>,
+    at: u32,
+) -> (Option<u64>, u32)
+    requires small { IsSmall pass.old.view.shape × IsSmall words.now.shape }
+    requires stocks { Stocks pass.old.view stock.now }
+    requires reserved { (x : Reserved) × (pass.old.view.reserved ≡ Some x) }
+    requires other { AreTogether words.now other.old × Stocks other.old.view theirs.old × (theirs.old.replaced ≡ 0) }
+    ensures same { (pass.new.table ≡ pass.old.table) × (pass.new.view.shape ≡ pass.old.view.shape) × (pass.new.view.reserved ≡ pass.old.view.reserved) }
+    ensures stocks { Stocks pass.new.view stock.now }
+    ensures other { AreTogether words.now other.new × Stocks other.new.view theirs.new × (theirs.new.replaced ≡ 0) }
+{
+    let from = pass.load_node(NODE);
+    let made = beside(other, theirs, words, at == 2);
+    if !stock.covers(from) {
+        return (None, made);
+    }
+    let count = pass.load_record_word(from % (1 << 24), RecordField::Count);
+    (Some(count), made)
+}
+
+// As `refill`, with the turns of another pass after one of its steps.
+fn refill_slowly<A: Monoid, B: Monoid>(
+    pass: &mut WordPass<'_, A, B>,
+    stock: &Stock,
+    other: &mut WordPass<'_, A, B>,
+    theirs: &mut Stock,
+    words: &Words<A, B>,
+    at: u32,
+) -> (Option<u64>, u32)
+    requires small { IsSmall pass.old.view.shape × IsSmall words.now.shape }
+    requires stocks { Stocks pass.old.view stock.now }
+    requires some { 0 < stock.now.free }
+    requires reserved { (x : Reserved) × (pass.old.view.reserved ≡ Some x) }
+    requires other { AreTogether words.now other.old × Stocks other.old.view theirs.old × (theirs.old.replaced ≡ 0) }
+    ensures same { (pass.new.table ≡ pass.old.table) × (pass.new.view.shape ≡ pass.old.view.shape) }
+    ensures stocks { Stocks pass.new.view stock.now }
+    ensures filled { IfSome result.0 (λ from. IsFilled (face A.parts B.parts) pass.new.view 2 from (first_era stock.now.era) (number_in_word (slice_index stock.now.words (stock.now.free - 1)))) }
+    ensures other { AreTogether words.now other.new × Stocks other.new.view theirs.new × (theirs.new.replaced ≡ 0) }
+{
+    let from = pass.load_node(NODE);
+    let first = beside(other, theirs, words, at == 4);
+    if !stock.covers(from) {
+        return (None, first);
+    }
+    let left = pass.load_leaf(0);
+    let second = beside(other, theirs, words, at == 5);
+    let right = pass.load_leaf(1);
+    let third = beside(other, theirs, words, at == 6);
+    fill(pass, stock.next(), words_over::<A, B>(left, right));
+    let made = first.saturating_add(second).saturating_add(third);
+    (Some(from), made)
+}
+
+// As `try_once`, with the turns of another pass after one of its steps, and how many of these published.
+fn try_slowly<A: Monoid, B: Monoid>(
+    pass: &mut WordPass<'_, A, B>,
+    stock: &mut Stock,
+    other: &mut WordPass<'_, A, B>,
+    theirs: &mut Stock,
+    words: &Words<A, B>,
+    at: u32,
+) -> (Turn, u32)
+    requires together { AreTogether words.now pass.old × IsSmall words.now.shape }
+    requires stocks { Stocks pass.old.view stock.old }
+    requires some { 0 < stock.old.free }
+    requires none { stock.old.replaced ≡ 0 }
+    requires reserved { (x : Reserved) × (pass.old.view.reserved ≡ Some x) }
+    requires other { AreTogether words.now other.old × Stocks other.old.view theirs.old × (theirs.old.replaced ≡ 0) }
+    ensures together { AreTogether words.now pass.new }
+    ensures stocks { Stocks pass.new.view stock.new }
+    ensures none { stock.new.replaced ≡ 0 }
+    ensures other { AreTogether words.now other.new × Stocks other.new.view theirs.new × (theirs.new.replaced ≡ 0) }
+{
+    let first = beside(other, theirs, words, at == 1);
+    let (count, second) = look_slowly(pass, stock, other, theirs, words, at);
+    let looked = first.saturating_add(second);
+    match count {
+        None => return (Turn::Late, looked),
+        Some(2) => {}
+        Some(_) => return (Turn::Torn, looked),
+    }
+    let third = beside(other, theirs, words, at == 3);
+    let (filled, fourth) = refill_slowly(pass, stock, other, theirs, words, at);
+    let fifth = beside(other, theirs, words, at == 7);
+    let made = looked
+        .saturating_add(third)
+        .saturating_add(fourth)
+        .saturating_add(fifth);
+    match filled {
+        None => (Turn::Late, made),
+        Some(from) if publish(pass, stock, words, from) => (Turn::Published, made),
+        Some(_) => (Turn::Lost, made),
+    }
+}
+
 // A pass without its table, and the stock of its lane.
 #[derive(Drop)]
 struct Hand {
@@ -330,6 +452,53 @@ fn beside_a_holder(
     drop(holder);
     let after = take_turns(&mut pass, &mut stock, &words, 1_000, moves, later).published;
     Ok(([beside, after], stock.size()))
+}
+
+// A turn of a pass that stands still after one of its steps while another makes 100 turns: whether it published, was late, lost the exchange or read what no
+// record has, how many of those 100 published, and how many of 100 more once it ended.
+fn interrupted(alloc: Global, at: u32) -> Result<([bool; 4], u32, u32), AllocError> {
+    let (words, mut lead) = opened(alloc, 4)?;
+    let Hand { half, mut stock } = next_hand(alloc, &mut lead, &words, 0)?;
+    let mut pass = words.pass(half);
+    let Hand {
+        half,
+        stock: mut theirs,
+    } = next_hand(alloc, &mut lead, &words, 1)?;
+    let mut other = words.pass(half);
+    if stock.free() == 0 {
+        return Err(AllocError);
+    }
+    let first = beside(&mut other, &mut theirs, &words, at == 0);
+    if !reserve(&mut pass, &mut stock, &words, false) {
+        return Err(AllocError);
+    }
+    let (turn, made) = try_slowly(&mut pass, &mut stock, &mut other, &mut theirs, &words, at);
+    stock.release(&mut pass, &words);
+    let came = [
+        matches!(turn, Turn::Published),
+        matches!(turn, Turn::Late),
+        matches!(turn, Turn::Lost),
+        matches!(turn, Turn::Torn),
+    ];
+    let after = beside(&mut other, &mut theirs, &words, true);
+    Ok((came, first.saturating_add(made), after))
+}
+
+// Before it reserved it is not disturbed. Then it reads what it guards, and finds a record that was made too late, or once it loaded the node, another one there.
+#[test]
+fn a_pass_stands_still_after_any_step(rt: HostRuntime) -> Result<(), AllocError> {
+    let published = [true, false, false, false];
+    let late = [false, true, false, false];
+    let lost = [false, false, true, false];
+    let rows = [published, late, late, late, lost, lost, lost, lost];
+    for at in 0..8 {
+        equal(
+            &rt,
+            interrupted(rt.alloc(), at as u32)?,
+            (rows[at], 100, 100),
+        );
+    }
+    Ok(())
 }
 
 // While the era stands, all that is retired is held, and once it goes on, two records: the one that the node had, and the one that replaced that.

@@ -1,8 +1,7 @@
 -- How the steps of a pass go together.
-use Rattle.std.proofs.Common.{◌≡◌, ◌≢◌, Bool, true, ℕ, ◌+◌, ◌*◌, ◌≤◌, false, List, [], ◌∷◌, ◌++◌, length, append_assoc, length-append, sym, refl, ap, ◌∙◌, subst, arith}
+use Rattle.std.proofs.Common.{◌≡◌, ℕ, ◌+◌, ◌*◌, ◌≤◌, false, List, [], ◌∷◌, ◌++◌, length, append_assoc, length-append, sym, refl, ap, ◌∙◌, subst, arith}
 use Rattle.std.proofs.lemmas.List.{append-nil}
-use Rattle.std.proofs.lemmas.List.Elements.{All-nil, All-cons, All-append}
-use mathlib.Core.Bool.{false≢true}
+use Rattle.std.proofs.lemmas.List.Elements.{All-append}
 use Rattle.aug_core.specs.Places.{Shape}
 use Rattle.aug_core.specs.Book.{ArePrefixes, IsFresh}
 use Rattle.aug_core.specs.Counts.{changes_of}
@@ -10,14 +9,13 @@ use Rattle.aug_core.specs.Kinds.{store_record_word}
 use Rattle.aug_core.specs.Effects.{HoldsOnly, own_lane, on_first, storing_in, last_replaced, publishing_from, with_changes, stepping, storing, seeing, beginning, publishing, changing, MayStore, MayChange, Sees, KnowsBook}
 use Rattle.aug_core.specs.declared.step.StepTaken.{StepTaken}
 use Rattle.aug_core.specs.declared.view.Change.{Change}
-use Rattle.aug_core.specs.declared.step.StepKind.{StepKind}
-use Rattle.aug_core.specs.declared.step.StepKind.TheVariants.{LoadLeaf, TryLeaf, LoadNode, TryNode, LoadRecordWord, StoreRecordWord, TakeLane, FinishLane, LoadEra, TurnEra, LoadReservation, StoreReservation}
 use Rattle.aug_core.specs.declared.view.Held.{Held}
 use Rattle.aug_core.specs.declared.view.Replaced.{Replaced}
 use Rattle.aug_core.specs.declared.view.SeatView.{SeatView}
 use Rattle.aug_core.proofs.Books.{fresh_now, fresh_on}
 use Rattle.aug_core.proofs.Clients.{may_store_same, may_store_on, may_store_changing, may_store_publishing}
 use Rattle.aug_core.proofs.Fits.{book_shown, book_as}
+use Rattle.aug_words.proofs.Stocking.{tries_leaf, quiet, no_try_none, no_try_one}
 use Rattle.aug_trie.specs.inside.RoundState.{eras_of}
 use Rattle.aug_trie.specs.inside.Points.{QuietStep}
 use Rattle.aug_trie.specs.inside.Goes.{HasRoom, Took, TookBetween, Goes}
@@ -25,29 +23,11 @@ use Rattle.aug_core.proofs.PrefixLemmas.{book_refl, book_trans}
 
 -- ---- steps, one after another
 
--- the kind is that of an exchange of a leaf
-abbrev tries_leaf : StepKind → Bool
-tries_leaf TryLeaf = true
-tries_leaf LoadLeaf = false
-tries_leaf LoadNode = false
-tries_leaf TryNode = false
-tries_leaf LoadRecordWord = false
-tries_leaf StoreRecordWord = false
-tries_leaf TakeLane = false
-tries_leaf FinishLane = false
-tries_leaf LoadEra = false
-tries_leaf TurnEra = false
-tries_leaf LoadReservation = false
-tries_leaf StoreReservation = false
-
-abbrev pub quiet : StepTaken → Type 0
-quiet taken = taken.kind ≢ TryLeaf
-
 pub took_none : (v w : SeatView) → w.steps ≡ v.steps → Took v w 0
-took_none v w is = record { more = []; steps = is ∙ sym (append-nil v.steps); count = refl; no_try = All-nil quiet }
+took_none v w is = record { more = []; steps = is ∙ sym (append-nil v.steps); count = refl; no_try = no_try_none }
 
 pub took_one : (v w : SeatView) (taken : StepTaken) → tries_leaf taken.kind ≡ false → w.steps ≡ v.steps ++ taken ∷ [] → Took v w 1
-took_one v w taken other is = record { more = taken ∷ []; steps = is; count = refl; no_try = All-cons quiet taken [] (λ is. false≢true (sym other ∙ ap tries_leaf is)) (All-nil quiet) }
+took_one v w taken other is = record { more = taken ∷ []; steps = is; count = refl; no_try = no_try_one taken other }
 
 pub took_on : (u v w : SeatView) (m n k : ℕ) → m + n ≡ k → Took u v m → Took v w n → Took u w k
 took_on u v w m n k total a b = let x = a.count in let y = b.count in record {

@@ -1,7 +1,6 @@
 -- An update at its leaf, and what it comes to once the leaf is shown.
 use Rattle.std.proofs.Common.{◌≡◌, ◌==◌, inl, inr, ℕ, ◌^◌, ◌<◌, ◌≤◌, Bool, true, false, if◌then◌else◌, List, [], ◌∷◌, length, sym, refl, ap, ◌∙◌, subst, ⊎_elim, arith}
 use Rattle.std.proofs.lemmas.Bool.{cases_eq, cases_Bool, false≢true}
-use Rattle.std.proofs.lemmas.List.Elements.{All-nil}
 use Rattle.aug_core.specs.Book.{ArePrefixes}
 use Rattle.aug_core.specs.inside.Shows.{Lifts}
 use Rattle.aug_core.specs.Effects.{HoldsOnly, BeginsAtLeaf, made_by, KnowsBook}
@@ -20,7 +19,7 @@ use Rattle.aug_trie.specs.inside.Climbing.{CameBy, FitsRequest}
 use Rattle.aug_trie.specs.inside.Goes.{Goes}
 use Rattle.aug_trie.specs.inside.Counted.{HasCounts, insertions_by, removals_by}
 use Rattle.aug_trie.proofs.Counters.{counted_nothing, counted_made}
-use Rattle.aug_trie.proofs.Going.{quiet}
+use Rattle.aug_words.proofs.Stocking.{no_try_none}
 use Rattle.aug_trie.proofs.Requesting.{made_few}
 use Rattle.aug_trie.proofs.Updating.{steps0, first, came_back, gone, goes_hit, goes_miss, lets_there, outcome_there, steps1, taken, done_hit, done_miss, done_by, came_up, came_late}
 
@@ -47,7 +46,7 @@ module _ {f : ℕ → ℕ → List (ℕ × ℕ) → List ℕ} {v w0 : SeatView} 
     steps = steps0 f v w0 key word request low kn l;
     few_steps = omega arith;
     tried = λ lets. absurd (false≢true (sym other ∙ lets));
-    refusing = λ _. (refl, All-nil quiet);
+    refusing = λ _. (refl, no_try_none);
     gained = [];
     few_gained = omega arith;
     counts = counted_nothing request (outcome_at_once request) (nothing_at_once request);
@@ -66,7 +65,7 @@ module _ {f : ℕ → ℕ → List (ℕ × ℕ) → List ℕ} {v w0 : SeatView} 
       more = taken f v w0 key word request low kn l fits lets w1 ok h only t ∷ [];
       steps = steps1 f v w0 key word request low kn l fits lets w1 ok h only t;
       few_steps = omega arith;
-      tried = λ _. record { found = t.found; rest = []; second = refl; says = done_by f v w0 key word request low kn l fits lets w1 ok h only t done comes; no_other = All-nil quiet };
+      tried = λ _. record { found = t.found; rest = []; second = refl; says = done_by f v w0 key word request low kn l fits lets w1 ok h only t done comes; no_other = no_try_none };
       refusing = λ other. absurd (false≢true (sym other ∙ lets));
       gained = gained;
       few_gained = few;

@@ -1,8 +1,9 @@
 -- The records of a lane, as its pass keeps them.
 use Rattle.std.proofs.Common.{Some, true, false, ◌≡◌, ◌≢◌, ◌⊎◌, inl, inr, ℕ, zero, suc, ◌+◌, ◌-◌, ◌*◌, ◌^◌, ◌<◌, ◌≤◌, Bool, not, eqb-true, eq-eqb, ne_eqb, List, [], ◌∷◌, ◌++◌, length, map, get_or, set, length-set, get_or-set_same, get_or-set_other, length-append, if◌then◌else◌, append_assoc, add-one, refl, sym, ap, ◌∙◌, subst, ⊎_elim, arith}
-use Rattle.std.specs.Prelude.{Option, ◌==◌, unwrap_or, option_map}
+use Rattle.std.specs.Prelude.{Option, ◌==◌, unwrap_or, option_map, All}
 use Rattle.std.proofs.lemmas.Bool.{cases_eq, cases_lt}
 use Rattle.std.proofs.lemmas.List.{append-nil, map-id}
+use Rattle.std.proofs.lemmas.List.Elements.{All-nil, All-cons, All-append}
 use Rattle.std.proofs.lemmas.List.FromFn.{length-map-range_with_len}
 use mathlib.Core.Bool.{false≢true}
 use Rattle.aug_core.specs.Places.{Shape, record_start, record_count, record_words, era_place, reservation_place}
@@ -15,6 +16,8 @@ use Rattle.aug_core.specs.Kinds.{load_era, load_reservation, store_reservation, 
 use Rattle.aug_core.specs.Records.{Lists, IsClosed, floor_of}
 use Rattle.aug_core.specs.Effects.{HoldsOnly, MayStore, handed_out, in_state, own_lane, own_lane_place, reserved_by, on_first, storing, storing_in, with_word, last_replaced, publishing, publishing_from, ReplacesOther, TriesNode}
 use Rattle.aug_core.specs.Reclaiming.{holds_in, passed_if, passed_record, scanning_in, scanning, retired_in, retiring_in, retiring, reaching, Reserves}
+use Rattle.aug_core.specs.declared.step.StepKind.{StepKind}
+use Rattle.aug_core.specs.declared.step.StepKind.TheVariants.{LoadLeaf, TryLeaf, LoadNode, TryNode, LoadRecordWord, StoreRecordWord, TakeLane, FinishLane, LoadEra, TurnEra, LoadReservation, StoreReservation}
 use Rattle.aug_core.specs.declared.step.StepTaken.{StepTaken}
 use Rattle.aug_core.specs.declared.view.Held.{Held}
 use Rattle.aug_core.specs.declared.view.Life.{Life}
@@ -29,6 +32,32 @@ use Rattle.aug_core.proofs.Clients.{after_store, new_lane_owns, may_store_same, 
 use Rattle.aug_words.specs.Seats.{IsNextLane, TriedNode}
 use Rattle.aug_words.specs.Stocks.{naming, number_in_word, birth_in_word, StockFacts, OpensStock, HasReplaced, HasWaiting, Stocks, scan_steps, IsHeld, ReservesAnew, Scans}
 use Rattle.aug_words.specs.inside.Stocking.{passed_all, passing_all, HasLoaded, Sorts}
+
+-- ---- steps that exchange no leaf
+
+-- the kind is that of an exchange of a leaf
+abbrev pub tries_leaf : StepKind → Bool
+tries_leaf TryLeaf = true
+tries_leaf LoadLeaf = false
+tries_leaf LoadNode = false
+tries_leaf TryNode = false
+tries_leaf LoadRecordWord = false
+tries_leaf StoreRecordWord = false
+tries_leaf TakeLane = false
+tries_leaf FinishLane = false
+tries_leaf LoadEra = false
+tries_leaf TurnEra = false
+tries_leaf LoadReservation = false
+tries_leaf StoreReservation = false
+
+abbrev pub quiet : StepTaken → Type 0
+quiet taken = taken.kind ≢ TryLeaf
+
+pub no_try_none : All quiet []
+no_try_none = All-nil quiet
+
+pub no_try_one : (taken : StepTaken) → tries_leaf taken.kind ≡ false → All quiet (taken ∷ [])
+no_try_one taken other = All-cons quiet taken [] (λ is. false≢true (sym other ∙ ap tries_leaf is)) (All-nil quiet)
 
 -- ---- words that name records
 
@@ -495,15 +524,15 @@ module _ (face : ℕ → ℕ → List (ℕ × ℕ) → List ℕ) (v w : SeatView
       stocks_on v w k k.era s (ap (λ (z : SeatView). z.shape) miss.0) (ap (λ (z : SeatView). z.held) miss.0) (s.era ∙ ap reserved_by (sym miss.0))
 
 -- an era was loaded and reserved, and perhaps turned in between
-module _ (v u t w : SeatView) (found place era : ℕ) (more : List StepTaken) (word : ℕ → ℕ) (loaded : LoadsEra v found u) (after : t ≡ record u { reached = t.reached; steps = u.steps ++ more }) (few : length more ≤ 1) (is : era ≡ word found) (r : Reserves t place era w) where
+module _ (v u t w : SeatView) (found place era : ℕ) (more : List StepTaken) (word : ℕ → ℕ) (loaded : LoadsEra v found u) (after : t ≡ record u { reached = t.reached; steps = u.steps ++ more }) (none : All quiet more) (is : era ≡ word found) (r : Reserves t place era w) where
   same_u : u ≡ record v { reached = found; steps = v.steps ++ load_era (era_place v.shape) found ∷ [] }
   same_u = loaded.stepped
 
   same_t : t ≡ record v { reached = t.reached; steps = (v.steps ++ load_era (era_place v.shape) found ∷ []) ++ more }
   same_t = after ∙ (λ i. record (same_u i) { reached = t.reached; steps = (ap (λ (z : SeatView). z.steps) same_u i) ++ more })
 
-  pub reserves_anew : ReservesAnew word v w era
-  reserves_anew = record {
+  pub reserves_anew : (most : ℕ) → length more + 2 ≤ most → ReservesAnew word most v w era
+  reserves_anew most few = record {
     now = r.now;
     same = r.stepped ∙ (λ i. record (same_t i) { reserved = Some r.now; reached = t.reached; steps = t.steps ++ store_reservation place era ∷ [] }) ∙ (λ i. record v { reserved = Some r.now; reached = ap (λ (z : SeatView). z.reached) (sym r.stepped) i; steps = ap (λ (z : SeatView). z.steps) (sym r.stepped) i });
     found = found;
@@ -511,6 +540,7 @@ module _ (v u t w : SeatView) (found place era : ℕ) (more : List StepTaken) (w
     steps = ap (λ (z : SeatView). z.steps) r.stepped ∙ ap (λ (z : SeatView). z.steps ++ store_reservation place era ∷ []) same_t ∙ append_assoc (v.steps ++ load_era (era_place v.shape) found ∷ []) more (store_reservation place era ∷ [])
         ∙ append_assoc v.steps (load_era (era_place v.shape) found ∷ []) (more ++ store_reservation place era ∷ []);
     few = let long = length-append more (store_reservation place era ∷ []) in omega arith;
+    no_try = All-append quiet more (store_reservation place era ∷ []) none (no_try_one (store_reservation place era) refl);
     era_found = is;
     slot = r.slot ∙ ap (λ (z : SeatView). own_lane z.held) same_t;
     era_is = r.era_is;
@@ -524,8 +554,8 @@ pub not_turned : (u t : SeatView) → t ≡ u → t ≡ record u { reached = t.r
 not_turned u t is = is ∙ (λ i. record u { reached = ap (λ (z : SeatView). z.reached) (sym is) i; steps = sym (append-nil u.steps) i })
 
 -- the stock stays
-pub stocks_anew : (word : ℕ → ℕ) (v w : SeatView) (k : StockFacts) (era : ℕ) → Stocks v k → ReservesAnew word v w era → Stocks w (record k { era = era })
-stocks_anew word v w k era s r = stocks_on v w k era s (ap (λ (z : SeatView). z.shape) r.same) (ap (λ (z : SeatView). z.held) r.same) (sym r.era_is ∙ ap reserved_by (sym r.same))
+pub stocks_anew : (word : ℕ → ℕ) (most : ℕ) (v w : SeatView) (k : StockFacts) (era : ℕ) → Stocks v k → ReservesAnew word most v w era → Stocks w (record k { era = era })
+stocks_anew word most v w k era s r = stocks_on v w k era s (ap (λ (z : SeatView). z.shape) r.same) (ap (λ (z : SeatView). z.held) r.same) (sym r.era_is ∙ ap reserved_by (sym r.same))
 
 -- the stock of a pass that was just handed out
 pub opens_stock : (face : ℕ → ℕ → List (ℕ × ℕ) → List ℕ) (lead after v : SeatView) (lane : ℕ) → IsNextLane lead lane → HandsLaneOut face lead after v → OpensStock v

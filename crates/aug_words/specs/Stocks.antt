@@ -1,14 +1,18 @@
 -- The records of a lane as its pass keeps them, in a table that uses records again: first those that it may write, then those that it replaced since it last
 -- retired any, and then those that wait until no reservation holds them. In a table of 1 bit and two lanes with the records of three updates each, lane 1
 -- opens with the records 5, 6 and 7, all of which it may write. Once it published 7 in place of the root's record 1, it may write 5 and 6, and the third is 1.
-use Rattle.std.specs.Prelude.{◌≡◌, ℕ, suc, zero, ◌+◌, ◌-◌, ◌*◌, ◌/◌, ◌%◌, ◌^◌, ◌<◌, ◌≤◌, max, min, true, Some, None, List, [], ◌∷◌, ◌++◌, length, slice_index}
+use Rattle.std.specs.Prelude.{◌≡◌, ◌≢◌, ℕ, suc, zero, ◌+◌, ◌-◌, ◌*◌, ◌/◌, ◌%◌, ◌^◌, ◌<◌, ◌≤◌, max, min, true, false, Some, None, List, [], ◌∷◌, ◌++◌, length, slice_index, All}
 use Rattle.aug_core.specs.Places.{Shape, record_count, record_words, era_place, reservation_place}
+use Rattle.aug_core.specs.Addresses.{IsInner, left_of, right_of}
+use Rattle.aug_core.specs.Book.{history_of, ArePrefixes, IsFresh, IsNewest, IsBook, IsLoaded}
 use Rattle.aug_core.specs.Lanes.{first_record, lane_records}
 use Rattle.aug_core.specs.Kinds.{load_era, load_reservation}
 use Rattle.aug_core.specs.Records.{Lists, IsClosed, floor_of}
-use Rattle.aug_core.specs.Effects.{HoldsOnly, MayStore, reserved_by, own_lane}
+use Rattle.aug_core.specs.Effects.{HoldsOnly, MayStore, Covers, reserved_by, own_lane}
 use Rattle.aug_core.specs.Reclaiming.{holds_in}
+use Rattle.aug_core.specs.declared.step.StepKind.TheVariants.{TryLeaf}
 use Rattle.aug_core.specs.declared.step.StepTaken.{StepTaken}
+use Rattle.aug_core.specs.declared.view.Entry.{Entry}
 use Rattle.aug_core.specs.declared.view.Held.{Held}
 use Rattle.aug_core.specs.declared.view.Owned.{Owned}
 use Rattle.aug_core.specs.declared.view.Replaced.{Replaced}
@@ -102,14 +106,15 @@ that_era found = max found 1
 abbrev pub later_eras : ℕ → ℕ
 later_eras found = 2 ^ 63 + min found (2 ^ 40 - 1)
 
--- the view loaded the era and reserved what this makes of it
-pub record ReservesAnew (word : ℕ → ℕ) (v w : SeatView) (era : ℕ) : Type 0 where
+-- the view loaded the era and reserved what this makes of it, by at most so many steps
+pub record ReservesAnew (word : ℕ → ℕ) (most : ℕ) (v w : SeatView) (era : ℕ) : Type 0 where
   pub now : Reserved
   pub same : w ≡ record v { reserved = Some now; reached = w.reached; steps = w.steps }
   pub found : ℕ
   pub more : List StepTaken
   pub steps : w.steps ≡ v.steps ++ load_era (era_place v.shape) found ∷ more
-  pub few : length more ≤ 2
+  pub few : length more + 1 ≤ most
+  pub no_try : All (λ taken. taken.kind ≢ TryLeaf) more
   pub era_found : era ≡ word found
   pub slot : now.slot ≡ own_lane v.held
   pub era_is : now.era ≡ era
@@ -120,3 +125,55 @@ pub record IsLate (v w : SeatView) : Type 0 where
   pub found : ℕ
   pub loaded : LoadsEra v found w
   pub late : 2 ^ 40 ≤ found
+
+-- the view reserved something
+abbrev pub HasReserved : SeatView → Type 0
+HasReserved v = (x : Reserved) × (v.reserved ≡ Some x)
+
+-- the view made at most so many steps, none of which tried a leaf. It has seen more, and what it reserved may be another; nothing else in it changed
+pub record GoesBy (most : ℕ) (v w : SeatView) : Type 0 where
+  pub same : w ≡ record v { seen = w.seen; reserved = w.reserved; reached = w.reached; steps = w.steps }
+  pub later : ArePrefixes v.seen w.seen
+  pub fresh : IsFresh v.shape w.seen v.seen
+  pub more : List StepTaken
+  pub steps : w.steps ≡ v.steps ++ more
+  pub few : length more ≤ most
+  pub no_try : All (λ taken. taken.kind ≢ TryLeaf) more
+
+-- this entry of a place is no older than the newest one that the view has seen
+abbrev pub IsNoOlder : SeatView → ℕ → ℕ → Type 0
+IsNoOlder v q i = length (history_of v.seen q) ≤ i + 1
+
+module _ (face : ℕ → ℕ → List (ℕ × ℕ) → List ℕ) where
+  -- the words of a node and of its two children were loaded, the node's first
+  pub record LoadsThree (s : Shape) (v : SeatView) (q : ℕ) (r : ℕ × ℕ × ℕ) (w : SeatView) : Type 0 where
+    pub book : IsBook face s w.seen
+    pub is_loaded : IsLoaded s w.seen q r.0
+    pub left_named : r.1 ≡ is_loaded.left.word
+    pub right_named : r.2 ≡ is_loaded.right.word
+    pub no_older : IsNoOlder v q is_loaded.index
+    pub left_no_older : IsNoOlder v (left_of s q) is_loaded.left_index
+    pub right_no_older : IsNoOlder v (right_of s q) is_loaded.right_index
+
+  -- and what is reserved holds the records that they name
+  pub record HoldsThree (s : Shape) (v : SeatView) (q : ℕ) (r : ℕ × ℕ × ℕ) (w : SeatView) : Type 0 where
+    pub loads : LoadsThree s v q r w
+    pub covers : Covers w q loads.is_loaded.index loads.is_loaded.from
+    pub left_covers : IsInner s (left_of s q) → Covers w (left_of s q) loads.is_loaded.left_index loads.is_loaded.left
+    pub right_covers : IsInner s (right_of s q) → Covers w (right_of s q) loads.is_loaded.right_index loads.is_loaded.right
+
+  -- within so many steps
+  pub record LoadsOver (most : ℕ) (v : SeatView) (q : ℕ) (r : ℕ × ℕ × ℕ) (w : SeatView) : Type 0 where
+    pub goes : GoesBy most v w
+    pub holds : HoldsThree w.shape v q r w
+
+  -- the word of a node was loaded within so many steps, and what is reserved holds the record that it names
+  pub record LoadsHeld (most : ℕ) (v : SeatView) (q r : ℕ) (w : SeatView) : Type 0 where
+    pub goes : GoesBy most v w
+    pub book : IsBook face w.shape w.seen
+    pub index : ℕ
+    pub entry : Entry
+    pub newest : IsNewest w.seen q index entry
+    pub found : r ≡ entry.word
+    pub shown : entry.passed ≡ false
+    pub covers : Covers w q index entry

@@ -281,7 +281,7 @@ impl Stock {
         ensures table { pass.new.table ≡ pass.old.table }
         ensures shape { pass.new.view.shape ≡ pass.old.view.shape }
         ensures stocks { Stocks pass.new.view self.new }
-        ensures reserves { OnTrue result (ReservesAnew that_era pass.old.view pass.new.view self.new.era) }
+        ensures reserves { OnTrue result (ReservesAnew that_era 3 pass.old.view pass.new.view self.new.era) }
         ensures late { OnFalse result (IsLate pass.old.view pass.new.view) }
         ensures same { self.new ≡ record self.old { era = self.new.era } }
     {
@@ -307,7 +307,7 @@ impl Stock {
         requires together { AreTogether words.now pass.old }
         requires slots { HasReservations pass.old.view }
         requires stocks { Stocks pass.old.view self.old }
-        ensures step { StaysAt pass.old pass.new (ReservesAnew later_eras pass.old.view pass.new.view self.new.era) }
+        ensures step { StaysAt pass.old pass.new (ReservesAnew later_eras 2 pass.old.view pass.new.view self.new.era) }
         ensures stocks { Stocks pass.new.view self.new }
         ensures same { self.new ≡ record self.old { era = self.new.era } }
     {

@@ -1,53 +1,87 @@
 -- What the tests of records that are used again need: one node over two leaves, in a table with reservations.
-use Rattle.std.proofs.Common.{inr, Some, ◌≡◌, ℕ, zero, suc, true, Bool, ◌+◌, ◌-◌, ◌^◌, ◌<◌, ◌≤◌, eq-eqb, ne_eqb, if◌then◌else◌, List, [], ◌∷◌, ◌++◌, length, get_or, refl, sym, ap, ◌∙◌, subst, ⊎_elim, arith}
+use Rattle.std.proofs.Common.{◌*◌, ◌⊎◌, inr, Some, ◌≡◌, ℕ, zero, suc, true, Bool, ◌+◌, ◌-◌, ◌^◌, ◌<◌, ◌≤◌, eq-eqb, ne_eqb, if◌then◌else◌, List, [], ◌∷◌, ◌++◌, length, get_or, refl, sym, ap, ◌∙◌, subst, ⊎_elim, arith}
 use Rattle.std.specs.Prelude.{Option, unwrap_or, option_map, ◌==◌}
 use Rattle.std.proofs.lemmas.Bool.{cases_eq}
 use mathlib.Core.Option.{some-injective, some-ne-none}
 use Rattle.aug_core.specs.Places.{Shape}
 use Rattle.aug_core.specs.Addresses.{place_count, IsInner, left_of, right_of}
-use Rattle.aug_core.specs.Book.{history_of, At}
-use Rattle.aug_core.specs.Records.{Lists}
-use Rattle.aug_core.specs.Effects.{Covers, LoadsNode, GuardsRecord, on_first, last_replaced, publishing_from, TriesNode}
+use Rattle.aug_core.specs.Book.{history_of, At, IsSerial, IsLoaded}
+use Rattle.aug_core.specs.Records.{Lists, floor_of}
+use Rattle.aug_core.specs.Effects.{Covers, IsFilled, IsBornBy, MayStore, reserved_by, LoadsNode, GuardsRecord, on_first, last_replaced, publishing_from, TriesNode}
 use Rattle.aug_core.specs.declared.view.Entry.{Entry}
 use Rattle.aug_core.specs.declared.view.Replaced.{Replaced}
 use Rattle.aug_core.specs.declared.view.Reserved.{Reserved}
 use Rattle.aug_core.specs.declared.view.SeatView.{SeatView}
+use Rattle.aug_core.specs.inside.Refreshes.{SaysLoaded}
 use Rattle.aug_core.proofs.Books.{at_below}
+use Rattle.aug_core.proofs.Filling.{filled_view, is_filled}
 use Rattle.aug_words.specs.Reservations.{MayRetire}
 use Rattle.aug_words.specs.Seats.{TriedNode}
-use Rattle.aug_words.specs.Stocks.{StockFacts, Stocks, naming, number_in_word, birth_in_word}
-use Rattle.aug_words.proofs.Stocking.{birth_named, number_named, named_used, stocks_on, told}
+use Rattle.aug_words.specs.Stocks.{StockFacts, Stocks, HasReserved, LoadsThree, LoadsOver, LoadsHeld, naming, number_in_word, birth_in_word}
+use Rattle.aug_words.proofs.Held.{covered, word_held}
+use Rattle.aug_words.proofs.Stocking.{number_named, named_used, stocks_on, told}
 use Rattle.aug_words_tests.specs.Reuse.{IsSmall}
-use Rattle.aug_words_tests.proofs.StepTests.{node_inner}
+use Rattle.aug_words_tests.proofs.StepTests.{node_inner, there, there_is}
 
 -- a stock stays where the lane and what is reserved do
 pub stocks_same : (v w : SeatView) (k : StockFacts) → Stocks v k → w.shape ≡ v.shape → w.held ≡ v.held → w.reserved ≡ v.reserved → Stocks w k
 stocks_same v w k s shaped held reserved = stocks_on v w k k.era s shaped held (s.era ∙ ap (λ (z : Option Reserved). unwrap_or (option_map (λ (y : Reserved). y.era) z) 0) (sym reserved))
 
--- ---- a node's record that was made by the era that was reserved
+-- ---- a node's record that what is reserved holds
 
+pub guards_held : (face : ℕ → ℕ → List (ℕ × ℕ) → List ℕ) (most : ℕ) (v w : SeatView) (k : StockFacts) (from : ℕ) → w.shape.bits ≡ 1 → Stocks w k → LoadsHeld face most v 2 from w → GuardsRecord w (number_in_word from)
+guards_held face most v w k from one s l = let inner = node_inner w.shape one in let below = l.book.below 2 l.index l.entry inner l.newest.at in let few = s.numbers in record {
+  place = 2;
+  index = l.index;
+  entry = l.entry;
+  guards = record { inner = inner; at = l.newest.at; covers = l.covers };
+  numbered = sym (ap number_in_word (l.found ∙ l.book.named 2 l.index l.entry inner l.newest.at ∙ named_used w.shape l.entry.birth l.entry.number s.used) ∙ number_named l.entry.birth l.entry.number (omega arith));
+}
+
+-- so something is reserved
+pub reserved_still : (v : SeatView) (q i : ℕ) (e : Entry) → 0 < v.shape.reservations → Covers v q i e → HasReserved v
+reserved_still v q i e used c = ⊎_elim (λ off. absurd (omega arith)) (λ t. (t.0, t.1)) c
+
+-- a word that was loaded alone names one, if that was made by the era that was reserved
 module _ (face : ℕ → ℕ → List (ℕ × ℕ) → List ℕ) (v w : SeatView) (k : StockFacts) (from : ℕ) (small : IsSmall v.shape) (s : Stocks v k) (node : LoadsNode face v 2 from w) (x : Reserved) (is : v.reserved ≡ Some x) (low : birth_in_word from ≤ k.era) where
-  inner : IsInner v.shape 2
-  inner = node_inner v.shape small.bits
+  shaped : w.shape ≡ v.shape
+  shaped = ap (λ (z : SeatView). z.shape) node.stepped
 
-  below : node.entry.number < 2 ^ 24
-  below = let number = node.sees.book.below 2 node.index node.entry inner node.newest.at in let few = s.numbers in omega arith
-
-  word : from ≡ naming node.entry.birth node.entry.number
-  word = node.found ∙ node.sees.book.named 2 node.index node.entry inner node.newest.at ∙ named_used v.shape node.entry.birth node.entry.number s.used
+  same : w.reserved ≡ v.reserved
+  same = ap (λ (z : SeatView). z.reserved) node.stepped
 
   pub covers : (u : SeatView) → u.shape ≡ v.shape → u.reserved ≡ v.reserved → Covers u 2 node.index node.entry
-  covers u shaped same = let born : birth_in_word from ≡ node.entry.birth = ap birth_in_word word ∙ birth_named node.entry.birth node.entry.number below in
-      let era : k.era ≡ x.era = s.era ∙ ap (λ (z : Option Reserved). unwrap_or (option_map (λ (y : Reserved). y.era) z) 0) is in inr (x, same ∙ is, omega arith, (node.held x is).0)
+  covers u shape reserved = subst (λ (z : Shape × Option Reserved). (z.0.reservations ≡ 0) ⊎ ((y : Reserved) × (z.1 ≡ Some y) × (node.entry.birth ≤ y.era) × (floor_of y 2 ≤ node.index))) (λ i. ((shaped ∙ sym shape) i, (same ∙ sym reserved) i))
+      (covered face v w k 2 node.index from node.entry x is same s node.sees.book (node_inner v.shape small.bits) node.newest.at node.found low (node.held x is).0)
 
   pub guards : GuardsRecord w (number_in_word from)
-  guards = let shaped : w.shape ≡ v.shape = ap (λ (z : SeatView). z.shape) node.stepped in record {
-    place = 2;
-    index = node.index;
-    entry = node.entry;
-    guards = record { inner = subst (λ (z : Shape). IsInner z 2) (sym shaped) inner; at = node.newest.at; covers = covers w shaped (ap (λ (z : SeatView). z.reserved) node.stepped) };
-    numbered = sym (ap number_in_word word ∙ number_named node.entry.birth node.entry.number below);
+  guards = guards_held face 1 v w k from (ap (λ (z : Shape). z.bits) shaped ∙ small.bits) (stocks_same v w k s shaped (ap (λ (z : SeatView). z.held) node.stepped) same) (word_held face v w k 2 from x is s (node_inner v.shape small.bits) low node)
+
+-- ---- the next record, filled from the words that were loaded over the two leaves
+
+module _ (face : ℕ → ℕ → List (ℕ × ℕ) → List ℕ) (most : ℕ) (v w : SeatView) (r : ℕ × ℕ × ℕ) (one : w.shape.bits ≡ 1) (l : LoadsOver face most v 2 r w) (five : List ℕ) (are : five ≡ face r.1 r.2 (there 0 r.1 ++ there 1 r.2)) (first : get_or five 0 0 ≡ r.1) (second : get_or five 1 0 ≡ r.2) where
+  abbrev loads : LoadsThree face w.shape v 2 r w
+  loads = l.holds.loads
+
+  abbrev o : IsLoaded w.shape w.seen 2 r.0
+  o = loads.is_loaded
+
+  left_leaf : IsSerial 0 o.left_index o.left
+  left_leaf = let e : 2 ^ w.shape.bits ≡ 2 = ap (λ (b : ℕ). 2 ^ b) one in loads.book.serials 0 o.left_index o.left (omega arith) (subst (λ (q : ℕ). At w.seen q o.left_index o.left) (λ i. 2 * (2 - 2 ^ one i)) o.left_at)
+
+  right_leaf : IsSerial 1 o.right_index o.right
+  right_leaf = let e : 2 ^ w.shape.bits ≡ 2 = ap (λ (b : ℕ). 2 ^ b) one in loads.book.serials 1 o.right_index o.right (omega arith) (subst (λ (q : ℕ). At w.seen q o.right_index o.right) (λ i. 2 * (2 - 2 ^ one i) + 1) o.right_at)
+
+  abbrev says : SaysLoaded face w.shape w.seen 2 r.0 five
+  says = record {
+    is_loaded = o;
+    left_named = sym loads.left_named ∙ sym first;
+    right_named = sym loads.right_named ∙ sym second;
+    five_are = are ∙ (λ i. face (sym first i) (sym second i) (sym (there_is 0 o.left_index r.1 o.left left_leaf (sym loads.left_named)) i ++ sym (there_is 1 o.right_index r.2 o.right right_leaf (sym loads.right_named)) i));
   }
+
+  pub may_publish_over : (birth number : ℕ) (may : MayStore w number) → IsBornBy w birth (reserved_by w) → IsFilled face (filled_view w number five) 2 r.0 birth number
+  may_publish_over birth number may by = let a = left_leaf.unborn in let b = right_leaf.unborn in is_filled w number five may face 2 r.0 birth says l.holds.covers (inr (omega arith)) (inr (omega arith)) by
 
 -- ---- what was replaced, once the node names the next
 

@@ -37,7 +37,7 @@ abbrev pub there : ℕ → ℕ → List (ℕ × ℕ)
 there key word = if eqb (word / 2 ^ 32 % 2) 1 then (key, word % 2 ^ 32) ∷ [] else []
 
 -- they are those of the entry that the word names
-there_is : (key i word : ℕ) (e : Entry) → IsSerial key i e → e.word ≡ word → e.pairs ≡ there key word
+pub there_is : (key i word : ℕ) (e : Entry) → IsSerial key i e → e.word ≡ word → e.pairs ≡ there key word
 there_is key i word e is named =
     let of_leaf = is.named in let fits = is.fits in let odd : i % 2 ≡ word / 2 ^ 32 % 2 = omega arith in let weight : e.weight ≡ word % 2 ^ 32 = omega arith in
     is.there_if_odd ∙ (λ j. if eqb (odd j) 1 then (key, weight j) ∷ [] else [])

@@ -1,12 +1,16 @@
 -- What a stock's fields keep, and what sorting and loading do.
-use Rattle.std.specs.Prelude.{◌≡◌, ℕ, suc, zero, ◌+◌, ◌^◌, ◌<◌, ◌≤◌, List, ◌++◌, length, map, slice_index}
+use Rattle.std.specs.Prelude.{◌≡◌, ℕ, suc, zero, ◌+◌, ◌^◌, ◌<◌, ◌≤◌, Some, List, ◌++◌, length, map, slice_index}
+use Rattle.aug_core.specs.Addresses.{IsInner, left_of, right_of}
+use Rattle.aug_core.specs.Book.{IsBook}
+use Rattle.aug_core.specs.inside.Refreshes.{HasNewest}
 use Rattle.aug_core.specs.Effects.{on_first}
-use Rattle.aug_core.specs.Records.{first_era}
+use Rattle.aug_core.specs.Records.{first_era, floor_of}
 use Rattle.aug_core.specs.Reclaiming.{passed_record}
 use Rattle.aug_core.specs.declared.view.Held.{Held}
 use Rattle.aug_core.specs.declared.view.Owned.{Owned}
+use Rattle.aug_core.specs.declared.view.Reserved.{Reserved}
 use Rattle.aug_core.specs.declared.view.SeatView.{SeatView}
-use Rattle.aug_words.specs.Stocks.{StockFacts, IsHeld, birth_in_word, scan_steps}
+use Rattle.aug_words.specs.Stocks.{StockFacts, IsHeld, birth_in_word, scan_steps, GoesBy, LoadsThree}
 
 -- the three kinds of records fill the stock, and there is room for the first era that is reserved in a word
 pub record IsStock (words deaths : List ℕ) (free replaced era : ℕ) : Type 0 where
@@ -46,3 +50,24 @@ pub record Sorts (eras : List ℕ) (k after : StockFacts) (index : ℕ) : Type 0
   pub past : (i : ℕ) → k.free ≤ i → k.free ≤ was i
   pub freed : (i : ℕ) → k.free ≤ i → i < after.free → (slot : ℕ) → slot < length eras → IsHeld (slice_index eras slot) (birth_in_word (slice_index after.words i)) (slice_index after.deaths i) → ⊥
   pub held : (i : ℕ) → after.free ≤ i → i < index → (slot : ℕ) × (slot < length eras) × IsHeld (slice_index eras slot) (birth_in_word (slice_index after.words i)) (slice_index after.deaths i)
+
+-- what is reserved is the same, and it was made so many steps before
+pub record GoesStill (most : ℕ) (v w : SeatView) : Type 0 where
+  pub goes : GoesBy most v w
+  pub reserves : w.reserved ≡ v.reserved
+
+module _ (face : ℕ → ℕ → List (ℕ × ℕ) → List ℕ) where
+  -- the word of a leaf or of a node was loaded
+  pub record LoadsWord (v : SeatView) (q r : ℕ) (w : SeatView) : Type 0 where
+    pub still : GoesStill 1 v w
+    pub book : IsBook face v.shape w.seen
+    pub newest : HasNewest w.seen q r
+    pub holds : IsInner v.shape q → (x : Reserved) → v.reserved ≡ Some x → floor_of x q ≤ newest.index
+
+  -- those of a node and of its children were loaded, by three steps after what is reserved was
+  pub record LoadsWords (v : SeatView) (q : ℕ) (r : ℕ × ℕ × ℕ) (w : SeatView) : Type 0 where
+    pub still : GoesStill 3 v w
+    pub loads : LoadsThree face v.shape v q r w
+    pub holds : (x : Reserved) → v.reserved ≡ Some x → floor_of x q ≤ loads.is_loaded.index
+    pub left_holds : IsInner v.shape (left_of v.shape q) → (x : Reserved) → v.reserved ≡ Some x → floor_of x (left_of v.shape q) ≤ loads.is_loaded.left_index
+    pub right_holds : IsInner v.shape (right_of v.shape q) → (x : Reserved) → v.reserved ≡ Some x → floor_of x (right_of v.shape q) ≤ loads.is_loaded.right_index

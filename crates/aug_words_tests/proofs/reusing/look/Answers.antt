@@ -1,15 +1,18 @@
-use Rattle.std.proofs.Common.{inl, ◌≤◌, ap, sym, ◌∙◌}
-use Rattle.std.proofs.lemmas.Bool.{leb-true}
+use Rattle.std.proofs.Common.{inl, ap, ◌∙◌}
 use Rattle.aug_core.specs.Faces.{face}
+use Rattle.aug_core.specs.Places.{Shape}
 use Rattle.aug_core.specs.declared.view.SeatView.{SeatView}
-use Rattle.aug_words.specs.Stocks.{birth_in_word}
-use Rattle.aug_words_tests.proofs.ReuseTests.{guards, stocks_same}
+use Rattle.aug_words_tests.proofs.ReuseTests.{guards_held, reserved_still, stocks_same}
 use Rattle.aug_words_tests.proofs.reusing.look.Goals as goal
 
 pub load_record_word-requires : goal.load_record_word-requires
-load_record_word-requires g c = let test = c.covers.ensures in let low : birth_in_word c.load_node-from.result ≤ c.args.stock.now.era = leb-true _ _ (sym test ∙ c.if-not-covers.false) in
-    inl (guards (face g.A.Monoid.parts g.B.Monoid.parts) c.args.pass.now.view c.load_node-from.new.self.view c.args.stock.now c.load_node-from.result c.requires.small c.requires.stocks c.load_node-from.ensures.view c.requires.reserved.0 c.requires.reserved.1 low)
+load_record_word-requires g c = let l = c.load_held-from.ensures.loads.view in let one = ap (λ (z : Shape). z.bits) (ap (λ (z : SeatView). z.shape) l.goes.same ∙ c.requires.together.one_shape) ∙ c.requires.small.bits in
+    inl (guards_held (face g.A.Monoid.parts g.B.Monoid.parts) 8 c.args.pass.now.view c.load_held-from.new.pass.view c.load_held-from.new.self c.load_held-from.result one c.load_held-from.ensures.stocks l)
 
 pub returns-clause-stocks : goal.returns-clause-stocks
-returns-clause-stocks g c = let a = c.load_node-from.ensures.view.stepped in let b = c.load_record_word.ensures.view.stepped in
-    stocks_same c.args.pass.now.view c.load_record_word.new.self.view c.args.stock.now c.requires.stocks (ap (λ (z : SeatView). z.shape) b ∙ ap (λ (z : SeatView). z.shape) a) (ap (λ (z : SeatView). z.held) b ∙ ap (λ (z : SeatView). z.held) a) (ap (λ (z : SeatView). z.reserved) b ∙ ap (λ (z : SeatView). z.reserved) a)
+returns-clause-stocks g c = let b = c.load_record_word.ensures.view.stepped in
+    stocks_same c.load_held-from.new.pass.view c.load_record_word.new.self.view c.load_held-from.new.self c.load_held-from.ensures.stocks (ap (λ (z : SeatView). z.shape) b) (ap (λ (z : SeatView). z.held) b) (ap (λ (z : SeatView). z.reserved) b)
+
+pub returns-clause-reserved : goal.returns-clause-reserved
+returns-clause-reserved g c = let l = c.load_held-from.ensures.loads.view in let x = reserved_still c.load_held-from.new.pass.view 2 l.index l.entry c.load_held-from.ensures.stocks.used l.covers in
+    (x.0, ap (λ (z : SeatView). z.reserved) c.load_record_word.ensures.view.stepped ∙ x.1)

@@ -1,6 +1,7 @@
 -- The words of a node and of its children, loaded so that what is reserved holds the records that they name.
-use Rattle.std.proofs.Common.{◌≡◌, inr, Some, false, ℕ, zero, suc, ◌+◌, ◌-◌, ◌*◌, ◌^◌, ◌<◌, ◌≤◌, List, [], ◌∷◌, ◌++◌, length-append, append_assoc, refl, sym, ap, ◌∙◌, subst, arith}
+use Rattle.std.proofs.Common.{◌≡◌, ◌⊎◌, inl, inr, ◌&&◌, ◌||◌, Bool, nat_le, nat_lt, true, Some, false, ℕ, zero, suc, ◌+◌, ◌-◌, ◌*◌, ◌^◌, ◌<◌, ◌≤◌, List, [], ◌∷◌, ◌++◌, length-append, append_assoc, refl, sym, ap, ◌∙◌, subst, arith}
 use Rattle.std.specs.Prelude.{Option, unwrap_or, option_map}
+use Rattle.std.proofs.lemmas.Bool.{true≢false, leb-true, leb-false, ltb-true, ltb-false, and_cases, and_parts, or_parts, false_from_ne_true}
 use Rattle.std.proofs.lemmas.List.Elements.{All-append}
 use Rattle.aug_core.specs.Places.{Shape, era_place}
 use Rattle.aug_core.specs.Addresses.{IsInner, left_of, right_of}
@@ -12,11 +13,12 @@ use Rattle.aug_core.specs.declared.step.StepTaken.{StepTaken}
 use Rattle.aug_core.specs.declared.view.Entry.{Entry}
 use Rattle.aug_core.specs.declared.view.Reserved.{Reserved}
 use Rattle.aug_core.specs.declared.view.SeatView.{SeatView}
+use Rattle.aug_core.proofs.PlaceLemmas.{double_pow}
 use Rattle.aug_core.proofs.Books.{no_shorter, fresh_now, fresh_on}
-use Rattle.aug_core.proofs.PrefixLemmas.{book_refl, book_trans}
+use Rattle.aug_core.proofs.PrefixLemmas.{book_refl, book_trans, entry_stays}
 use Rattle.aug_core.proofs.Refreshing.{is_loaded}
-use Rattle.aug_words.specs.Stocks.{StockFacts, Stocks, birth_in_word, ReservesAnew, IsLate, GoesBy, HoldsThree, LoadsOver, LoadsHeld}
-use Rattle.aug_words.specs.inside.Stocking.{GoesStill, LoadsWord, LoadsWords}
+use Rattle.aug_words.specs.Stocks.{StockFacts, Stocks, birth_in_word, ReservesAnew, IsLate, GoesBy, HasSeenLater, HasSeenLaterOver, HoldsThree, LoadsOver, LoadsHeld}
+use Rattle.aug_words.specs.inside.Stocking.{covers_three, GoesStill, LoadsWord, LoadsWords}
 use Rattle.aug_words.proofs.Stocking.{tries_leaf, quiet, no_try_one, birth_named, named_used, stocks_on}
 
 -- ---- steps, one after another
@@ -62,9 +64,36 @@ even : (bits q : ℕ) → 2 ^ bits ≤ q → q < 2 ^ (bits + 1) - 1 → 2 ^ bits
 even zero q past inside within = absurd (omega arith)
 even (suc b) q past inside within = omega arith
 
+-- both children of an inner node lie before the end
+inside_right : (bits q : ℕ) → 2 ^ bits ≤ q → q < 2 ^ (bits + 1) - 1 → 2 * (q - 2 ^ bits) + 1 < 2 ^ (bits + 1) - 1
+inside_right bits q past inside = omega (arith, double_pow bits)
+
+far_on : (a b q : ℕ) → a ≡ b → a ≤ 2 * (q - a) → b ≤ 2 * (q - b)
+far_on a b q e x = subst (λ z. z ≤ 2 * (q - z)) e x
+
 -- the stock stays
 pub stocks_still : (most : ℕ) (v w : SeatView) (k : StockFacts) → Stocks v k → GoesStill most v w → Stocks w k
 stocks_still most v w k s c = let is = c.goes.same in stocks_on v w k k.era s (ap (λ (z : SeatView). z.shape) is) (ap (λ (z : SeatView). z.held) is) (s.era ∙ ap (λ (z : Option Reserved). unwrap_or (option_map (λ (y : Reserved). y.era) z) 0) (sym c.reserves))
+
+-- what tests that were passed say
+second_true : (x y : Bool) → x ≡ false → (x || y) ≡ true → y ≡ true
+second_true true y off any = absurd (true≢false off)
+second_true false y off any = any
+
+pub all_early : (era leaves child : ℕ) (r : ℕ × ℕ × ℕ) → covers_three era (nat_lt child leaves) r ≡ true → (birth_in_word r.0 ≤ era) × (leaves ≤ child → (birth_in_word r.1 ≤ era) × (birth_in_word r.2 ≤ era))
+all_early era leaves child r test = let both = and_parts _ _ test in (
+  leb-true _ _ both.0,
+  λ past. let no : nat_lt child leaves ≡ false = false_from_ne_true (nat_lt child leaves) (λ below. let near : child < leaves = ltb-true _ _ below in absurd (omega arith)) in
+      let two = and_parts _ _ (second_true (nat_lt child leaves) _ no both.1) in (leb-true _ _ two.0, leb-true _ _ two.1),
+)
+
+-- what was seen is seen from then on
+pub seen_later_on : (most : ℕ) (v w : SeatView) (q era : ℕ) → GoesBy most v w → HasSeenLater v q era → HasSeenLater w q era
+seen_later_on most v w q era c s = record { inner = subst (λ (z : Shape). IsInner z q) (sym (ap (λ (z : SeatView). z.shape) c.same)) s.inner; index = s.index; entry = s.entry; at = entry_stays c.later q s.index s.entry s.at; later = s.later }
+
+pub seen_over_on : (most : ℕ) (v w : SeatView) (q era : ℕ) → GoesBy most v w → HasSeenLaterOver v q era → HasSeenLaterOver w q era
+seen_over_on most v w q era c s = subst (λ (z : Shape). HasSeenLater w q era ⊎ (HasSeenLater w (left_of z q) era ⊎ HasSeenLater w (right_of z q) era)) (sym (ap (λ (z : SeatView). z.shape) c.same))
+    (elim s [ inl node ↦ inl (seen_later_on most v w q era c node) | inr (inl left) ↦ inr (inl (seen_later_on most v w (left_of v.shape q) era c left)) | inr (inr right) ↦ inr (inr (seen_later_on most v w (right_of v.shape q) era c right)) ])
 
 module _ (face : ℕ → ℕ → List (ℕ × ℕ) → List ℕ) where
   still_seeing : (v w : SeatView) (taken : StepTaken) → tries_leaf taken.kind ≡ false → w ≡ seeing v w.seen taken → Sees face v w → GoesStill 1 v w
@@ -133,6 +162,29 @@ module _ (face : ℕ → ℕ → List (ℕ × ℕ) → List ℕ) where
   pub covered : (v w : SeatView) (k : StockFacts) (q i word : ℕ) (e : Entry) (x : Reserved) → v.reserved ≡ Some x → w.reserved ≡ v.reserved → Stocks v k → IsBook face v.shape w.seen → IsInner v.shape q → At w.seen q i e → word ≡ e.word → birth_in_word word ≤ k.era → floor_of x q ≤ i → Covers w q i e
   covered v w k q i word e x is same s book inner at named early past = let below = book.below q i e inner at in let few = s.numbers in let birth = born_at v.shape w.seen q i word e s.used book inner at named (omega arith) in
       let era : k.era ≡ x.era = s.era ∙ ap (λ (z : Option Reserved). unwrap_or (option_map (λ (y : Reserved). y.era) z) 0) is in inr (x, same ∙ is, omega arith, past)
+
+  -- the record of an entry that it is too early for was born later
+  seen_later : (v w : SeatView) (k : StockFacts) (q i word : ℕ) (e : Entry) → w.shape ≡ v.shape → Stocks v k → IsBook face v.shape w.seen → IsInner v.shape q → At w.seen q i e → word ≡ e.word → nat_le (birth_in_word word) k.era ≡ false → HasSeenLater w q k.era
+  seen_later v w k q i word e same s book inner at named past = let below = book.below q i e inner at in let few = s.numbers in let birth = born_at v.shape w.seen q i word e s.used book inner at named (omega arith) in
+      let late : k.era < birth_in_word word = leb-false _ _ past in record { inner = subst (λ (z : Shape). IsInner z q) (sym same) inner; index = i; entry = e; at = at; later = omega arith }
+
+  pub word_late : (v w : SeatView) (k : StockFacts) (q r : ℕ) → Stocks v k → IsInner v.shape q → nat_le (birth_in_word r) k.era ≡ false → LoadsNode face v q r w → HasSeenLater w q k.era
+  word_late v w k q r s inner past n = seen_later v w k q n.index r n.entry (ap (λ (z : SeatView). z.shape) n.stepped) s n.sees.book inner n.newest.at n.found past
+
+  pub three_late : (v w : SeatView) (k : StockFacts) (q leaves : ℕ) (r : ℕ × ℕ × ℕ) → leaves ≡ 2 ^ v.shape.bits → Stocks v k → IsInner v.shape q → covers_three k.era (nat_lt (2 * (q - leaves)) leaves) r ≡ false → LoadsWords face v q r w → HasSeenLaterOver w q k.era
+  three_late v w k q leaves r are s inner past l = let shaped : w.shape ≡ v.shape = ap (λ (z : SeatView). z.shape) l.still.goes.same in let o = l.loads in let t = o.is_loaded in let inside = inner.inside in let from = inner.past_leaves in
+      let child : (2 ^ v.shape.bits ≤ left_of v.shape q) → IsInner v.shape (left_of v.shape q) × IsInner v.shape (right_of v.shape q) = λ far. (record { past_leaves = far; inside = let n = inside_right v.shape.bits q from inside in omega arith }, record { past_leaves = omega arith; inside = inside_right v.shape.bits q from inside }) in
+      let left : 2 ^ v.shape.bits ≤ left_of v.shape q → nat_le (birth_in_word r.1) k.era ≡ false → HasSeenLater w (left_of v.shape q) k.era =
+      λ far no. seen_later v w k (left_of v.shape q) t.left_index r.1 t.left shaped s o.book (child far).0 t.left_at o.left_named no in
+      let right : 2 ^ v.shape.bits ≤ left_of v.shape q → nat_le (birth_in_word r.2) k.era ≡ false → HasSeenLater w (right_of v.shape q) k.era =
+      λ far no. seen_later v w k (right_of v.shape q) t.right_index r.2 t.right shaped s o.book (child far).1 t.right_at o.right_named no in
+      let below : 2 ^ v.shape.bits ≤ left_of v.shape q → (nat_le (birth_in_word r.1) k.era && nat_le (birth_in_word r.2) k.era) ≡ false → HasSeenLater w (left_of v.shape q) k.era ⊎ HasSeenLater w (right_of v.shape q) k.era =
+      λ far no. elim (and_cases _ _ no) [ inl l ↦ inl (left far l) | inr r ↦ inr (right far r) ] in
+      subst (λ (z : Shape). HasSeenLater w q k.era ⊎ (HasSeenLater w (left_of z q) k.era ⊎ HasSeenLater w (right_of z q) k.era)) (sym shaped)
+      (elim (and_cases _ _ past) [
+        | inl node ↦ inl (seen_later v w k q t.index r.0 t.from shaped s o.book inner t.loaded t.named node)
+        | inr children ↦ (let parts = or_parts (nat_lt (2 * (q - leaves)) leaves) _ children in let far : leaves ≤ 2 * (q - leaves) = ltb-false _ _ parts.0 in inr (below (far_on leaves (2 ^ v.shape.bits) q are far) parts.1))
+      ])
 
   pub word_held : (v w : SeatView) (k : StockFacts) (q r : ℕ) (x : Reserved) → v.reserved ≡ Some x → Stocks v k → IsInner v.shape q → birth_in_word r ≤ k.era → LoadsNode face v q r w → LoadsHeld face 1 v q r w
   word_held v w k q r x is s inner low n = let l = word_of_node_loaded v w q r n in record {

@@ -1,10 +1,10 @@
 -- The records of a lane as its pass keeps them, in a table that uses records again: first those that it may write, then those that it replaced since it last
 -- retired any, and then those that wait until no reservation holds them. In a table of 1 bit and two lanes with the records of three updates each, lane 1
 -- opens with the records 5, 6 and 7, all of which it may write. Once it published 7 in place of the root's record 1, it may write 5 and 6, and the third is 1.
-use Rattle.std.specs.Prelude.{◌≡◌, ◌≢◌, ℕ, suc, zero, ◌+◌, ◌-◌, ◌*◌, ◌/◌, ◌%◌, ◌^◌, ◌<◌, ◌≤◌, max, min, true, false, Some, None, List, [], ◌∷◌, ◌++◌, length, slice_index, All}
+use Rattle.std.specs.Prelude.{◌≡◌, ◌≢◌, ◌⊎◌, ℕ, suc, zero, ◌+◌, ◌-◌, ◌*◌, ◌/◌, ◌%◌, ◌^◌, ◌<◌, ◌≤◌, max, min, true, false, Some, None, List, [], ◌∷◌, ◌++◌, length, slice_index, All}
 use Rattle.aug_core.specs.Places.{Shape, record_count, record_words, era_place, reservation_place}
 use Rattle.aug_core.specs.Addresses.{IsInner, left_of, right_of}
-use Rattle.aug_core.specs.Book.{history_of, ArePrefixes, IsFresh, IsNewest, IsBook, IsLoaded}
+use Rattle.aug_core.specs.Book.{history_of, At, ArePrefixes, IsFresh, IsNewest, IsBook, IsLoaded}
 use Rattle.aug_core.specs.Lanes.{first_record, lane_records}
 use Rattle.aug_core.specs.Kinds.{load_era, load_reservation}
 use Rattle.aug_core.specs.Records.{Lists, IsClosed, floor_of}
@@ -139,6 +139,18 @@ pub record GoesBy (most : ℕ) (v w : SeatView) : Type 0 where
   pub steps : w.steps ≡ v.steps ++ more
   pub few : length more ≤ most
   pub no_try : All (λ taken. taken.kind ≢ TryLeaf) more
+
+-- the view has seen a node's record that was born later than this
+pub record HasSeenLater (v : SeatView) (q era : ℕ) : Type 0 where
+  pub inner : IsInner v.shape q
+  pub index : ℕ
+  pub entry : Entry
+  pub at : At v.seen q index entry
+  pub later : era < entry.birth
+
+-- it has seen one of a node or of one of its children
+abbrev pub HasSeenLaterOver : SeatView → ℕ → ℕ → Type 0
+HasSeenLaterOver v q era = HasSeenLater v q era ⊎ (HasSeenLater v (left_of v.shape q) era ⊎ HasSeenLater v (right_of v.shape q) era)
 
 -- this entry of a place is no older than the newest one that the view has seen
 abbrev pub IsNoOlder : SeatView → ℕ → ℕ → Type 0

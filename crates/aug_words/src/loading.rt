@@ -1,11 +1,11 @@
 //! What a node's record is made of, loaded so that what is reserved holds the records that it names.
-ghost use Rattle.std.specs.Prelude.{◌≡◌, ◌+◌, ◌-◌, ◌*◌, ◌^◌, ◌<◌, ◌≤◌, IfSome, true};
+ghost use Rattle.std.specs.Prelude.{◌≡◌, ◌⊎◌, ◌+◌, ◌-◌, ◌*◌, ◌^◌, ◌<◌, ◌≤◌, IfNone, IfSome, nat_lt};
 ghost use Rattle.aug_core.specs.Addresses.{place_count, IsInner};
 ghost use Rattle.aug_core.specs.Faces.{face};
 ghost use Rattle.aug_words.specs.Reservations.{HasReservations};
 ghost use Rattle.aug_words.specs.Seats.{AreTogether, StaysAt};
-ghost use Rattle.aug_words.specs.Stocks.{GoesBy, HasReserved, LoadsHeld, LoadsOver, Stocks, birth_in_word};
-ghost use Rattle.aug_words.specs.inside.Stocking.{GoesStill, LoadsWord, LoadsWords};
+ghost use Rattle.aug_words.specs.Stocks.{GoesBy, HasReserved, HasSeenLater, HasSeenLaterOver, LoadsHeld, LoadsOver, Stocks};
+ghost use Rattle.aug_words.specs.inside.Stocking.{GoesStill, LoadsWord, LoadsWords, covers_three};
 
 use crate::pass::WordPass;
 use crate::stock::Stock;
@@ -46,8 +46,7 @@ impl Stock {
     // Whether the records that these words of a node and of its children name were born no later than what is reserved. A leaf's word names none.
     fn covers_all(&self, leaves: usize, node: usize, found: (u64, u64, u64)) -> bool
         requires inner { (leaves ≤ node) × (node < 2 * leaves) }
-        ensures node { result ≡ true → birth_in_word found.0 ≤ self.now.era }
-        ensures children { result ≡ true → leaves ≤ 2 * (node - leaves) → (birth_in_word found.1 ≤ self.now.era) × (birth_in_word found.2 ≤ self.now.era) }
+        ensures { result ≡ covers_three self.now.era (nat_lt (2 * (node - leaves)) leaves) found }
     {
         let (from, left, right) = found;
         let over_leaves = 2 * (node - leaves) < leaves;
@@ -68,6 +67,7 @@ impl Stock {
         ensures still { StaysAt pass.old pass.new (GoesStill 3 pass.old.view pass.new.view) }
         ensures stocks { Stocks pass.new.view self.now }
         ensures loads { IfSome result (λ r. LoadsOver (face A.parts B.parts) 3 pass.old.view node r pass.new.view) }
+        ensures late { IfNone result (HasSeenLaterOver pass.new.view node self.now.era) }
     {
         let found = load_words(pass, leaves, node);
         if self.covers_all(leaves, node, found) {
@@ -100,6 +100,7 @@ impl Stock {
         ensures still { StaysAt pass.old pass.new (GoesStill 1 pass.old.view pass.new.view) }
         ensures stocks { Stocks pass.new.view self.now }
         ensures loads { IfSome result (λ r. LoadsHeld (face A.parts B.parts) 1 pass.old.view node r pass.new.view) }
+        ensures late { IfNone result (HasSeenLater pass.new.view node self.now.era) }
     {
         let found = pass.load_node(node);
         if self.covers(found) {
@@ -125,6 +126,7 @@ impl Stock {
         ensures loads { StaysAt pass.old pass.new (LoadsHeld (face A.parts B.parts) 8 pass.old.view node result pass.new.view) }
         ensures stocks { Stocks pass.new.view self.new }
         ensures same { self.new ≡ record self.old { era = self.new.era } }
+        ensures kept { (self.new.era ≡ self.old.era) ⊎ HasSeenLater pass.new.view node self.old.era }
     {
         if let Some(found) = self.try_held(pass, node) {
             return found;
@@ -137,8 +139,8 @@ impl Stock {
         pass.load_node(node)
     }
 
-    /// Loads the words of a node and of its two children, so that what is reserved holds the records that they name. If one was born later, it reserves anew
-    /// and loads all three again, and the next time it reserves all later eras too: so it ends within 14 steps. The table has `leaves` leaves.
+    /// Loads the words of a node, of its left child and of its right child, so that what is reserved holds the records that they name. If one was born later,
+    /// it reserves anew and loads all three again, and the next time it reserves all later eras too: so it ends within 14 steps. The table has `leaves` leaves.
     pub fn load_over<A: Monoid, B: Monoid>(
         &mut self,
         pass: &mut WordPass<A, B>,
@@ -155,6 +157,7 @@ impl Stock {
         ensures loads { StaysAt pass.old pass.new (LoadsOver (face A.parts B.parts) 14 pass.old.view node result pass.new.view) }
         ensures stocks { Stocks pass.new.view self.new }
         ensures same { self.new ≡ record self.old { era = self.new.era } }
+        ensures kept { (self.new.era ≡ self.old.era) ⊎ HasSeenLaterOver pass.new.view node self.old.era }
     {
         if let Some(found) = self.try_over(pass, leaves, node) {
             return found;

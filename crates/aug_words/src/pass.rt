@@ -105,7 +105,7 @@ impl<'r, A: Monoid, B: Monoid> WordPass<'r, A, B> {
     }
 
     /// Replaces a node's word by one that names a record of the pass's own, if the node still has the word that is given. True if it did: then
-    /// the pass's record is published. In a round the word is the record's number, and otherwise it has the era that the pass reserved above that.
+    /// the pass's record is published. In a round the word is the record's number, and otherwise it has its birth above that.
     pub fn try_node(&mut self, node: usize, from: u64, to: u64) -> bool
         requires inner { IsInner self.old.view.shape node }
         requires own { NamesOwn (face A.parts B.parts) self.old.view node from to }

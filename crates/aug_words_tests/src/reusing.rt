@@ -331,7 +331,7 @@ fn refill_slowly<A: Monoid, B: Monoid>(
     (Some(from), made)
 }
 
-// As `try_once`, with the turns of another pass between two of its calls, and how many of these published.
+// As `try_once`, with the turns of another pass between its calls, at 11 before the first two, and how many of these published.
 fn try_anew<A: Monoid, B: Monoid>(
     pass: &mut WordPass<'_, A, B>,
     stock: &mut Stock,
@@ -351,9 +351,9 @@ fn try_anew<A: Monoid, B: Monoid>(
     ensures none { stock.new.replaced ≡ 0 }
     ensures other { AreTogether words.now other.new × Stocks other.new.view theirs.new × (theirs.new.replaced ≡ 0) }
 {
-    let first = beside(other, theirs, words, at == 8);
+    let first = beside(other, theirs, words, at == 8 || at == 11);
     let count = look(pass, stock, words);
-    let second = beside(other, theirs, words, at == 9);
+    let second = beside(other, theirs, words, at == 9 || at == 11);
     let from = refill(pass, stock, words);
     let third = beside(other, theirs, words, at == 10);
     let made = first.saturating_add(second).saturating_add(third);
@@ -541,6 +541,7 @@ fn a_pass_stands_still_after_any_step(rt: HostRuntime) -> Result<(), AllocError>
             (rows[at], 100, 100),
         );
     }
+    equal(&rt, interrupted(rt.alloc(), 11)?, (published, 200, 100));
     Ok(())
 }
 

@@ -1,5 +1,5 @@
 -- What a stock's fields keep, and what sorting and loading do.
-use Rattle.std.specs.Prelude.{◌≡◌, ℕ, suc, zero, ◌+◌, ◌^◌, ◌<◌, ◌≤◌, Some, List, ◌++◌, length, map, slice_index}
+use Rattle.std.specs.Prelude.{◌≡◌, ◌&&◌, ◌||◌, Bool, nat_le, ℕ, suc, zero, ◌+◌, ◌^◌, ◌<◌, ◌≤◌, Some, List, ◌++◌, length, map, slice_index}
 use Rattle.aug_core.specs.Addresses.{IsInner, left_of, right_of}
 use Rattle.aug_core.specs.Book.{IsBook}
 use Rattle.aug_core.specs.inside.Refreshes.{HasNewest}
@@ -51,7 +51,11 @@ pub record Sorts (eras : List ℕ) (k after : StockFacts) (index : ℕ) : Type 0
   pub freed : (i : ℕ) → k.free ≤ i → i < after.free → (slot : ℕ) → slot < length eras → IsHeld (slice_index eras slot) (birth_in_word (slice_index after.words i)) (slice_index after.deaths i) → ⊥
   pub held : (i : ℕ) → after.free ≤ i → i < index → (slot : ℕ) × (slot < length eras) × IsHeld (slice_index eras slot) (birth_in_word (slice_index after.words i)) (slice_index after.deaths i)
 
--- what is reserved is the same, and it was made so many steps before
+-- whether the records that the words of a node and of its children name were born no later than this. A leaf's word names none
+abbrev pub covers_three : ℕ → Bool → ℕ × ℕ × ℕ → Bool
+covers_three era over_leaves found = nat_le (birth_in_word found.0) era && (over_leaves || (nat_le (birth_in_word found.1) era && nat_le (birth_in_word found.2) era))
+
+-- the view made at most so many steps, and what it reserved is the same
 pub record GoesStill (most : ℕ) (v w : SeatView) : Type 0 where
   pub goes : GoesBy most v w
   pub reserves : w.reserved ≡ v.reserved

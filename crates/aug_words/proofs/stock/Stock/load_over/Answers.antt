@@ -1,10 +1,10 @@
-use Rattle.std.proofs.Common.{◌≤◌, ◌^◌, ap, sym, ◌∙◌, subst, arith}
+use Rattle.std.proofs.Common.{inr, ◌≤◌, ◌^◌, ap, sym, ◌∙◌, subst, arith}
 use Rattle.aug_core.specs.Addresses.{IsInner}
 use Rattle.aug_core.specs.Faces.{face}
 use Rattle.aug_core.specs.Places.{Shape}
 use Rattle.aug_core.specs.declared.view.SeatView.{SeatView}
 use Rattle.aug_words.specs.Stocks.{GoesBy, later_eras}
-use Rattle.aug_words.proofs.Held.{goes_by_on, goes_by_anew, stocks_still, three_held, over_before}
+use Rattle.aug_words.proofs.Held.{goes_by_on, goes_by_anew, seen_over_on, stocks_still, three_held, over_before}
 use Rattle.aug_words.proofs.stock.Stock.load_over.Goals as goal
 
 pub returns-in-Some-try_over-clause-loads : goal.returns-in-Some-try_over-clause-loads
@@ -26,3 +26,12 @@ returns-clause-loads g c = let f = face g.A.Monoid.parts g.B.Monoid.parts in let
 
 pub returns-clause-stocks : goal.returns-clause-stocks
 returns-clause-stocks g c = stocks_still 3 c.reserve_later.new.pass.view c.load_words.new.pass.view c.reserve_later.new.self c.reserve_later.ensures.stocks c.load_words.ensures.view.still
+
+pub returns-in-Some-try_over-clause-kept : goal.returns-in-Some-try_over-clause-kept
+returns-in-Some-try_over-clause-kept g c = let a : SeatView = c.try_over.new.pass.view in let b : SeatView = c.reserve_any.new.pass.view in let w : SeatView = c.try_over-2.new.pass.view in
+    inr (seen_over_on 6 a w c.args.node c.args.self.now.era (goes_by_on 3 3 6 a b w (omega arith) c.reserve_any.ensures.goes.view c.try_over-2.ensures.still.view.goes) c.in_default.ensures.late)
+
+pub returns-clause-kept : goal.returns-clause-kept
+returns-clause-kept g c = let a : SeatView = c.try_over.new.pass.view in let b : SeatView = c.reserve_any.new.pass.view in let d : SeatView = c.try_over-2.new.pass.view in let u : SeatView = c.reserve_later.new.pass.view in let w : SeatView = c.load_words.new.pass.view in
+    inr (seen_over_on 11 a w c.args.node c.args.self.now.era (goes_by_on 8 3 11 a u w (omega arith) (goes_by_on 6 2 8 a d u (omega arith) (goes_by_on 3 3 6 a b d (omega arith) c.reserve_any.ensures.goes.view c.try_over-2.ensures.still.view.goes)
+    (goes_by_anew later_eras 2 d u _ c.reserve_later.ensures.step.view)) c.load_words.ensures.view.still.goes) c.in_default.ensures.late)

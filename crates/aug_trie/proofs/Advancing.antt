@@ -25,7 +25,7 @@ use Rattle.aug_trie.proofs.Looking.{goes_looking}
 use Rattle.aug_trie.proofs.Looked.{looks_on, looks_one, guards_looking, says_looking}
 use Rattle.aug_trie.proofs.Publishing.{may_publish, published, goes_tried, own_again}
 use Rattle.aug_words.proofs.Passes.{names_plainly, told_plainly}
-use Rattle.aug_trie.proofs.Telling.{guards_named, part_of_leaf, part_of_node}
+use Rattle.aug_trie.proofs.Telling.{guards_named, held_plainly, part_of_leaf, part_of_node}
 use Rattle.aug_trie.proofs.Whole.{says, tries, even, part_few}
 use Rattle.aug_core.proofs.PrefixLemmas.{book_refl, book_trans}
 
@@ -139,11 +139,11 @@ module _ {A B : Type 0} (parts_a : Parts A) (parts_b : Parts B) (laws_a : IsMono
       let none : part_steps v.shape (left_of v.shape q) ≡ 0 = ap (λ (z : Bool). if z then 0 else 3) (lt-ltb (left_of v.shape q) (2 ^ v.shape.bits) low) in
       let low_right : right_of v.shape q < 2 ^ v.shape.bits = right_low v.shape q t.inner low in
       let at_w : (n : ℕ) → n < 2 ^ v.shape.bits → n < 2 ^ w.shape.bits = λ n x. subst (λ (z : Shape). n < 2 ^ z.bits) (sym shaped) x in
-      let part_l = part_of_leaf parts_a parts_b laws_a laws_b w (left_of v.shape q) left over.m over.a over.b kn (at_w (left_of v.shape q) low) over.left_part in
-      let part_r = part_of_leaf parts_a parts_b laws_a laws_b w (right_of v.shape q) right over.k over.a' over.b' kn (at_w (right_of v.shape q) low_right) over.right_part in
+      let part_l = part_of_leaf parts_a parts_b laws_a laws_b w (left_of v.shape q) left left over.m over.a over.b kn (at_w (left_of v.shape q) low) over.left_part in
+      let part_r = part_of_leaf parts_a parts_b laws_a laws_b w (right_of v.shape q) right right over.k over.a' over.b' kn (at_w (right_of v.shape q) low_right) over.right_part in
       let l = a.lefts in let self = goes_self both w kn in
       to_record both v q number from left right (over.m + over.k) _ _ (Right from left) old w w r ef over.five_are ec t a self (subst (Took w w) (let e : 0 ≡ 2 * part_steps v.shape (left_of v.shape q) = omega arith in e) (took_none w w refl))
-      (says parts_a parts_b laws_a laws_b v l.first a.second w w w q from left right over.m over.k over.a over.a' over.b over.b' _ _ t.inner few l.node.goes l.goes a.goes self self l.node.at_node l.at_left a.at_right part_l part_r refl refl)
+      (says parts_a parts_b laws_a laws_b v l.first a.second w w w q from left right over.m over.k over.a over.a' over.b over.b' _ _ t.room.keeps_records t.inner few l.node.goes l.goes a.goes self self l.node.at_node l.at_left a.at_right part_l part_r refl refl)
     where
       right_low : (s : Shape) (p : ℕ) → IsInner s p → left_of s p < 2 ^ s.bits → right_of s p < 2 ^ s.bits
       right_low s p inner below = even s.bits (p - 2 ^ s.bits) below (let i = inner.inside in let t = twice s.bits in omega arith)
@@ -166,25 +166,25 @@ module _ {A B : Type 0} (parts_a : Parts A) (parts_b : Parts B) (laws_a : IsMono
     inner_right = subst (λ (z : Shape). IsInner z (right_of v.shape q)) (sym (same_shape from left right third a))
         record { past_leaves = omega arith; inside = let past = inner.past_leaves in let inside = inner.inside in let t = twice v.shape.bits in omega arith }
 
-    pub left_told : IsPartOf parts_a parts_b third (left_of v.shape q) left (get_or words 0 0) (parts_a.from_word (get_or words 1 0)) (parts_b.from_word (get_or words 2 0))
-    left_told = part_of_node parts_a parts_b laws_a laws_b third (left_of v.shape q) left _ _ _ few_third off_third kn_third inner_left (all.says 0 (omega arith)) (all.says 1 (omega arith)) (all.says 2 (omega arith))
+    pub left_told : IsPartOf parts_a parts_b third (left_of v.shape q) left left (get_or words 0 0) (parts_a.from_word (get_or words 1 0)) (parts_b.from_word (get_or words 2 0))
+    left_told = part_of_node parts_a parts_b laws_a laws_b third (left_of v.shape q) left left _ _ _ few_third kn_third inner_left (all.says 0 (omega arith)) (all.says 1 (omega arith)) (all.says 2 (omega arith))
 
-    pub right_told : IsPartOf parts_a parts_b third (right_of v.shape q) right (get_or words 3 0) (parts_a.from_word (get_or words 4 0)) (parts_b.from_word (get_or words 5 0))
-    right_told = part_of_node parts_a parts_b laws_a laws_b third (right_of v.shape q) right _ _ _ few_third off_third kn_third inner_right (all.says 3 (omega arith)) (all.says 4 (omega arith)) (all.says 5 (omega arith))
+    pub right_told : IsPartOf parts_a parts_b third (right_of v.shape q) right right (get_or words 3 0) (parts_a.from_word (get_or words 4 0)) (parts_b.from_word (get_or words 5 0))
+    right_told = part_of_node parts_a parts_b laws_a laws_b third (right_of v.shape q) right right _ _ _ few_third kn_third inner_right (all.says 3 (omega arith)) (all.says 4 (omega arith)) (all.says 5 (omega arith))
 
     -- their counts are small
     pub counts_fit : get_or words 0 0 + get_or words 3 0 ≤ 131072
     counts_fit = let l = a.lefts in
         let e_l = has_entry both third.shape third.seen a.second.seen (left_of v.shape q) left a.goes.later l.at_left in
         let e_r = has_entry both third.shape third.seen third.seen (right_of v.shape q) right (book_refl third.seen) a.at_right in
-        let x = part_few parts_a parts_b third.shape third (left_of v.shape q) left _ _ _ refl few_third inner_left.inside kn_third e_l left_told in
-        let y = part_few parts_a parts_b third.shape third (right_of v.shape q) right _ _ _ refl few_third inner_right.inside kn_third e_r right_told in omega arith
+        let x = part_few parts_a parts_b third.shape third (left_of v.shape q) left left _ _ _ refl few_third inner_left.inside kn_third e_l (held_plainly both third (left_of v.shape q) e_l.index left e_l.entry off_third kn_third e_l.at e_l.named) left_told in
+        let y = part_few parts_a parts_b third.shape third (right_of v.shape q) right right _ _ _ refl few_third inner_right.inside kn_third e_r (held_plainly both third (right_of v.shape q) e_r.index right e_r.entry off_third kn_third e_r.at e_r.named) right_told in omega arith
 
     pub nodes_told : (number : ℕ) (point : Point) (old w : SeatView) (r : Filling) → r.from ≡ from → r.five ≡ five_over parts_a parts_b left right (λ k. get_or words k 0) → r.count ≡ 0 → TryAt both v q number point old → Goes both 0 [] third w → Took third w reading_words → TryAt both v q number (Record r) w
     nodes_told number point old w r ef e5 ec t goes took = let l = a.lefts in let self = goes_self both third kn_third in
         let three : part_steps v.shape (left_of v.shape q) ≡ 3 = ap (λ (z : Bool). if z then 0 else 3) (le-ltb (left_of v.shape q) (2 ^ v.shape.bits) nodes) in
         to_record both v q number from left right (get_or words 0 0 + get_or words 3 0) _ _ point old third w r ef e5 ec t a goes (subst (Took third w) (let e : reading_words ≡ 2 * part_steps v.shape (left_of v.shape q) = omega arith in e) took)
-        (says parts_a parts_b laws_a laws_b v l.first a.second third third w q from left right _ _ _ _ _ _ _ _ inner few l.node.goes l.goes a.goes self goes l.node.at_node l.at_left a.at_right left_told right_told refl refl)
+        (says parts_a parts_b laws_a laws_b v l.first a.second third third w q from left right _ _ _ _ _ _ _ _ off inner few l.node.goes l.goes a.goes self goes l.node.at_node l.at_left a.at_right left_told right_told refl refl)
 
   -- the record of the child whose word is next was seen
   pub child_guarded : (number : ℕ) (r : Reading) (old : SeatView) → TryAt both v q number (Part r) old → GuardsRecord old (child_at r.left r.right r.count)
@@ -302,13 +302,13 @@ module _ {A B : Type 0} (parts_a : Parts A) (parts_b : Parts B) (v : SeatView) (
     room_told = room_on f [] v held.told number 1 g_told t.room
 
     pub may_try : NamesOwn f old q r.from number
-    may_try = names_plainly room_old.keeps_records may_store_word (subst (λ (z : SeatView). IsFilled f z q r.from 0 number) (sym is_full) (may_publish f held.told number r.five room_told q r.from room_told.keeps_records held.says))
+    may_try = names_plainly room_old.keeps_records may_store_word (subst (λ (z : SeatView). IsFilled f z q r.from 0 number) (sym is_full) (may_publish f held.told number r.five (may_store_room held.told number room_told) q r.from room_told.keeps_records held.says))
 
     -- and the node's word exchanged, or not
     pub try_over : (w : SeatView) (done : Bool) → TriedNode f old q r.from number done w → TryOver f v q number done w
     try_over w done told = let found : ℕ = told.found in let decided = told.decided in let tried = told_plainly room_old.keeps_records may_store_word told in let l = held.loaded.lefts in let first = l.first in let second = held.loaded.second in
-        let gw = goes_tried f old w q r.from number found done decided tried knows_old in
-        let p = published f held.told number r.five room_told w q r.from found done (subst (λ (z : Shape). IsInner z q) (sym g_told.shaped) t.inner) (left_in parts_a parts_b) (right_in parts_a parts_b) decided
+        let gw = goes_tried f old w q r.from number number found done decided tried knows_old in
+        let p = published f held.told number r.five (may_store_room held.told number room_told) w q r.from number found done (subst (λ (z : Shape). IsInner z q) (sym g_told.shaped) t.inner) (left_in parts_a parts_b) (right_in parts_a parts_b) decided
         (subst (λ (z : SeatView). TriesNode f z q r.from number number found w) is_full tried) in
         let g_filled : Goes f 0 [] held.told old = subst (Goes f 0 [] held.told) (sym held.stands) (goes_stored f held.told number r.five r.count g_told.knows_table) in
         let to_w = goes_on f 0 (number + 1) (number + 1) [] held.told old w (omega arith) (omega arith) g_filled gw in
@@ -319,5 +319,5 @@ module _ {A B : Type 0} (parts_a : Parts A) (parts_b : Parts B) (v : SeatView) (
           took = took_on v old w (8 + 2 * n) 1 (try_steps n) (omega arith) (took_on v held.told old (3 + 2 * n) record_words (8 + 2 * n) (omega arith) took_told took_old) (took_one old w _ refl tried.stepped);
           tries = tries f v first second held.third held.told w q r.from (get_or r.five 0 0) (get_or r.five 1 0) number done t.inner g_told.shaped
               l.node.goes.later l.goes.later held.loaded.goes.later (book_trans held.goes.later to_w.later) l.node.at_node l.at_left held.loaded.at_right p
-              (λ bad. own_again f old w q r.from number found done decided tried knows_old bad (may_store_room old number room_old));
+              (λ bad. own_again f old w q r.from number number found done decided tried knows_old bad (may_store_room old number room_old));
         }

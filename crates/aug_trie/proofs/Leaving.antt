@@ -14,14 +14,14 @@ use Rattle.aug_model.specs.declared.outcome.Outcome.TheVariants.{Refused, Unchan
 use Rattle.aug_trie.specs.declared.updates.request.Request.{Request}
 use Rattle.aug_trie.specs.declared.updates.request.Request.TheVariants.{Insert, Remove, Put, Add, Sub, Take}
 use Rattle.aug_trie.specs.Requests.{goes_from, word_after, outcome_by, outcome_at_once, stores_nothing}
-use Rattle.aug_trie.specs.inside.Batching.{LeftLeaf}
+use Rattle.aug_trie.specs.inside.Batching.{GainsOnly, LeftLeaf}
 use Rattle.aug_trie.specs.inside.Climbing.{CameBy, FitsRequest}
 use Rattle.aug_trie.specs.inside.Goes.{Goes}
 use Rattle.aug_trie.specs.inside.Counted.{HasCounts, insertions_by, removals_by}
 use Rattle.aug_trie.proofs.Counters.{counted_nothing, counted_made}
 use Rattle.aug_words.proofs.Stocking.{no_try_none}
 use Rattle.aug_trie.proofs.Requesting.{made_few}
-use Rattle.aug_trie.proofs.Updating.{steps0, first, came_back, gone, goes_hit, goes_miss, lets_there, outcome_there, steps1, taken, done_hit, done_miss, done_by, came_up, came_late}
+use Rattle.aug_trie.proofs.Updating.{steps0, first, rest_first, rest_hit, rest_miss, came_back, gone, goes_hit, goes_miss, lets_there, outcome_there, steps1, taken, done_hit, done_miss, done_by, came_up, came_late}
 
 -- what a word prevents at once stores nothing
 pub nothing_at_once : (request : Request) → stores_nothing (outcome_at_once request) ≡ true
@@ -51,6 +51,7 @@ module _ {f : ℕ → ℕ → List (ℕ × ℕ) → List ℕ} {v w0 : SeatView} 
     few_gained = omega arith;
     counts = counted_nothing request (outcome_at_once request) (nothing_at_once request);
     goes = first f v w0 key word request low kn l;
+    rest = rest_first f v w0 key word request low kn l;
     came = λ used u z same before later lifts goes. came_back f v w0 key word request low kn l used u z same before later other lifts goes;
   }
 
@@ -58,9 +59,9 @@ module _ {f : ℕ → ℕ → List (ℕ × ℕ) → List ℕ} {v w0 : SeatView} 
     t : TriedLeaf f w0 key word (word_after request key word) ok w1
     t = subst (λ (z : ℕ). TriedLeaf f w0 key word z ok w1) is_new tries
 
-    left_with : (gained : List Change) → length gained ≤ 2 → HasCounts gained (insertions_by request done) (removals_by request done) → Goes f 0 gained v w1
+    left_with : (gained : List Change) → length gained ≤ 2 → HasCounts gained (insertions_by request done) (removals_by request done) → Goes f 0 gained v w1 → GainsOnly gained v w1
         → ((used : ℕ) (u z : SeatView) → u.shape ≡ v.shape → ArePrefixes u.seen v.seen → ArePrefixes w1.seen z.seen → Lifts v.shape w1.seen z.seen key v.shape.bits → Goes f used gained u z → CameBy f used u key request z word done) → LeftLeaf f v key request done w1
-    left_with gained few counts goes came = record {
+    left_with gained few counts goes rest came = record {
       word = word;
       more = taken f v w0 key word request low kn l fits lets w1 ok h only t ∷ [];
       steps = steps1 f v w0 key word request low kn l fits lets w1 ok h only t;
@@ -71,6 +72,7 @@ module _ {f : ℕ → ℕ → List (ℕ × ℕ) → List ℕ} {v w0 : SeatView} 
       few_gained = few;
       counts = counts;
       goes = goes;
+      rest = rest;
       came = came;
     }
 
@@ -81,9 +83,9 @@ module _ {f : ℕ → ℕ → List (ℕ × ℕ) → List ℕ} {v w0 : SeatView} 
         left_with (made_by key there) (made_few key there)
         (subst (λ (z : Outcome). HasCounts (made_by key there) (insertions_by request z) (removals_by request z)) (sym (says ∙ outcome_there f v w0 key word request low kn l fits lets w1 ok h only t same))
         (counted_made request key _ there.replaces refl (lets_there f v w0 key word request low kn l fits lets w1 ok h only t same)))
-        (goes_hit f v w0 key word request low kn l fits lets w1 ok h only t same)
+        (goes_hit f v w0 key word request low kn l fits lets w1 ok h only t same) (rest_hit f v w0 key word request low kn l fits lets w1 ok h only t same)
         (λ used u z shaped before later lifts goes. subst (CameBy f used u key request z word) (sym says) (came_up f v w0 key word request low kn l fits lets w1 ok h only t same used u z shaped before later lifts goes)))
         (λ other. let says = done_miss f v w0 key word request low kn l fits lets w1 ok h only t done comes other in
         left_with [] (omega arith) (subst (λ (z : Outcome). HasCounts [] (insertions_by request z) (removals_by request z)) (sym says) (counted_nothing request Refused refl))
-        (goes_miss f v w0 key word request low kn l fits lets w1 ok h only t other)
+        (goes_miss f v w0 key word request low kn l fits lets w1 ok h only t other) (rest_miss f v w0 key word request low kn l fits lets w1 ok h only t other)
         (λ used u z shaped before later lifts goes. subst (CameBy f used u key request z word) (sym says) (came_late f v w0 key word request low kn l fits lets w1 ok h only t used u z shaped before later lifts other goes))) (cases_eq t.found word)

@@ -52,3 +52,8 @@ pub mod Raising
 pub mod Staging
 pub mod Turning
 pub mod Chaining
+pub mod Retiring
+pub mod Lifting
+pub mod Stocked
+pub mod LastingUpdates
+pub mod LastingCalls

@@ -24,7 +24,7 @@ are_fewer is told = grind (arith, is, told)
 pub not_fewer : {found own bits : ℕ} → found ≡ own → (is_le (nat_cmp 1 bits) ≡ false) ⊎ (is_lt (nat_cmp bits found) ≡ false) → 1 ≤ bits → own ≤ bits
 not_fewer is told some = grind (arith, is, told, some)
 
-cause_said : {T E : Type 0} {x y : E} {a b : BeginError} → ◌≡◌ {A = Result T (E × BeginError)} (Err (x, a)) (Err (y, b)) → a ≡ b
+pub cause_said : {T E : Type 0} {x y : E} {a b : BeginError} → ◌≡◌ {A = Result T (E × BeginError)} (Err (x, a)) (Err (y, b)) → a ≡ b
 cause_said {T} {E} {x} {y} {a} {b} e = let f : (x, a) ≡ (y, b) = cc in ap (λ (z : E × BeginError). z.1) f
 
 -- the bits are fewer than those of the set
@@ -51,7 +51,7 @@ begins_for layout.BadWorkers = (refl, (λ e. cc), λ e. cc)
 begins_for layout.BadUpdates = (refl, (λ e. cc), λ e. cc)
 begins_for layout.TooLarge = (refl, (λ e. cc), λ e. cc)
 
-same_cause : {j k : LayoutError} → begin_cause j ≡ begin_cause k → j ≡ k
+pub same_cause : {j k : LayoutError} → begin_cause j ≡ begin_cause k → j ≡ k
 same_cause {j} {k} e = sym (begins_for j).0 ∙ ap cause_of e ∙ (begins_for k).0
 
 -- the call says what laying out said, `made`, or of another refusal, or of none

@@ -5,10 +5,12 @@ use Rattle.aug_monoid.specs.inside.Laws.{IsMonoid}
 use Rattle.aug_monoid.specs.Weighted.{FitsPair}
 use Rattle.aug_monoid.proofs.FoldLemmas.{fold_of-append, of_word-fold_of}
 use Rattle.aug_core.specs.Addresses.{IsInner}
+use Rattle.aug_core.specs.Book.{At}
 use Rattle.aug_core.specs.Faces.{face}
 use Rattle.aug_core.specs.inside.Refreshes.{HasEntry}
-use Rattle.aug_core.specs.Effects.{GuardsRecord, Says, stepping, KnowsBook}
+use Rattle.aug_core.specs.Effects.{Covers, Guards, GuardsRecord, Says, stepping, KnowsBook}
 use Rattle.aug_core.specs.declared.step.StepTaken.{StepTaken}
+use Rattle.aug_core.specs.declared.view.Entry.{Entry}
 use Rattle.aug_core.specs.declared.view.SeatView.{SeatView}
 use Rattle.aug_core.proofs.EntryKeys.{are_small}
 use Rattle.aug_core.proofs.Clients.{guards_same, says_same}
@@ -22,6 +24,10 @@ use Rattle.aug_core.proofs.Books.{plainly_named}
 -- a record that an entry of a node has may be read
 pub guards_named : (f : ℕ → ℕ → List (ℕ × ℕ) → List ℕ) (v : SeatView) (node number : ℕ) → v.shape.reservations ≡ 0 → KnowsBook f v → IsInner v.shape node → HasEntry v.seen node number → GuardsRecord v number
 guards_named f v node number off kn inner n = record { place = node; index = n.index; entry = n.entry; guards = record { inner = inner; at = n.at; covers = inl off }; numbered = sym (plainly_named f v.shape v.seen kn.book off node n.index n.entry inner n.at) ∙ n.named }
+
+-- in a round each entry with a word has the record of that number, and is guarded
+pub held_plainly : (f : ℕ → ℕ → List (ℕ × ℕ) → List ℕ) (v : SeatView) (q i word : ℕ) (e : Entry) → v.shape.reservations ≡ 0 → KnowsBook f v → At v.seen q i e → e.word ≡ word → IsInner v.shape q → Covers v q i e × (e.number ≡ word)
+held_plainly f v q i word e off kn at is inner = (inl off, sym (plainly_named f v.shape v.seen kn.book off q i e inner at) ∙ is)
 
 pub guards_on : (v w : SeatView) (taken : StepTaken) (number : ℕ) → w ≡ stepping v taken → GuardsRecord v number → GuardsRecord w number
 guards_on v w taken number is h = guards_same v w number (ap (λ (z : SeatView). z.shape) is) (ap (λ (z : SeatView). z.seen) is) (ap (λ (z : SeatView). z.reserved) is) h
@@ -40,22 +46,22 @@ module _ {A B : Type 0} (parts_a : Parts A) (parts_b : Parts B) (laws_a : IsMono
   abbrev both : ℕ → ℕ → List (ℕ × ℕ) → List ℕ
   both = face parts_a parts_b
 
-  -- three words of a node's record tell the part of its entry
-  pub part_of_node : (v : SeatView) (node word x y z : ℕ) → 2 ^ v.shape.bits ≤ 65536 → v.shape.reservations ≡ 0 → KnowsBook both v → IsInner v.shape node → Says v word 2 x → Says v word 3 y → Says v word 4 z
-      → IsPartOf parts_a parts_b v node word x (parts_a.from_word y) (parts_b.from_word z)
-  part_of_node v node word x y z few off kn inner says_x says_y says_z = record {
-    of = λ i e p is. let o = kn.book.over node i e inner p in let number : e.number ≡ word = sym (plainly_named both v.shape v.seen kn.book off node i e inner p) ∙ is in
+  -- three words of a record tell the part of an entry of a node that has it
+  pub part_of_node : (v : SeatView) (node word number x y z : ℕ) → 2 ^ v.shape.bits ≤ 65536 → KnowsBook both v → IsInner v.shape node → Says v number 2 x → Says v number 3 y → Says v number 4 z
+      → IsPartOf parts_a parts_b v node word number x (parts_a.from_word y) (parts_b.from_word z)
+  part_of_node v node word number x y z few kn inner says_x says_y says_z = record {
+    of = λ i e p is held. let o = kn.book.over node i e inner p in let guards : Guards v node i e = record { inner = inner; at = p; covers = (held inner).0 } in let numbered = (held inner).1 in
         let small = (are_small both v.shape v.seen kn.book few node i e inner.inside p).small in record {
-          count_is = says_x node i e (record { inner = inner; at = p; covers = inl off }) number ∙ ap (λ (w : List ℕ). get_or w 2 0) o.words_say ∙ count_in parts_a parts_b _ _ e.pairs;
-          a_is = ap parts_a.from_word (says_y node i e (record { inner = inner; at = p; covers = inl off }) number ∙ ap (λ (w : List ℕ). get_or w 3 0) o.words_say ∙ a_in parts_a parts_b _ _ e.pairs) ∙ of_word-fold_of laws_a e.pairs small;
-          b_is = ap parts_b.from_word (says_z node i e (record { inner = inner; at = p; covers = inl off }) number ∙ ap (λ (w : List ℕ). get_or w 4 0) o.words_say ∙ b_in parts_a parts_b _ _ e.pairs) ∙ of_word-fold_of laws_b e.pairs small;
+          count_is = says_x node i e guards numbered ∙ ap (λ (w : List ℕ). get_or w 2 0) o.words_say ∙ count_in parts_a parts_b _ _ e.pairs;
+          a_is = ap parts_a.from_word (says_y node i e guards numbered ∙ ap (λ (w : List ℕ). get_or w 3 0) o.words_say ∙ a_in parts_a parts_b _ _ e.pairs) ∙ of_word-fold_of laws_a e.pairs small;
+          b_is = ap parts_b.from_word (says_z node i e guards numbered ∙ ap (λ (w : List ℕ). get_or w 4 0) o.words_say ∙ b_in parts_a parts_b _ _ e.pairs) ∙ of_word-fold_of laws_b e.pairs small;
         };
   }
 
   -- a leaf's word has its serial and its weight, and tells whether its key is there
-  pub part_of_leaf : (v : SeatView) (key word n : ℕ) (a : A) (b : B) → KnowsBook both v → key < 2 ^ v.shape.bits → IsPart parts_a parts_b n a b (leaf_pairs key word) → IsPartOf parts_a parts_b v key word n a b
-  part_of_leaf v key word n a b kn low part = record {
-    of = λ i e p is. let serial = kn.book.serials key i e low p in
+  pub part_of_leaf : (v : SeatView) (key word number n : ℕ) (a : A) (b : B) → KnowsBook both v → key < 2 ^ v.shape.bits → IsPart parts_a parts_b n a b (leaf_pairs key word) → IsPartOf parts_a parts_b v key word number n a b
+  part_of_leaf v key word number n a b kn low part = record {
+    of = λ i e p is _. let serial = kn.book.serials key i e low p in
         subst (IsPart parts_a parts_b n a b) (sym (pairs_of_serial key i e serial ∙ ap (leaf_pairs key) is)) part;
   }
 

@@ -1,11 +1,12 @@
 -- An update: a load of the leaf, an exchange unless the serial refuses it, and a propagation.
 use Rattle.std.proofs.Common.{◌≡◌, ◌≢◌, ℕ, ◌+◌, ◌*◌, ◌^◌, ◌<◌, ◌≤◌, Bool, true, false, if◌then◌else◌, List, [], ◌∷◌, ◌++◌, append_assoc, sym, refl, ap, ◌∙◌, subst, ⊎_elim, inl, inr, arith, ◌==◌}
+use Rattle.std.proofs.lemmas.List.{append-nil}
 use Rattle.std.proofs.lemmas.Bool.{cases_eq, cases_Bool, eqb-false, eqb-true, false≢true}
 use Rattle.aug_core.specs.Places.{Shape}
 use Rattle.aug_core.specs.Book.{Book, ArePrefixes, At, IsNewest, IsSerial, word_of_leaf}
 use Rattle.aug_core.specs.Kinds.{load_leaf, try_leaf}
 use Rattle.aug_core.specs.inside.Shows.{NewestShows, ShowsAtMost, Lifts}
-use Rattle.aug_core.specs.Effects.{HoldsOnly, BeginsAtLeaf, HitsLeaf, TriesLeaf, IsAdvance, going_from, old_word, new_word, new_serial, made_by, KnowsSerial, KnowsBook}
+use Rattle.aug_core.specs.Effects.{HoldsOnly, BeginsAtLeaf, HitsLeaf, TriesLeaf, IsAdvance, going_from, old_word, new_word, new_serial, made_by, on_first, with_changes, KnowsSerial, KnowsBook}
 use Rattle.aug_core.specs.declared.step.StepTaken.{StepTaken}
 use Rattle.aug_core.specs.declared.view.Advance.{Advance}
 use Rattle.aug_core.specs.declared.view.Change.{Change}
@@ -19,6 +20,7 @@ use Rattle.aug_model.specs.declared.outcome.Outcome.{Outcome}
 use Rattle.aug_model.specs.declared.outcome.Outcome.TheVariants.{Accepted, Replaced, Refused, Unchanged, TooGreat, TooLittle}
 use Rattle.aug_words.specs.Seats.{MayAdvance, TriedLeaf}
 use Rattle.aug_trie.specs.inside.Goes.{Goes, HasRoom}
+use Rattle.aug_trie.specs.inside.Batching.{GainsOnly}
 use Rattle.aug_trie.specs.inside.Climbing.{WentUp, Stayed, CameTo, CameBy, UpdatedFrom, IsWholeWord, FitsRequest, advance_from}
 use Rattle.aug_trie.specs.inside.Weights.{WeighsAt}
 use Rattle.aug_trie.specs.LeafWords.{serial_in_word, weight_in_word}
@@ -37,6 +39,9 @@ bits_in P is same h = subst P (is ∙ ap (λ (z : Shape). z.bits) (sym same)) h
 
 pub bits_out : {bits : ℕ} {s t : Shape} (P : ℕ → Type 0) → bits ≡ t.bits → s ≡ t → P s.bits → P bits
 bits_out P is same h = subst P (sym (is ∙ ap (λ (z : Shape). z.bits) (sym same))) h
+
+keeps_none : {v w : SeatView} → w.held ≡ v.held → w.reserved ≡ v.reserved → GainsOnly [] v w
+keeps_none {v} {w} held reserved = record { held = λ h one. held ∙ one ∙ ap (λ (z : List Change). record h { changes = z } ∷ []) (sym (append-nil h.changes)); reserved = reserved }
 
 newest_shows : (s : Shape) (book : Book) (key index n : ℕ) (e : Entry) → IsNewest book key index e → n ≤ index → NewestShows s book key 0 n
 newest_shows s book key index n e newest le = record { index = index; entry = e; newest = newest; shows = ((e, newest.at), le) }
@@ -127,6 +132,9 @@ module _ (f : ℕ → ℕ → List (ℕ × ℕ) → List ℕ) where
     pub first : Goes f 0 [] v w0
     first = goes_begun v w0 key word kn loaded
 
+    pub rest_first : GainsOnly [] v w0
+    rest_first = keeps_none (ap (λ (z : SeatView). z.held) loaded.stepped) (ap (λ (z : SeatView). z.reserved) loaded.stepped)
+
     -- the leaf's entry with the serial that was loaded has the weight that was loaded, now and later
     weighed_on : (book : Book) → ArePrefixes w0.seen book → WeighsAt book key (serial_in_word whole) (weight_in_word whole)
     weighed_on book later = record {
@@ -170,6 +178,9 @@ module _ (f : ℕ → ℕ → List (ℕ × ℕ) → List ℕ) where
 
       pub goes_miss : tried.found ≢ word → Goes f 0 [] v w1
       goes_miss other = goes_on f 0 0 0 [] v w0 w1 (omega arith) (omega arith) first (goes_seeing f w0 w1 _ (told.miss (missed other)).0 first.knows_table told.sees)
+
+      pub rest_miss : tried.found ≢ word → GainsOnly [] v w1
+      rest_miss other = let is = (told.miss (missed other)).0 in keeps_none (ap (λ (z : SeatView). z.held) is ∙ ap (λ (z : SeatView). z.held) loaded.stepped) (ap (λ (z : SeatView). z.reserved) is ∙ ap (λ (z : SeatView). z.reserved) loaded.stepped)
 
       shaped1 : w1.shape ≡ v.shape
       shaped1 = told.shaped ∙ shaped0
@@ -228,6 +239,12 @@ module _ (f : ℕ → ℕ → List (ℕ × ℕ) → List ℕ) where
         pub goes_hit : Goes f 0 (made_by key gone) v w1
         goes_hit = let gained : List Change = made_by key (going_from hit.serial asked) in
             subst (λ (z : Advance). Goes f 0 (made_by key z) v w1) (sym is_gone) (goes_after f 0 0 0 [] gained gained v w0 w1 (omega arith) (omega arith) refl first (goes_changing f w0 w1 gained _ h only hit.changed first.knows_table told.sees))
+
+        pub rest_hit : GainsOnly (made_by key gone) v w1
+        rest_hit = let gained : List Change = made_by key (going_from hit.serial asked) in subst (λ (z : Advance). GainsOnly (made_by key z) v w1) (sym is_gone) record {
+          held = λ x one. ap (λ (z : SeatView). z.held) hit.changed ∙ ap (on_first (with_changes gained)) (ap (λ (z : SeatView). z.held) loaded.stepped ∙ one);
+          reserved = ap (λ (z : SeatView). z.reserved) hit.changed ∙ ap (λ (z : SeatView). z.reserved) loaded.stepped;
+        }
 
         pub lets_there : goes_from request whole_there ≡ true
         lets_there = goes_whole _ _ is_whole_there.last_bits request ∙ lets

@@ -7,6 +7,8 @@ use Rattle.aug_trie.specs.declared.error.BeginError.{BeginError}
 use Rattle.aug_trie.specs.declared.error.BeginError.TheVariants.{BadWorkers, BadUpdates, TooLarge, OutOfMemory, BadBits, Narrower}
 use Rattle.aug_trie.specs.declared.error.CrewError.{CrewError}
 use Rattle.aug_trie.specs.declared.error.CrewError.TheVariants.{NoLane}
+use Rattle.aug_trie.specs.declared.error.LastingError.{LastingError}
+use Rattle.aug_trie.specs.declared.error.LastingError.TheVariants as lasting
 
 -- how a refusal is printed: by its name
 abbrev pub begin_text : BeginError → List ℕ
@@ -19,6 +21,11 @@ begin_text Narrower = codes "Narrower"
 
 abbrev pub crew_text : CrewError → List ℕ
 crew_text NoLane = codes "NoLane"
+
+abbrev pub lasting_text : LastingError → List ℕ
+lasting_text lasting.NoLane = codes "NoLane"
+lasting_text lasting.OutOfMemory = codes "OutOfMemory"
+lasting_text lasting.Full = codes "Full"
 
 -- the refusal for a table that cannot be laid out, which has the same name
 abbrev pub begin_cause : LayoutError → BeginError

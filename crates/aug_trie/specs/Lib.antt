@@ -19,6 +19,7 @@ pub mod Reader
 pub mod View
 pub mod Ended
 pub mod Crew
+pub mod LastingTable
 pub mod Pops
 pub mod Climb
 pub mod Errors

@@ -12,6 +12,8 @@ pub mod EndedState
 pub mod EndedTree
 pub mod Goes
 pub mod Knows
+pub mod Lasting
+pub mod LastingState
 pub mod LeafPairs
 pub mod NamedCuts
 pub mod NodeWords

@@ -84,3 +84,34 @@ impl fmt::Display for CrewError {
 }
 
 impl Error for CrewError {}
+
+/// Why the crew of a table that lasts hands no pass out, or a pass of it makes no update.
+#[derive(Clone, Copy, Debug, PartialEq, Eq)]
+pub enum LastingError {
+    /// All lanes of the table were handed out.
+    NoLane,
+
+    /// A request for memory was refused.
+    OutOfMemory,
+
+    /// Reservations hold so many of the lane's records that too few are left for an update. Nothing was changed, and it succeeds once those that stand still
+    /// go on.
+    Full,
+}
+
+impl fmt::Display for LastingError {
+    ghost use Rattle.std.specs.Prelude.{Some};
+    ghost use Rattle.aug_trie.specs.Errors.{lasting_text};
+
+    ghost output = { λ cause. Some (lasting_text cause) };
+
+    fn fmt<W: fmt::Write>(&self, f: &mut fmt::Formatter<W>) -> fmt::Result {
+        f.write_str(match self {
+            LastingError::NoLane => "NoLane",
+            LastingError::OutOfMemory => "OutOfMemory",
+            LastingError::Full => "Full",
+        })
+    }
+}
+
+impl Error for LastingError {}

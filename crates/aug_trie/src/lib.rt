@@ -2,13 +2,17 @@
 #![tactic(auto)]
 
 mod error;
+mod lasting;
 mod queries;
 mod rounds;
 mod turns;
 mod updates;
 
 pub use aug_model::Outcome;
-pub use error::{BeginError, CrewError};
+pub use error::{BeginError, CrewError, LastingError};
+pub use lasting::crew::LastingCrew;
+pub use lasting::pass::LastingPass;
+pub use lasting::table::Lasting;
 pub use queries::cursor::SnapshotCursor;
 pub use queries::node::Node;
 pub use queries::snapshot::Snapshot;

@@ -11,6 +11,8 @@ pub mod eras;
 #[cfg(test)]
 mod granting;
 #[cfg(test)]
+mod lasting;
+#[cfg(test)]
 mod playing;
 #[cfg(test)]
 mod refused;

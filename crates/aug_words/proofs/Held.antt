@@ -17,9 +17,9 @@ use Rattle.aug_core.proofs.PlaceLemmas.{double_pow}
 use Rattle.aug_core.proofs.Books.{no_shorter, fresh_now, fresh_on}
 use Rattle.aug_core.proofs.PrefixLemmas.{book_refl, book_trans, entry_stays}
 use Rattle.aug_core.proofs.Refreshing.{is_loaded}
-use Rattle.aug_words.specs.Stocks.{StockFacts, Stocks, birth_in_word, ReservesAnew, IsLate, GoesBy, HasSeenLater, HasSeenLaterOver, HoldsThree, LoadsOver, LoadsHeld}
+use Rattle.aug_words.specs.Stocks.{StockFacts, Stocks, number_in_word, birth_in_word, ReservesAnew, IsLate, GoesBy, HasSeenLater, HasSeenLaterOver, HoldsThree, LoadsOver, LoadsHeld}
 use Rattle.aug_words.specs.inside.Stocking.{covers_three, GoesStill, LoadsWord, LoadsWords}
-use Rattle.aug_words.proofs.Stocking.{tries_leaf, quiet, no_try_one, birth_named, named_used, stocks_on}
+use Rattle.aug_words.proofs.Stocking.{tries_leaf, quiet, no_try_one, number_named, birth_named, named_used, stocks_on}
 
 -- ---- steps, one after another
 
@@ -150,8 +150,11 @@ module _ (face : ℕ → ℕ → List (ℕ × ℕ) → List ℕ) where
 
   -- ---- what is reserved holds them
 
-  -- the birth of the record that a word names
-  born_at : (s : Shape) (book : Book) (q i word : ℕ) (e : Entry) → 0 < s.reservations → IsBook face s book → IsInner s q → At book q i e → word ≡ e.word → e.number < 2 ^ 24 → birth_in_word word ≡ e.birth
+  -- the number of the record that a word names, and its birth
+  pub numbered_at : (s : Shape) (book : Book) (q i word : ℕ) (e : Entry) → 0 < s.reservations → IsBook face s book → IsInner s q → At book q i e → word ≡ e.word → e.number < 2 ^ 24 → number_in_word word ≡ e.number
+  numbered_at s book q i word e used b inner at is low = ap number_in_word (is ∙ b.named q i e inner at ∙ named_used s e.birth e.number used) ∙ number_named e.birth e.number low
+
+  pub born_at : (s : Shape) (book : Book) (q i word : ℕ) (e : Entry) → 0 < s.reservations → IsBook face s book → IsInner s q → At book q i e → word ≡ e.word → e.number < 2 ^ 24 → birth_in_word word ≡ e.birth
   born_at s book q i word e used b inner at is low = ap birth_in_word (is ∙ b.named q i e inner at ∙ named_used s e.birth e.number used) ∙ birth_named e.birth e.number low
 
   -- the right child is a node only if the left one is

@@ -501,6 +501,7 @@ module _ (v w : SeatView) (k after : StockFacts) (eras : ℕ → ℕ) (list : Li
     eras = eras;
     steps = l.steps;
     same = l.same;
+    lane = λ h only. (passing_all eras all h, only_now h only, refl, refl, refl);
     frees = sorted.frees;
     keeps = (sorted.long, sorted.replaced);
     held = λ i past low. let same = sorted.long in let t = sorted.held i past (omega arith) in let below = t.1 in let inside : t.0 < all = omega arith in

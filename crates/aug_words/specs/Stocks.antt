@@ -94,6 +94,8 @@ pub record Scans (v : SeatView) (k : StockFacts) (w : SeatView) (after : StockFa
   pub eras : ℕ → ℕ
   pub steps : w.steps ≡ v.steps ++ scan_steps v.shape eras v.shape.reservations
   pub same : w ≡ record v { held = w.held; steps = w.steps }
+  -- the lane has the same changes, and what it replaced is the same
+  pub lane : (h : Held) → HoldsOnly v h → (h' : Held) × HoldsOnly w h' × (h'.lane ≡ h.lane) × (h'.changes ≡ h.changes) × (h'.replaced ≡ h.replaced)
   pub frees : k.free ≤ after.free
   pub keeps : (length after.words ≡ length k.words) × (after.replaced ≡ k.replaced)
   pub held : (i : ℕ) → after.free ≤ i → i < length after.words → (slot : ℕ) × (slot < v.shape.reservations) × IsHeld (eras slot) (birth_in_word (slice_index after.words i)) (slice_index after.deaths i)

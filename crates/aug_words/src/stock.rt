@@ -2,13 +2,13 @@
 ghost use Rattle.std.specs.Prelude.{◌≡◌, ◌<◌, ◌≤◌, ◌+◌, ◌-◌, ◌^◌, ◌/◌, max, nat_le, ℕ, true, false, length, slice_index, slice_set, IfOk};
 ghost use Rattle.std.specs.Bool.{OnTrue, OnFalse};
 ghost use Rattle.aug_core.specs.Addresses.{IsInner};
-ghost use Rattle.aug_core.specs.Effects.{IsFilled};
+ghost use Rattle.aug_core.specs.Effects.{IsFilled, KnowsBook, own_lane};
 ghost use Rattle.aug_core.specs.Faces.{face};
 ghost use Rattle.aug_core.specs.Lanes.{lane_records};
 ghost use Rattle.aug_core.specs.Records.{first_era};
 ghost use Rattle.aug_core.specs.Reclaiming.{releasing, own_reservation};
 ghost use Rattle.aug_words.specs.Reservations.{HasReservations, MayRetire, Retires};
-ghost use Rattle.aug_words.specs.Seats.{AreTogether, StaysAt, TriedNode};
+ghost use Rattle.aug_words.specs.Seats.{AreTogether, Known, StaysAt, TriedNode};
 ghost use Rattle.aug_words.specs.Stocks.{IsHeld, IsLate, OpensStock, ReservesAnew, Scans, Stocks, birth_in_word, later_eras, naming, number_in_word, that_era};
 ghost use Rattle.aug_words.specs.inside.Stocking.{HasLoaded, Sorts};
 
@@ -81,21 +81,21 @@ impl Model for Stock {
 }
 
 impl Stock {
-    /// The stock of a pass that was just handed out: it may write all records of its lane.
+    /// The stock of a lane, for the pass to which it is handed out: that may write all records of it.
     pub fn new<A: Monoid, B: Monoid>(
         alloc: Global,
-        pass: &WordPass<A, B>,
         words: &Words<A, B>,
+        lane: u32,
     ) -> Result<Stock, AllocError>
-        requires together { AreTogether words.now pass.now }
-        requires slots { HasReservations pass.now.view }
-        requires opens { OpensStock pass.now.view }
-        ensures stocks { IfOk result (λ k. Stocks pass.now.view k) }
-        ensures free { IfOk result (λ k. k.free ≡ lane_records pass.now.view.shape) }
-        ensures all { IfOk result (λ k. length k.words ≡ lane_records pass.now.view.shape) }
+        requires lane { lane < words.now.shape.workers }
+        ensures stocks { IfOk result (λ k. (p : Known) → AreTogether words.now p → HasReservations p.view → KnowsBook (face A.parts B.parts) p.view → OpensStock p.view → own_lane p.view.held ≡ lane → Stocks p.view k) }
+        ensures free { IfOk result (λ k. k.free ≡ lane_records words.now.shape) }
+        ensures all { IfOk result (λ k. length k.words ≡ lane_records words.now.shape) }
+        ensures none { IfOk result (λ k. k.replaced ≡ 0) }
+        ensures released { IfOk result (λ k. k.era ≡ 0) }
     {
         let layout = &words.layout;
-        let first = layout.first_record(pass.lane);
+        let first = layout.first_record(lane);
         let count = layout.updates() as usize * layout.bits() as usize;
         let mut numbers = Vec::from_elem(alloc, 0, count)?;
         for i in 0..count {

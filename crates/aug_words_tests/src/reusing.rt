@@ -441,14 +441,16 @@ fn next_hand(
     requires small { IsSmall words.now.shape }
     requires room { (lead.old.view.spare ≡ Some lane) × (lane < 2) }
     ensures together { AreTogether words.now lead.new }
-    ensures spare { lead.new.view.spare ≡ Some (lane + 1) }
+    ensures spare { IfOk result (λ _. lead.new.view.spare ≡ Some (lane + 1)) }
     ensures hand { IfOk result (λ h. AreTogether words.now h.half) }
     ensures stocks { IfOk result (λ h. Stocks h.half.view h.stock) }
     ensures none { IfOk result (λ h. h.stock.replaced ≡ 0) }
 {
-    let _lane = lane;
+    let stock = Stock::new(alloc, words, lane)?;
     let pass = lead.split(words);
-    let stock = Stock::new(alloc, &pass, words)?;
+    if pass.lane() != lane {
+        return Err(AllocError);
+    }
     Ok(Hand {
         half: pass.into_half(),
         stock,

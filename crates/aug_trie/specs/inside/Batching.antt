@@ -4,8 +4,10 @@ use Rattle.aug_core.specs.Places.{Shape}
 use Rattle.aug_core.specs.Book.{Book, ArePrefixes}
 use Rattle.aug_core.specs.Kinds.{load_leaf}
 use Rattle.aug_core.specs.inside.Shows.{above, Lifts}
+use Rattle.aug_core.specs.Effects.{HoldsOnly, with_changes}
 use Rattle.aug_core.specs.declared.step.StepTaken.{StepTaken}
 use Rattle.aug_core.specs.declared.view.Change.{Change}
+use Rattle.aug_core.specs.declared.view.Held.{Held}
 use Rattle.aug_core.specs.declared.view.SeatView.{SeatView}
 use Rattle.aug_trie.specs.declared.rounds.account.Account.{Account}
 use Rattle.aug_model.specs.declared.outcome.Outcome.{Outcome}
@@ -31,6 +33,11 @@ Raises next v level w = (seen : Book) (key : ℕ) → key < 2 ^ v.shape.bits →
 abbrev pub IsAccountAfter : ℕ → Account → Account → Type 0
 IsAccountAfter n a after = after ≡ record { leaves = a.leaves; bits = a.bits; next = a.next + n * a.bits; left = a.left - n; inserts = after.inserts; removals = after.removals }
 
+-- the lane has these changes more, and what is reserved is the same
+pub record GainsOnly (gained : List Change) (v w : SeatView) : Type 0 where
+  pub held : (h : Held) → HoldsOnly v h → HoldsOnly w (with_changes gained h)
+  pub reserved : w.reserved ≡ v.reserved
+
 module _ (face : ℕ → ℕ → List (ℕ × ℕ) → List ℕ) where
   -- an update that was at its leaf: its steps there, the changes that it made, and what it comes to once a later view shows what the leaf had reached
   pub record LeftLeaf (v : SeatView) (key : ℕ) (request : Request) (done : Outcome) (w : SeatView) : Type 0 where
@@ -44,6 +51,7 @@ module _ (face : ℕ → ℕ → List (ℕ × ℕ) → List ℕ) where
     pub few_gained : length gained ≤ 2
     pub counts : HasCounts gained (insertions_by request done) (removals_by request done)
     pub goes : Goes face 0 gained v w
+    pub rest : GainsOnly gained v w
     pub came : (used : ℕ) (u z : SeatView) → u.shape ≡ v.shape → ArePrefixes u.seen v.seen → ArePrefixes w.seen z.seen → Lifts v.shape w.seen z.seen key v.shape.bits → Goes face used gained u z → CameBy face used u key request z word done
 
   -- one update of a batch was at its leaf, between two views

@@ -5,7 +5,8 @@ use Rattle.aug_monoid.specs.Fold.{fold_of}
 use Rattle.aug_core.specs.Places.{Shape, record_words}
 use Rattle.aug_core.specs.Book.{At, ArePrefixes, IsFresh}
 use Rattle.aug_core.specs.Counts.{changes_of}
-use Rattle.aug_core.specs.Effects.{HoldsOnly, MayStore, own_lane, KnowsBook}
+use Rattle.aug_core.specs.Addresses.{IsInner}
+use Rattle.aug_core.specs.Effects.{HoldsOnly, MayStore, Covers, own_lane, KnowsBook}
 use Rattle.aug_core.specs.inside.Refreshes.{Refreshed}
 use Rattle.aug_core.specs.declared.step.StepTaken.{StepTaken}
 use Rattle.aug_core.specs.declared.view.Change.{Change}
@@ -111,6 +112,6 @@ module _ {A B : Type 0} (parts_a : Parts A) (parts_b : Parts B) where
     pub a_is : a ≡ fold_of parts_a pairs
     pub b_is : b ≡ fold_of parts_b pairs
 
-  -- what the entries of a place with this word have
-  pub record IsPartOf (v : SeatView) (place word count : ℕ) (a : A) (b : B) : Type 0 where
-    pub of : (i : ℕ) (e : Entry) → At v.seen place i e → e.word ≡ word → IsPart count a b e.pairs
+  -- what the entries of a place have that have this word, at a node those with this record that the view guards
+  pub record IsPartOf (v : SeatView) (place word number count : ℕ) (a : A) (b : B) : Type 0 where
+    pub of : (i : ℕ) (e : Entry) → At v.seen place i e → e.word ≡ word → (IsInner v.shape place → Covers v place i e × (e.number ≡ number)) → IsPart count a b e.pairs

@@ -35,7 +35,11 @@ pub(crate) fn amount_in(request: Request) -> u32
 
 // Changes the leaf of a key as it is asked to, unless its word refuses that.
 #[inline(always)]
-fn at_leaf<A: Monoid, B: Monoid>(pass: &mut WordPass<A, B>, key: u32, request: Request) -> Outcome
+pub(crate) fn at_leaf<A: Monoid, B: Monoid>(
+    pass: &mut WordPass<A, B>,
+    key: u32,
+    request: Request,
+) -> Outcome
     requires key { key < 2 ^ pass.old.view.shape.bits }
     requires knows { KnowsBook (face A.parts B.parts) pass.old.view }
     requires may { MayChange pass.old.view }

@@ -1,10 +1,10 @@
 //! What the node above reads of a child.
-ghost use Rattle.std.specs.Prelude.{◌≡◌, ℕ, ◌<◌, ◌^◌, []};
+ghost use Rattle.std.specs.Prelude.{◌≡◌, ℕ, ◌<◌, ◌≤◌, ◌^◌, []};
 ghost use Rattle.aug_core.specs.Faces.{face};
 ghost use Rattle.aug_core.specs.Addresses.{place_count, IsInner};
-ghost use Rattle.aug_core.specs.inside.Refreshes.{HasEntry};
+ghost use Rattle.aug_core.specs.Effects.{GuardsRecord, KnowsBook};
 ghost use Rattle.aug_trie.specs.inside.LeafPairs.{leaf_pairs};
-ghost use Rattle.aug_trie.specs.inside.Goes.{IsPart, IsPartOf, Goes, Took, KnowsLeaves, part_words, part_steps};
+ghost use Rattle.aug_trie.specs.inside.Goes.{IsPart, IsPartOf, Goes, Looks, Took, KnowsLeaves, part_words, part_steps};
 
 use crate::updates::leaf_words::{leaf_serial, leaf_weight};
 use aug_core::RecordField;
@@ -58,22 +58,17 @@ pub(crate) fn part_of_words<A: Monoid, B: Monoid>(count: u64, a: u64, b: u64) ->
     }
 }
 
-// What is read of the record of an inner node: three steps.
+// What is read of a record that the pass guards: three steps.
 #[inline(always)]
-fn node_part<A: Monoid, B: Monoid>(
-    pass: &mut WordPass<A, B>,
-    leaves: usize,
-    node: usize,
-    number: u64,
-) -> Part<A, B>
-    requires over { KnowsLeaves (face A.parts B.parts) pass.old.view leaves }
-    requires keeps { pass.old.view.shape.reservations ≡ 0 }
-    requires inner { IsInner pass.old.view.shape node }
-    requires named { HasEntry pass.old.view.seen node number }
+fn record_part<A: Monoid, B: Monoid>(pass: &mut WordPass<A, B>, number: u64) -> Part<A, B>
+    requires few { 2 ^ pass.old.view.shape.bits ≤ 65536 }
+    requires knows { KnowsBook (face A.parts B.parts) pass.old.view }
+    requires guards { GuardsRecord pass.old.view number }
     ensures table { pass.new.table ≡ pass.old.table }
     ensures goes { Goes (face A.parts B.parts) 0 [] pass.old.view pass.new.view }
+    ensures looks { Looks part_words pass.old.view pass.new.view }
     ensures took { Took pass.old.view pass.new.view part_words }
-    ensures part { IsPartOf A.parts B.parts pass.old.view node number result.count result.a result.b }
+    ensures part { (node word : ℕ) → IsInner pass.old.view.shape node → IsPartOf A.parts B.parts pass.old.view node word number result.count result.a result.b }
 {
     let count = pass.load_record_word(number, RecordField::Count);
     let a = pass.load_record_word(number, RecordField::A);
@@ -81,26 +76,27 @@ fn node_part<A: Monoid, B: Monoid>(
     part_of_words(count, a, b)
 }
 
-// What is read of the leaf or node at a place whose loaded word is `word`.
+// What is read of the leaf or node at a place whose loaded word is `word`; a node's names the record `number`.
 #[inline(always)]
 pub(crate) fn any_part<A: Monoid, B: Monoid>(
     pass: &mut WordPass<A, B>,
     leaves: usize,
     place: usize,
     word: u64,
+    number: u64,
 ) -> Part<A, B>
     requires over { KnowsLeaves (face A.parts B.parts) pass.old.view leaves }
-    requires keeps { pass.old.view.shape.reservations ≡ 0 }
     requires place { place < place_count pass.old.view.shape }
-    requires named { HasEntry pass.old.view.seen place word }
+    requires guards { IsInner pass.old.view.shape place → GuardsRecord pass.old.view number }
     ensures table { pass.new.table ≡ pass.old.table }
     ensures goes { Goes (face A.parts B.parts) 0 [] pass.old.view pass.new.view }
+    ensures looks { Looks part_words pass.old.view pass.new.view }
     ensures took { Took pass.old.view pass.new.view (part_steps pass.old.view.shape place) }
-    ensures part { IsPartOf A.parts B.parts pass.old.view place word result.count result.a result.b }
+    ensures part { IsPartOf A.parts B.parts pass.old.view place word number result.count result.a result.b }
 {
     if place < leaves {
         leaf_part(place, word)
     } else {
-        node_part(pass, leaves, place, word)
+        record_part(pass, number)
     }
 }

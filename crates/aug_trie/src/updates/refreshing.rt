@@ -1,9 +1,10 @@
 //! One try to bring a node up to its children.
 ghost use Rattle.std.specs.Prelude.{◌≡◌, ℕ, ◌+◌, ◌^◌, ◌<◌, [], ◌∷◌, slice_index, false};
+ghost use Rattle.aug_core.specs.Places.{record_words};
 ghost use Rattle.aug_core.specs.Faces.{face};
 ghost use Rattle.aug_core.specs.Addresses.{place_count, IsInner};
 ghost use Rattle.aug_core.specs.Effects.{MayStore, KnowsBook};
-ghost use Rattle.aug_core.specs.inside.Refreshes.{HasNewest, SaysLoaded, Published};
+ghost use Rattle.aug_core.specs.inside.Refreshes.{HasNewest, SaysLoaded, Published, stored};
 ghost use Rattle.aug_words.specs.Seats.{StaysAt};
 ghost use Rattle.aug_trie.specs.inside.Goes.{Goes, Took, HasRoom, KnowsLeaves, publish_steps};
 ghost use Rattle.aug_trie.specs.inside.Points.{QuietStep, MayRefresh, TryOver};
@@ -54,6 +55,23 @@ pub(crate) fn five_words<A: Monoid, B: Monoid>(
 // How many steps it takes to fill a record and to try to publish it.
 pub(crate) const PUBLISH_STEPS: u32 = RECORD_WORDS as u32 + 1;
 
+// Stores the five words of an own record: five steps.
+#[inline(always)]
+pub(crate) fn fill<A: Monoid, B: Monoid>(
+    pass: &mut WordPass<A, B>,
+    number: u64,
+    five: [u64; RECORD_WORDS],
+)
+    requires { MayStore pass.old.view number }
+    ensures { StaysAt pass.old pass.new (pass.new.view ≡ stored pass.old.view number five record_words) }
+{
+    pass.store_record_word(number, RecordField::Left, five[0]);
+    pass.store_record_word(number, RecordField::Right, five[1]);
+    pass.store_record_word(number, RecordField::Count, five[2]);
+    pass.store_record_word(number, RecordField::A, five[3]);
+    pass.store_record_word(number, RecordField::B, five[4]);
+}
+
 // Fills an own record and tries to publish it: six steps.
 #[inline(always)]
 fn publish<A: Monoid, B: Monoid>(
@@ -73,11 +91,7 @@ fn publish<A: Monoid, B: Monoid>(
     ensures published { Published pass.old.view.shape node from (slice_index five 0) (slice_index five 1) result pass.new.view.seen }
     ensures again { result ≡ false → MayStore pass.new.view number }
 {
-    pass.store_record_word(number, RecordField::Left, five[0]);
-    pass.store_record_word(number, RecordField::Right, five[1]);
-    pass.store_record_word(number, RecordField::Count, five[2]);
-    pass.store_record_word(number, RecordField::A, five[3]);
-    pass.store_record_word(number, RecordField::B, five[4]);
+    fill(pass, number, five);
     pass.try_node(node, from, number)
 }
 
@@ -96,7 +110,7 @@ pub(crate) fn refresh<A: Monoid, B: Monoid>(
     let child = 2 * (node - leaves);
     let left = look(pass, leaves, child);
     let right = look(pass, leaves, child + 1);
-    let l = any_part(pass, leaves, child, left);
-    let r = any_part(pass, leaves, child + 1, right);
+    let l = any_part(pass, leaves, child, left, left);
+    let r = any_part(pass, leaves, child + 1, right, right);
     publish(pass, node, from, number, five_words(left, right, l, r))
 }

@@ -27,5 +27,5 @@ pub returns-then-count-eq-RECORD_WORDS-clause-step : goal.returns-then-count-eq-
 returns-then-count-eq-RECORD_WORDS-clause-step g c = let m = g.A.Monoid.parts in let n = g.B.Monoid.parts in let told = c.try_node.ensures.view in
     let kn = knows_old m n c.requires.begun.0 c.args.node c.args.number c.args.filling c.args.pass.now.view c.requires.begun.1 in record {
       table = c.try_node.ensures.table;
-      view = quiet_try (face m n) c.args.pass.now.view c.try_node.new.self.view c.args.node _ c.args.number told.found c.try_node.result told.decided (told_plainly (room_old m n c.requires.begun.0 c.args.node c.args.number c.args.filling c.args.pass.now.view c.requires.begun.1).keeps_records (may_store_word m n c.requires.begun.0 c.args.node c.args.number c.args.filling c.args.pass.now.view c.requires.begun.1) told) kn;
+      view = quiet_try (face m n) c.args.pass.now.view c.try_node.new.self.view c.args.node _ c.args.number c.args.number told.found c.try_node.result told.decided (told_plainly (room_old m n c.requires.begun.0 c.args.node c.args.number c.args.filling c.args.pass.now.view c.requires.begun.1).keeps_records (may_store_word m n c.requires.begun.0 c.args.node c.args.number c.args.filling c.args.pass.now.view c.requires.begun.1) told) kn;
     }

@@ -4,14 +4,19 @@ use Rattle.aug_core.specs.Faces.{face}
 use Rattle.aug_core.specs.Places.{Shape}
 use Rattle.aug_core.proofs.Refreshing.{has_entry}
 use Rattle.aug_trie.proofs.Levels.{child_places}
+use Rattle.aug_trie.proofs.Telling.{guards_named}
 use Rattle.aug_trie.proofs.Whole.{try_loaded}
 use Rattle.aug_trie.proofs.updates.refreshing.refresh.Goals as goal
 
-pub any_part-l-requires-clause-named : goal.any_part-l-requires-clause-named
-any_part-l-requires-clause-named g c = has_entry (face g.A.Monoid.parts g.B.Monoid.parts) c.args.pass.now.view.shape c.look-right.new.pass.view.seen c.look-left.new.pass.view.seen _ c.look-left.result c.look-right.ensures.goes.later c.look-left.ensures.newest
+pub any_part-l-requires-clause-guards : goal.any_part-l-requires-clause-guards
+any_part-l-requires-clause-guards g c = let l = c.look-left.ensures in let r = c.look-right.ensures in
+    λ inner. guards_named (face g.A.Monoid.parts g.B.Monoid.parts) c.look-right.new.pass.view _ c.look-left.result (ap (λ (z : Shape). z.reservations) (r.goes.shaped ∙ l.goes.shaped ∙ c.look-from.ensures.goes.shaped) ∙ c.requires.room.keeps_records) r.goes.knows_table inner
+    (has_entry (face g.A.Monoid.parts g.B.Monoid.parts) c.args.pass.now.view.shape c.look-right.new.pass.view.seen c.look-left.new.pass.view.seen _ c.look-left.result r.goes.later l.newest)
 
-pub any_part-r-requires-clause-named : goal.any_part-r-requires-clause-named
-any_part-r-requires-clause-named g c = has_entry (face g.A.Monoid.parts g.B.Monoid.parts) c.args.pass.now.view.shape c.any_part-l.new.pass.view.seen c.look-right.new.pass.view.seen _ c.look-right.result c.any_part-l.ensures.goes.later c.look-right.ensures.newest
+pub any_part-r-requires-clause-guards : goal.any_part-r-requires-clause-guards
+any_part-r-requires-clause-guards g c = let l = c.look-left.ensures in let r = c.look-right.ensures in let pl = c.any_part-l.ensures in
+    λ inner. guards_named (face g.A.Monoid.parts g.B.Monoid.parts) c.any_part-l.new.pass.view _ c.look-right.result (ap (λ (z : Shape). z.reservations) (pl.goes.shaped ∙ r.goes.shaped ∙ l.goes.shaped ∙ c.look-from.ensures.goes.shaped) ∙ c.requires.room.keeps_records) pl.goes.knows_table inner
+    (has_entry (face g.A.Monoid.parts g.B.Monoid.parts) c.args.pass.now.view.shape c.any_part-l.new.pass.view.seen c.look-right.new.pass.view.seen _ c.look-right.result pl.goes.later r.newest)
 
 pub publish-requires-clause-room : goal.publish-requires-clause-room
 publish-requires-clause-room g c = let n = c.look-from.ensures in let l = c.look-left.ensures in let r = c.look-right.ensures in let pl = c.any_part-l.ensures in let pr = c.any_part-r.ensures in
@@ -46,9 +51,3 @@ any_part-l-requires-clause-place g c = (child_places c.requires.leaves c.require
 
 pub any_part-r-requires-clause-place : goal.any_part-r-requires-clause-place
 any_part-r-requires-clause-place g c = (child_places c.requires.leaves c.requires.inner refl (c.any_part-l.ensures.goes.shaped ∙ c.look-right.ensures.goes.shaped ∙ c.look-left.ensures.goes.shaped ∙ c.look-from.ensures.goes.shaped)).1
-
-pub any_part-l-requires-clause-keeps : goal.any_part-l-requires-clause-keeps
-any_part-l-requires-clause-keeps g c = ap (λ (z : Shape). z.reservations) (c.look-right.ensures.goes.shaped ∙ c.look-left.ensures.goes.shaped ∙ c.look-from.ensures.goes.shaped) ∙ c.requires.room.keeps_records
-
-pub any_part-r-requires-clause-keeps : goal.any_part-r-requires-clause-keeps
-any_part-r-requires-clause-keeps g c = ap (λ (z : Shape). z.reservations) (c.any_part-l.ensures.goes.shaped ∙ c.look-right.ensures.goes.shaped ∙ c.look-left.ensures.goes.shaped ∙ c.look-from.ensures.goes.shaped) ∙ c.requires.room.keeps_records

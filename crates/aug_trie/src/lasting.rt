@@ -1,0 +1,7 @@
+//! Passes of a table that uses records again: they have no budget.
+
+pub(crate) mod crew;
+pub(crate) mod lifting;
+pub(crate) mod pass;
+pub(crate) mod table;
+pub(crate) mod working;

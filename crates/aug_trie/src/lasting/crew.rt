@@ -1,0 +1,67 @@
+//! The crew of a table that lasts, which hands its passes out.
+ghost use Rattle.std.specs.Prelude.{◌≡◌, ◌↔◌, ◌*◌, length, IsErrOf, OnErr, IfErr, IfOk};
+ghost use Rattle.aug_trie.specs.Crew.{HandsOut};
+ghost use Rattle.aug_trie.specs.Round.{table_of};
+
+use crate::error::LastingError;
+use crate::lasting::pass::LastingPass;
+use crate::lasting::table::Lasting;
+use aug_monoid::Monoid;
+use aug_words::{Lead, Stock};
+use std::alloc::Global;
+use std::marker::Model;
+
+/// The crew of a table that lasts. It hands its passes out.
+#[derive(Drop)]
+pub struct LastingCrew<A: Monoid, B: Monoid> {
+    pub(crate) lead: Lead<A, B>,
+}
+
+impl<A: Monoid, B: Monoid> Model for LastingCrew<A, B> {
+    ghost use Rattle.std.specs.Prelude.{false};
+    ghost use Rattle.aug_core.specs.Faces.{face};
+    ghost use Rattle.aug_trie.specs.Crew.{CrewFacts};
+    ghost use Rattle.aug_trie.specs.inside.CrewState.{crew_facts};
+    ghost use Rattle.aug_trie.specs.inside.LastingState.{HasLastingCrew};
+
+    ghost Value = { CrewFacts };
+
+    ghost view = { λ c. crew_facts c.lead false };
+
+    ghost invariant = { λ c. HasLastingCrew (face A.parts B.parts) c.lead };
+}
+
+impl<A: Monoid, B: Monoid> LastingCrew<A, B> {
+    /// Hands out the next lane, 0 first, to a new pass. The pass knows what the crew knows after the call. Refused with `NoLane` once all lanes were handed
+    /// out, and with `OutOfMemory` if there is none for the list of the lane's records; then nothing was handed out.
+    pub fn pass(
+        &mut self,
+        alloc: Global,
+        table: &Lasting<A, B>,
+    ) -> Result<LastingPass<A, B>, LastingError>
+        requires together { table_of self.old.round ≡ table.now }
+        ensures no_lane { IsErrOf result LastingError.NoLane ↔ (self.old.handed ≡ self.old.round.workers) }
+        ensures not_full { IsErrOf result LastingError.Full → ⊥ }
+        ensures refused { OnErr result (self.new ≡ self.old) }
+        ensures handed { IfOk result (λ pass. HandsOut self.old self.new pass.pass) }
+        ensures stock { IfOk result (λ pass. pass.stock.free ≡ self.old.round.updates * self.old.round.bits) }
+        ensures rests { IfOk result (λ pass. pass.stock.era ≡ 0) }
+    {
+        let lane = self.lead.handed();
+        if lane == table.layout.workers() {
+            return Err(LastingError::NoLane);
+        }
+        let Ok(stock) = Stock::new(alloc, &table.words, lane) else {
+            return Err(LastingError::OutOfMemory);
+        };
+        let words = self.lead.split(&table.words);
+        let bits = table.layout.bits();
+        Ok(LastingPass {
+            words: Some(words.into_half()),
+            stock,
+            leaves: 1 << bits,
+            bits,
+            since: 0,
+        })
+    }
+}

@@ -1,0 +1,113 @@
+//! Bringing nodes up to their children by the records of a stock.
+ghost use Rattle.std.specs.Prelude.{◌≡◌, ◌+◌, ◌*◌, ◌^◌, ◌<◌, ◌≤◌, nat_lt, if◌then◌else◌};
+ghost use Rattle.aug_core.specs.Addresses.{IsInner};
+ghost use Rattle.aug_core.specs.Faces.{face};
+ghost use Rattle.aug_words.specs.Reservations.{MayRetire};
+ghost use Rattle.aug_words.specs.Stocks.{HasReserved};
+ghost use Rattle.aug_trie.specs.inside.Goes.{HasLeaves};
+ghost use Rattle.aug_trie.specs.inside.Lasting.{KeepsStock, TriedBy, CoveredBy, LiftedTo, birth_from};
+
+use crate::updates::parts::any_part;
+use crate::updates::refreshing::{fill, five_words};
+use aug_monoid::Monoid;
+use aug_words::{Stock, WordPass, Words};
+
+// How many numbers of records there are beside their births in the words of nodes.
+const NUMBERS: u64 = 1 << 24;
+
+// The birth of the stock's next record over two children with these words. A leaf's word names no record.
+#[inline(always)]
+fn birth_over(stock: &Stock, over_leaves: bool, left: u64, right: u64) -> u64
+    ensures value { result ≡ birth_from stock.now.era over_leaves left right }
+    ensures fits { result < 2 ^ 40 }
+{
+    if over_leaves {
+        stock.birth_over(0, 0)
+    } else {
+        stock.birth_over(left, right)
+    }
+}
+
+// One try at a node, by the stock's next record. True if the record was published.
+#[inline(always)]
+fn try_lift<A: Monoid, B: Monoid>(
+    pass: &mut WordPass<A, B>,
+    stock: &mut Stock,
+    words: &Words<A, B>,
+    leaves: usize,
+    node: usize,
+) -> bool
+    requires keeps { KeepsStock (face A.parts B.parts) words.now pass.old stock.old }
+    requires reserved { HasReserved pass.old.view }
+    requires leaves { HasLeaves pass.old.view.shape leaves }
+    requires inner { IsInner pass.old.view.shape node }
+    requires some { 0 < stock.old.free }
+    ensures keeps { KeepsStock (face A.parts B.parts) words.now pass.new stock.new }
+    ensures reserved { HasReserved pass.new.view }
+    ensures tried { TriedBy (face A.parts B.parts) pass.old.view node result pass.new.view }
+    ensures free { stock.new.free + (if result then 1 else 0) ≡ stock.old.free }
+{
+    let (from, left, right) = stock.load_over(pass, words, leaves, node);
+    let child = 2 * (node - leaves);
+    let l = any_part(pass, leaves, child, left, left % NUMBERS);
+    let r = any_part(pass, leaves, child + 1, right, right % NUMBERS);
+    fill(pass, stock.next(), five_words(left, right, l, r));
+    let birth = birth_over(stock, child < leaves, left, right);
+    stock.try_node(pass, node, from, birth)
+}
+
+// One try at a node, and a second one if the first one's exchange failed.
+#[inline(always)]
+fn lift<A: Monoid, B: Monoid>(
+    pass: &mut WordPass<A, B>,
+    stock: &mut Stock,
+    words: &Words<A, B>,
+    leaves: usize,
+    node: usize,
+)
+    requires keeps { KeepsStock (face A.parts B.parts) words.now pass.old stock.old }
+    requires reserved { HasReserved pass.old.view }
+    requires leaves { HasLeaves pass.old.view.shape leaves }
+    requires inner { IsInner pass.old.view.shape node }
+    requires some { 0 < stock.old.free }
+    ensures keeps { KeepsStock (face A.parts B.parts) words.now pass.new stock.new }
+    ensures reserved { HasReserved pass.new.view }
+    ensures covered { CoveredBy (face A.parts B.parts) pass.old.view node pass.new.view }
+    ensures free { stock.old.free ≤ stock.new.free + 1 }
+{
+    if try_lift(pass, stock, words, leaves, node) {
+        return;
+    }
+    try_lift(pass, stock, words, leaves, node);
+}
+
+// Brings all nodes above a leaf up to their children. Then what was replaced on the way may be retired.
+#[inline(always)]
+pub(crate) fn lift_all<A: Monoid, B: Monoid>(
+    pass: &mut WordPass<A, B>,
+    stock: &mut Stock,
+    words: &Words<A, B>,
+    leaves: usize,
+    bits: u32,
+    leaf: usize,
+)
+    requires keeps { KeepsStock (face A.parts B.parts) words.now pass.old stock.old }
+    requires reserved { HasReserved pass.old.view }
+    requires leaves { HasLeaves pass.old.view.shape leaves }
+    requires leaf { leaf < 2 ^ pass.old.view.shape.bits }
+    requires bits { bits ≡ pass.old.view.shape.bits }
+    requires records { bits ≤ stock.old.free }
+    requires none { stock.old.replaced ≡ 0 }
+    ensures keeps { KeepsStock (face A.parts B.parts) words.now pass.new stock.new }
+    ensures reserved { HasReserved pass.new.view }
+    ensures lifted { LiftedTo (face A.parts B.parts) leaf pass.old.view bits pass.new.view }
+    ensures later { MayRetire pass.new.view }
+    ensures records { stock.old.free ≤ stock.new.free + bits }
+{
+    let mut node = leaf;
+    for level in 0..bits {
+        let _ = level;
+        node = leaves + node / 2;
+        lift(pass, stock, words, leaves, node);
+    }
+}

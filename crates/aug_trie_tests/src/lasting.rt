@@ -1,0 +1,274 @@
+//! Passes of a table that lasts: they make thousands of updates with the records of a few. What an update comes to says what those before it left.
+ghost use Rattle.std.specs.Prelude.{◌≡◌, ◌+◌, ◌^◌, ◌<◌, IfErr, IfOk};
+ghost use Rattle.aug_trie.specs.Round.{table_of};
+
+use crate::assertions::equal;
+use aug_monoid::{Extent, Sum};
+use aug_trie::Outcome::{Accepted, Refused, Replaced, TooGreat, TooLittle, Unchanged};
+use aug_trie::Request::{Add, Insert, Put, Remove, Sub, Take};
+use aug_trie::{
+    BeginError, Lasting, LastingCrew, LastingError, LastingPass, Members, Outcome, Request,
+};
+use std::alloc::Global;
+use std::sync::Wait;
+use std::thread;
+use std::thread::Threads;
+
+type Table = Lasting<Sum, Extent>;
+
+type Crew = LastingCrew<Sum, Extent>;
+
+type Hand = LastingPass<Sum, Extent>;
+
+// A table of 3 bits over these members, for so many passes with the records of so many updates each.
+fn opened_over(
+    alloc: Global,
+    members: Members,
+    workers: u32,
+    updates: u32,
+) -> Result<(Table, Crew), (Members, BeginError)>
+    requires bits { members.bits ≡ 3 }
+    ensures together { IfOk result (λ t. table_of t.1.round ≡ t.0) }
+    ensures bits { IfOk result (λ t. t.1.round.bits ≡ 3) }
+    ensures same { IfErr result (λ e. e.0 ≡ members) }
+{
+    Lasting::open(alloc, members, workers, updates)
+}
+
+// One without members.
+fn opened(alloc: Global, workers: u32, updates: u32) -> Result<(Table, Crew), BeginError>
+    ensures together { IfOk result (λ t. table_of t.1.round ≡ t.0) }
+    ensures bits { IfOk result (λ t. t.1.round.bits ≡ 3) }
+{
+    let members = Members::empty(alloc, 3)?;
+    match opened_over(alloc, members, workers, updates) {
+        Ok(opened) => Ok(opened),
+        Err((_, cause)) => Err(cause),
+    }
+}
+
+// The next pass.
+fn next_hand(alloc: Global, crew: &mut Crew, table: &Table) -> Result<Hand, LastingError>
+    requires together { table_of crew.old.round ≡ table.now }
+    requires bits { crew.old.round.bits ≡ 3 }
+    ensures crew { crew.new.round ≡ crew.old.round }
+    ensures hand { IfOk result (λ h. h.pass.round ≡ crew.old.round) }
+{
+    crew.pass(alloc, table)
+}
+
+// What an update comes to, once there is room for it. None if there is none after a thousand tries.
+fn changed(hand: &mut Hand, table: &Table, k: u32, request: Request) -> Option<Outcome>
+    requires together { table_of hand.old.pass.round ≡ table.now }
+    requires key { k < 2 ^ hand.old.pass.round.bits }
+    ensures { hand.new.pass.round ≡ hand.old.pass.round }
+{
+    for _ in 0..1_000 {
+        if let Ok(done) = hand.update(table, k, request) {
+            return Some(done);
+        }
+    }
+    None
+}
+
+// Whether a key comes to what it should that is put in, weighs more and then less, and is taken out again.
+fn comes_and_goes(hand: &mut Hand, table: &Table, k: u32, weight: u32) -> bool
+    requires together { table_of hand.old.pass.round ≡ table.now }
+    requires key { k < 2 ^ hand.old.pass.round.bits }
+    ensures { hand.new.pass.round ≡ hand.old.pass.round }
+{
+    let put = changed(hand, table, k, Put(weight));
+    let more = changed(hand, table, k, Add(7));
+    let less = changed(hand, table, k, Sub(3));
+    let gone = changed(hand, table, k, Take(weight.saturating_add(4)));
+    [put, more, less, gone]
+        == [
+            Some(Accepted),
+            Some(Replaced),
+            Some(Replaced),
+            Some(Accepted),
+        ]
+}
+
+// How many of so many keys, of which there are four from this one on, come to what they should.
+fn go_round(hand: &mut Hand, table: &Table, from: u32, times: u32) -> u32
+    requires together { table_of hand.old.pass.round ≡ table.now }
+    requires bits { hand.old.pass.round.bits ≡ 3 }
+    requires from { from < 5 }
+    ensures { hand.new.pass.round ≡ hand.old.pass.round }
+{
+    let mut good: u32 = 0;
+    for turn in 0..times {
+        if comes_and_goes(hand, table, from + turn % 4, turn) {
+            good = good.saturating_add(1);
+        }
+    }
+    good
+}
+
+#[test]
+fn a_pass_makes_thousands_of_updates_with_the_records_of_two(
+    rt: HostRuntime,
+) -> Result<(), LastingError> {
+    let Ok((table, mut crew)) = opened(rt.alloc(), 1, 2) else {
+        return Err(LastingError::OutOfMemory);
+    };
+    let mut hand = next_hand(rt.alloc(), &mut crew, &table)?;
+    equal(&rt, go_round(&mut hand, &table, 0, 2_000), 2_000);
+    Ok(())
+}
+
+// What one of two passes asks of a key, and what that comes to.
+const ROWS: [(bool, u32, Request, Outcome); 20] = [
+    (false, 5, Insert, Accepted),
+    (true, 5, Insert, Refused),
+    (true, 5, Put(70), Replaced),
+    (false, 5, Add(0), Unchanged),
+    (false, 5, Add(u32::MAX), TooGreat),
+    (false, 5, Add(u32::MAX - 70), Replaced),
+    (true, 5, Sub(0), Unchanged),
+    (true, 5, Sub(u32::MAX), Accepted),
+    (false, 5, Remove, Refused),
+    (false, 5, Sub(1), TooLittle),
+    (true, 7, Put(9), Accepted),
+    (false, 7, Take(8), Refused),
+    (false, 7, Sub(10), TooLittle),
+    (false, 7, Take(9), Accepted),
+    (true, 7, Take(9), Refused),
+    (true, 0, Add(1), Accepted),
+    (false, 0, Remove, Accepted),
+    (true, 0, Put(0), Accepted),
+    (false, 0, Insert, Refused),
+    (true, 0, Sub(0), Unchanged),
+];
+
+// What comes of it.
+fn asked(
+    first: &mut Hand,
+    second: &mut Hand,
+    table: &Table,
+    row: (bool, u32, Request),
+) -> Option<Outcome>
+    requires first { (table_of first.old.pass.round ≡ table.now) × (first.old.pass.round.bits ≡ 3) }
+    requires second { (table_of second.old.pass.round ≡ table.now) × (second.old.pass.round.bits ≡ 3) }
+    ensures first { first.new.pass.round ≡ first.old.pass.round }
+    ensures second { second.new.pass.round ≡ second.old.pass.round }
+{
+    let (other, k, request) = row;
+    if k > 7 {
+        None
+    } else if other {
+        changed(second, table, k, request)
+    } else {
+        changed(first, table, k, request)
+    }
+}
+
+// How many of the rows come to what they should.
+fn good_rows(first: &mut Hand, second: &mut Hand, table: &Table) -> u32
+    requires first { (table_of first.old.pass.round ≡ table.now) × (first.old.pass.round.bits ≡ 3) }
+    requires second { (table_of second.old.pass.round ≡ table.now) × (second.old.pass.round.bits ≡ 3) }
+{
+    let mut good: u32 = 0;
+    for (other, k, request, outcome) in ROWS {
+        if asked(first, second, table, (other, k, request)) == Some(outcome) {
+            good = good.saturating_add(1);
+        }
+    }
+    good
+}
+
+#[test]
+fn two_passes_find_what_the_other_left(rt: HostRuntime) -> Result<(), LastingError> {
+    let Ok((table, mut crew)) = opened(rt.alloc(), 2, 1) else {
+        return Err(LastingError::OutOfMemory);
+    };
+    let mut first = next_hand(rt.alloc(), &mut crew, &table)?;
+    let mut second = next_hand(rt.alloc(), &mut crew, &table)?;
+    equal(&rt, good_rows(&mut first, &mut second, &table), 20);
+    equal(
+        &rt,
+        crew.pass(rt.alloc(), &table).err(),
+        Some(LastingError::NoLane),
+    );
+    Ok(())
+}
+
+// What the numbers of a table that cannot be laid out are refused for.
+#[test]
+fn a_table_that_lasts_refuses_in_its_order(rt: HostRuntime) -> Result<(), LastingError> {
+    let rows = [
+        (0, 0, BeginError::BadWorkers),
+        (65, 1, BeginError::BadWorkers),
+        (1, 0, BeginError::BadUpdates),
+        (64, 65_537, BeginError::BadUpdates),
+    ];
+    for (workers, updates, cause) in rows {
+        equal(&rt, opened(rt.alloc(), workers, updates).err(), Some(cause));
+    }
+    Ok(())
+}
+
+// Passes whichever request for memory is refused: the same list and the same lane are asked for again.
+#[test]
+fn refused_memory_leaves_the_list_and_the_lane(rt: HostRuntime) -> Result<(), BeginError> {
+    let members = Members::empty(rt.alloc(), 3)?;
+    let opened = match opened_over(rt.alloc(), members, 1, 2) {
+        Err((members, _)) => opened_over(rt.alloc(), members, 1, 2),
+        opened => opened,
+    };
+    let Ok((table, mut crew)) = opened else {
+        return Err(BeginError::OutOfMemory);
+    };
+    let hand = match next_hand(rt.alloc(), &mut crew, &table) {
+        Err(_) => next_hand(rt.alloc(), &mut crew, &table),
+        hand => hand,
+    };
+    let Ok(mut hand) = hand else {
+        return Err(BeginError::OutOfMemory);
+    };
+    equal(&rt, go_round(&mut hand, &table, 0, 100), 100);
+    Ok(())
+}
+
+// Six times for the table, and twice for the lists of each of its two passes.
+#[test]
+fn a_table_that_lasts_asks_10_times_for_memory(rt: HostRuntime) -> Result<(), LastingError> {
+    let Ok((table, mut crew)) = opened(rt.alloc(), 2, 40) else {
+        return Err(LastingError::OutOfMemory);
+    };
+    let mut hand = next_hand(rt.alloc(), &mut crew, &table)?;
+    let _other = next_hand(rt.alloc(), &mut crew, &table)?;
+    equal(&rt, go_round(&mut hand, &table, 0, 100), 100);
+    Ok(())
+}
+
+// Two passes at work on keys of their own, each in a thread.
+fn two_at_work<R: Threads + Wait + Sync>(
+    rt: &R,
+    alloc: Global,
+    times: u32,
+) -> Result<[u32; 2], LastingError> {
+    let Ok((table, mut crew)) = opened(alloc, 2, 64) else {
+        return Err(LastingError::OutOfMemory);
+    };
+    let mut one = next_hand(alloc, &mut crew, &table)?;
+    let mut other = next_hand(alloc, &mut crew, &table)?;
+    let t = &table;
+    let (first, second) = thread::join(
+        rt,
+        move ||
+            requires hand { (table_of one.pass.round ≡ t.now) × (one.pass.round.bits ≡ 3) }
+        { go_round(&mut one, t, 0, times) },
+        move ||
+            requires hand { (table_of other.pass.round ≡ t.now) × (other.pass.round.bits ≡ 3) }
+        { go_round(&mut other, t, 4, times) },
+    );
+    Ok([first, second])
+}
+
+#[test]
+fn two_threads_make_thousands_of_updates(rt: HostRuntime) -> Result<(), LastingError> {
+    equal(&rt, two_at_work(&rt, rt.alloc(), 5_000)?, [5_000; 2]);
+    Ok(())
+}

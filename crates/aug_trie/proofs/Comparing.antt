@@ -29,12 +29,14 @@ use Rattle.aug_trie.specs.Snapshot.{HasSnapshot}
 use Rattle.aug_trie.specs.inside.BothWalk.{top_of, both_seen, IsNamedUnder, IsNamedInBoth, IsBothWalk, WalkingBoth, KeepsBoth}
 use Rattle.aug_trie.specs.inside.BothWalkLaws.{word_is}
 use Rattle.aug_trie.specs.inside.Counted.{HasCounts}
-use Rattle.aug_trie.specs.inside.Goes.{KnowsRecords, Looks}
+use Rattle.aug_trie.specs.inside.Goes.{KnowsRecords, Looks, ReadsBelow}
 use Rattle.aug_trie.specs.inside.LeafPairs.{leaf_pairs}
+use Rattle.aug_trie.specs.inside.NodeWords.{HoldsNodeAt}
 use Rattle.aug_trie.specs.inside.NodesUnder.{index_under, IsNodeUnder}
 use Rattle.aug_trie.specs.inside.PassState.{pass_facts, known_in, HoldsPass}
 use Rattle.aug_trie.specs.declared.queries.snapshot.Snapshot.{Snapshot}
 use Rattle.aug_trie.proofs.LeafWords.{pairs_of_serial}
+use Rattle.aug_trie.proofs.Looking.{holds_plainly, reads_plainly}
 use Rattle.aug_trie.proofs.Passing.{pass_told}
 use Rattle.aug_trie.proofs.Snapshots.{entry_shown, cut_is}
 use Rattle.aug_trie.proofs.SnapshotWalks.{records_on}
@@ -65,24 +67,30 @@ module _ (s : Shape) (book : Book) (top level place q i : ℕ) (fits : suc level
       let same : entry_of book q i ≡ above = (λ k. entry_of book (here k) (is k)) ∙ (λ k. entry_of book (node_place s (back k) (half k)) (index_under s book top down (half k))) in
       ap (λ (z : Entry). z.right) same ∙ sym (ap (λ (b : Bool). if b then above.left else above.right) (ne_eqb ((2 * place + 1) % 2) 0 (λ e. omega (arith, e, odd)))) ∙ ap (λ (z : ℕ). index_under s book top z (2 * place + 1)) further
 
-module _ {A B : Type 0} (parts_a : Parts A) (parts_b : Parts B) (v : SeatView) (kn : KnowsBook (face parts_a parts_b) v) (off : v.shape.reservations ≡ 0) (top level place word : ℕ) where
-  below : IsNodeUnder v.shape v.seen top (level + 1) place word → IsNodeUnder v.shape v.seen top (suc level) place word
+module _ {A B : Type 0} (parts_a : Parts A) (parts_b : Parts B) (number : ℕ → ℕ) (v : SeatView) (kn : KnowsRecords (face parts_a parts_b) v) (plain : (word : ℕ) → number word ≡ word) (top level place word : ℕ) where
+  abbrev below : IsNodeUnder v.shape v.seen top (level + 1) place word → IsNodeUnder v.shape v.seen top (suc level) place word
   below t = subst (λ (z : ℕ). IsNodeUnder v.shape v.seen top z place word) (add-one level) t
 
+  abbrev reads : ReadsBelow (face parts_a parts_b) number v
+  reads = let r = reads_plainly (face parts_a parts_b) v kn in record { knows_table = r.knows_table; closed = r.closed; numbered = λ q i e inner at. plain e.word ∙ r.numbered q i e inner at }
+
+  abbrev held : IsNodeUnder v.shape v.seen top (level + 1) place word → HoldsNodeAt v (root_cut v.shape v.seen top) (suc level) place word
+  held t = holds_plainly v kn.keeps_records (root_cut v.shape v.seen top) (suc level) place word (below t).node
+
   -- the record of a node above the leaves may be read
-  pub under_guarded : IsNodeUnder v.shape v.seen top (level + 1) place word → GuardsRecord v word
-  under_guarded t = node_guarded parts_a parts_b v kn.book (root_cut v.shape v.seen top) off level place word (below t).node
+  pub under_guarded : IsNodeUnder v.shape v.seen top (level + 1) place word → GuardsRecord v (number word)
+  under_guarded t = node_guarded parts_a parts_b v kn.knows_table.book (root_cut v.shape v.seen top) number reads level place word (held t)
 
   -- and its first two words name its children
-  pub left_is_under : IsNodeUnder v.shape v.seen top (level + 1) place word → (r : ℕ) → Says v word 0 r → IsNodeUnder v.shape v.seen top level (2 * place) r
+  pub left_is_under : IsNodeUnder v.shape v.seen top (level + 1) place word → (r : ℕ) → Says v (number word) 0 r → IsNodeUnder v.shape v.seen top level (2 * place) r
   left_is_under t r says = let n = below t in record {
-    node = left_node parts_a parts_b v kn.book (root_cut v.shape v.seen top) off level place word n.node r says;
+    node = (left_node parts_a parts_b v kn.knows_table.book (root_cut v.shape v.seen top) number reads level place word (held t) r says).node;
     under = left_index v.shape v.seen top level place n.node.q n.node.index n.node.part.word.level_fits n.node.part.word.is n.under;
   }
 
-  pub right_is_under : IsNodeUnder v.shape v.seen top (level + 1) place word → (r : ℕ) → Says v word 1 r → IsNodeUnder v.shape v.seen top level (2 * place + 1) r
+  pub right_is_under : IsNodeUnder v.shape v.seen top (level + 1) place word → (r : ℕ) → Says v (number word) 1 r → IsNodeUnder v.shape v.seen top level (2 * place + 1) r
   right_is_under t r says = let n = below t in record {
-    node = right_node parts_a parts_b v kn.book (root_cut v.shape v.seen top) off level place word n.node r says;
+    node = (right_node parts_a parts_b v kn.knows_table.book (root_cut v.shape v.seen top) number reads level place word (held t) r says).node;
     under = right_index v.shape v.seen top level place n.node.q n.node.index n.node.part.word.level_fits n.node.part.word.is n.under;
   }
 
@@ -112,8 +120,8 @@ module _ (f : ℕ → ℕ → List (ℕ × ℕ) → List ℕ) where
   pub both_named_on : (n : ℕ) (v w : SeatView) (earlier later : Snapshot) (level place : ℕ) (words : ℕ × ℕ) → Looks n v w → IsNamedInBoth f v earlier later level place words → IsNamedInBoth f w earlier later level place words
   both_named_on n v w earlier later level place words l has = record { in_earlier = under_on n v w earlier level place words.0 l has.in_earlier; in_later = under_on n v w later level place words.1 l has.in_later }
 
-  pub both_walk_on : (n : ℕ) (v w : SeatView) (earlier later : Snapshot) (bits : ℕ) → Looks n v w → IsBothWalk f v earlier later bits → IsBothWalk f w earlier later bits
-  both_walk_on n v w earlier later bits l walk = record { bits_are = walk.bits_are ∙ ap (λ (z : SeatView). z.shape.bits) (sym l.is); tops = both_named_on n v w earlier later bits 0 (earlier.number, later.number) l walk.tops }
+  pub both_walk_on : {number : ℕ → ℕ} (n : ℕ) (v w : SeatView) (earlier later : Snapshot) (bits : ℕ) → Looks n v w → IsBothWalk f number v earlier later bits → IsBothWalk f number w earlier later bits
+  both_walk_on n v w earlier later bits l walk = record { plain = walk.plain; bits_are = walk.bits_are ∙ ap (λ (z : SeatView). z.shape.bits) (sym l.is); tops = both_named_on n v w earlier later bits 0 (earlier.number, later.number) l walk.tops }
 
   -- what was named before some looks, as it is after them, and the other way round
   pub node_under_on : (n : ℕ) (v w : SeatView) (s : Snapshot) (level place word : ℕ) → Looks n v w → IsNodeUnder v.shape v.seen (top_of v s) level place word → IsNodeUnder w.shape w.seen (top_of w s) level place word
@@ -123,7 +131,7 @@ module _ (f : ℕ → ℕ → List (ℕ × ℕ) → List ℕ) where
   node_under_back n v w s level place word l t = subst (λ (z : SeatView). IsNodeUnder z.shape z.seen (top_of z s) level place word) l.is t
 
   -- the names of two nodes that were loaded
-  pub both_named_then : (n : ℕ) (v w : SeatView) (earlier later : Snapshot) (bits level place : ℕ) (words : ℕ × ℕ) → Looks n v w → IsBothWalk f v earlier later bits
+  pub both_named_then : {number : ℕ → ℕ} (n : ℕ) (v w : SeatView) (earlier later : Snapshot) (bits level place : ℕ) (words : ℕ × ℕ) → Looks n v w → IsBothWalk f number v earlier later bits
       → IsNodeUnder v.shape v.seen (top_of v earlier) level place words.0 → IsNodeUnder v.shape v.seen (top_of v later) level place words.1 → IsNamedInBoth f w earlier later level place words
   both_named_then n v w earlier later bits level place words l walk first second =
       let a = walk.tops.in_earlier in let b = walk.tops.in_later in
@@ -175,12 +183,12 @@ module _ {A B : Type 0} (parts_a : Parts A) (parts_b : Parts B) where
 
   -- who knows a table may compare two of its snapshots
   pub walks_both : (k : Known) (bits left : ℕ) (now : PassFacts) (earlier later : Snapshot) → KnowsRecords (face parts_a parts_b) k.view → bits ≡ k.view.shape.bits → pass_facts k left ≡ now → HasSnapshot now earlier → HasSnapshot now later
-      → IsBothWalk (face parts_a parts_b) k.view earlier later bits
+      → IsBothWalk (face parts_a parts_b) (λ word. word) k.view earlier later bits
   walks_both k bits left now earlier later kn bits_are facts one other =
       let f = face parts_a parts_b in
       let has : (s : Snapshot) → HasSnapshot now s → IsNamedUnder f k.view s bits 0 s.number = λ s has.
       subst (λ (z : ℕ). IsNamedUnder f k.view s z 0 s.number) (sym bits_are) (top_under k left s kn (subst (λ (z : PassFacts). HasSnapshot z s) (sym facts) has)) in
-      record { bits_are = bits_are; tops = record { in_earlier = has earlier one; in_later = has later other } }
+      record { plain = λ word. refl; bits_are = bits_are; tops = record { in_earlier = has earlier one; in_later = has later other } }
 
   -- the pass is one still, with the same counts
   pub still_pass_both : (words : Option Known) (walk new : WalkingBoth) (leaves bits next left inserts removals n : ℕ) → HoldsPass (face parts_a parts_b) words leaves bits next left → HasCounts (changes_of (known_in words).view.held) inserts removals → words ≡ Some walk.words

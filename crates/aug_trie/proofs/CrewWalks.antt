@@ -25,6 +25,7 @@ use Rattle.aug_trie.specs.declared.queries.snapshot.Snapshot.{Snapshot}
 use Rattle.aug_trie.proofs.Asking.{looks_of}
 use Rattle.aug_trie.proofs.Freeing.{same_opens}
 use Rattle.aug_trie.proofs.Histories.{last_is}
+use Rattle.aug_trie.proofs.Looking.{holds_plainly, reads_plainly}
 use Rattle.aug_trie.proofs.RoundLemmas.{crew_told}
 use Rattle.aug_trie.proofs.Snapshots.{shows_entry}
 use Rattle.aug_trie.proofs.SnapshotWalks.{WalkDescends}
@@ -43,13 +44,13 @@ module _ {A B : Type 0} (parts_a : Parts A) (parts_b : Parts B) where
     last_named = shows.1 ∙ sym (last_is v.shape v.seen named.index named.newest.last)
 
     -- so a walk goes by it
-    pub walk_of_last : (bits : ℕ) → bits ≡ v.shape.bits → IsWalk f v held bits
+    pub walk_of_last : (bits : ℕ) → bits ≡ v.shape.bits → IsWalk f (λ word. word) v held bits
     walk_of_last bits same = record {
       bits_are = same;
       top = record {
-        knows_records = kn;
+        reads = reads_plainly f v kn;
         is_tree_set = named_set f v held kn.knows_table;
-        node = subst (λ (z : ℕ). IsNodeAt v.shape v.seen (cut_named v.shape v.seen held) z 0 held.number) (sym same) (top_is parts_a parts_b v held kn.knows_table shows.0);
+        holds = holds_plainly v kn.keeps_records (cut_named v.shape v.seen held) bits 0 held.number (subst (λ (z : ℕ). IsNodeAt v.shape v.seen (cut_named v.shape v.seen held) z 0 held.number) (sym same) (top_is parts_a parts_b v held kn.knows_table shows.0));
       };
     }
 
@@ -58,7 +59,7 @@ module _ {A B : Type 0} (parts_a : Parts A) (parts_b : Parts B) where
   set_of_last lead free s kn named = ap (members_of lead.view.shape.bits) (last_named lead.view s kn named)
 
   -- the crew is one still, and has only read
-  pub crew_read : (walk new : Walking) (free : Bool) (n c s p back inserts removals : ℕ) → HoldsCrew f walk.words.view back inserts removals → (free ≡ true → MayOpen walk.words) → WalkDescends f n c s p walk new
+  pub crew_read : {number : ℕ → ℕ} (walk new : Walking) (free : Bool) (n c s p back inserts removals : ℕ) → HoldsCrew f walk.words.view back inserts removals → (free ≡ true → MayOpen walk.words) → WalkDescends f number n c s p walk new
       → HasCrew f (Some new.words) back inserts removals free × CrewReads (n + c + 3 * s + 2 * p) (crew_facts walk.words free) (crew_facts new.words free)
   crew_read walk new free n c s p back inserts removals h opens d =
       let l = looks_of parts_a parts_b n c s p walk new d in let v : SeatView = walk.words.view in
@@ -101,7 +102,7 @@ module _ {A B : Type 0} (parts_a : Parts A) (parts_b : Parts B) where
     walked_few = let set : SetFacts = set_of_crew now in let tree = walked_tree_set in let few = IsKeySet-few set.bits (keys_of set.pairs) tree.is_key_set in let long = length-keys_of set.pairs in
         let here : length (set_seen walk.words.view walk.snapshot).pairs ≡ length set.pairs = ap (λ (z : SetFacts). length z.pairs) walked_set in omega arith
 
-    pub walked : (new : Walking) (after : Known) (n c s p most : ℕ) → after ≡ new.words → WalkDescends f n c s p walk new → n + c + 3 * s + 2 * p ≤ most → HasCrew f (Some after) back inserts removals free × CrewReads most now (crew_facts after free)
+    pub walked : {number : ℕ → ℕ} (new : Walking) (after : Known) (n c s p most : ℕ) → after ≡ new.words → WalkDescends f number n c s p walk new → n + c + 3 * s + 2 * p ≤ most → HasCrew f (Some after) back inserts removals free × CrewReads most now (crew_facts after free)
     walked new after n c s p most is d enough =
         let told = crew_told h there facts in let t = crew_read walk new free n c s p back inserts removals (subst (λ (z : Known). HoldsCrew f z.view back inserts removals) (sym same) told.0) (λ is. subst MayOpen (sym same) (told.2 is)) d in
         subst (λ (z : Known × CrewFacts). HasCrew f (Some z.0) back inserts removals free × CrewReads most z.1 (crew_facts z.0 free)) (λ j. (sym is j, (ap (λ (y : Known). crew_facts y free) same ∙ told.1) j))

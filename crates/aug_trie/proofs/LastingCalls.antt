@@ -1,6 +1,7 @@
 -- How a table that lasts opens, and how its crew hands passes out.
 use Rattle.std.proofs.Common.{◌≡◌, ◌≢◌, inl, inr, ℕ, ◌+◌, ◌-◌, ◌*◌, ◌%◌, ◌^◌, ◌<◌, ◌≤◌, List, [], ◌∷◌, All, length, false, Option, Err, sym, refl, ap, ◌∙◌, subst, arith}
-use Rattle.std.specs.Prelude.{◌↔◌, IsErrOf, IsOk, unwrap_or, Some, option_map}
+use Rattle.std.proofs.lemmas.Option.{none-some}
+use Rattle.std.specs.Prelude.{◌↔◌, IsErrOf, IsOk, unwrap_or, None, Some, option_map}
 use Rattle.std.proofs.lemmas.Bool.{cases_lt, false≢true}
 use Rattle.std.proofs.lemmas.List.Elements.{All-nil}
 use Rattle.std.proofs.lemmas.Nat.{one_shl}
@@ -206,7 +207,7 @@ module _ (face : ℕ → ℕ → List (ℕ × ℕ) → List ℕ) where
   -- a lead of a table that lasts handed a pass out, with its stock
   pub record LastingOut (now : CrewFacts) (lead pass : Known) (k : StockFacts) (leaves bits handed : ℕ) : Type 0 where
     pub crew : IsLastingCrew face lead.view (handed + 1)
-    pub is_pass : IsLastingPass face pass.view k leaves bits
+    pub is_pass : IsLastingPass face pass.view k leaves bits None
     pub hands_out : HandsOut now (crew_facts lead false) (pass_facts pass pass.view.shape.updates)
 
   -- so it is after its words' call, if not all lanes of the table were handed out
@@ -234,7 +235,8 @@ module _ (face : ℕ → ℕ → List (ℕ × ℕ) → List ℕ) where
           stocks = stocks pass (record { one_table = pass_table_is ∙ tog.one_table; one_shape = same ∙ tog.one_shape }) (let slots : pass.view.shape.reservations ≡ pass.view.shape.workers = ap (λ (z : Shape). z.reservations) kept.is in omega arith) kn
               (opens_stock face v lead.view pass.view lane (record { next = spare; exists = inside }) h) own;
           none = none;
-          rests = rests;
+          rests = λ _. rests;
+          looks = λ x is. absurd (none-some x is);
           knowledge = subst KnowsRound (sym h.pass_is) (lasting_knowledge v b h.found handed place crew h.loaded);
         };
         hands_out = subst (λ (z : CrewFacts × Known × Known). HandsOut z.0 (crew_facts z.1 false) (pass_facts z.2 z.2.view.shape.updates))

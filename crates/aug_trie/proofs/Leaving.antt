@@ -14,7 +14,7 @@ use Rattle.aug_model.specs.declared.outcome.Outcome.TheVariants.{Refused, Unchan
 use Rattle.aug_trie.specs.declared.updates.request.Request.{Request}
 use Rattle.aug_trie.specs.declared.updates.request.Request.TheVariants.{Insert, Remove, Put, Add, Sub, Take}
 use Rattle.aug_trie.specs.Requests.{goes_from, word_after, outcome_by, outcome_at_once, stores_nothing}
-use Rattle.aug_trie.specs.inside.Batching.{GainsOnly, LeftLeaf}
+use Rattle.aug_trie.specs.inside.Batching.{GainsOnly, LeftFrom}
 use Rattle.aug_trie.specs.inside.Climbing.{CameBy, FitsRequest}
 use Rattle.aug_trie.specs.inside.Goes.{Goes}
 use Rattle.aug_trie.specs.inside.Counted.{HasCounts, insertions_by, removals_by}
@@ -39,44 +39,50 @@ nothing_at_once (Sub amount) = elim (cases_Bool (amount == 0)) [
 ]
 
 module _ {f : ℕ → ℕ → List (ℕ × ℕ) → List ℕ} {v w0 : SeatView} {key word : ℕ} (request : Request) (low : key < 2 ^ v.shape.bits) (kn : KnowsBook f v) (l : BeginsAtLeaf f v key word w0) where
-  pub left_at_once : {done : Outcome} → goes_from request word ≡ false → done ≡ outcome_at_once request → LeftLeaf f v key request done w0
-  left_at_once {done} other says = subst (λ (z : Outcome). LeftLeaf f v key request z w0) (sym says) record {
-    word = word;
-    more = [];
-    steps = steps0 f v w0 key word request low kn l;
-    few_steps = omega arith;
-    tried = λ lets. absurd (false≢true (sym other ∙ lets));
-    refusing = λ _. (refl, no_try_none);
-    gained = [];
-    few_gained = omega arith;
-    counts = counted_nothing request (outcome_at_once request) (nothing_at_once request);
-    goes = first f v w0 key word request low kn l;
-    rest = rest_first f v w0 key word request low kn l;
-    came = λ used u z same before later lifts goes. came_back f v w0 key word request low kn l used u z same before later other lifts goes;
-  }
+  pub left_at_once : {done : Outcome} → goes_from request word ≡ false → done ≡ outcome_at_once request → LeftFrom f v key request w0 word done
+  left_at_once {done} other says = subst (λ (z : Outcome). LeftFrom f v key request w0 word z) (sym says) (
+    record {
+      word = word;
+      more = [];
+      steps = steps0 f v w0 key word request low kn l;
+      few_steps = omega arith;
+      tried = λ lets. absurd (false≢true (sym other ∙ lets));
+      refusing = λ _. (refl, no_try_none);
+      gained = [];
+      few_gained = omega arith;
+      counts = counted_nothing request (outcome_at_once request) (nothing_at_once request);
+      goes = first f v w0 key word request low kn l;
+      rest = rest_first f v w0 key word request low kn l;
+      came = λ used u z same before later lifts goes. came_back f v w0 key word request low kn l used u z same before later other lifts goes;
+    },
+    refl,
+  )
 
   module _ {w1 : SeatView} {new : ℕ} {ok : Bool} {done : Outcome} (fits : FitsRequest request) (lets : goes_from request word ≡ true) (is_new : new ≡ word_after request key word) (h : Held) (only : HoldsOnly w0 h) (tries : TriedLeaf f w0 key word new ok w1) (comes : done ≡ (if ok then outcome_by request word else Refused)) where
     t : TriedLeaf f w0 key word (word_after request key word) ok w1
     t = subst (λ (z : ℕ). TriedLeaf f w0 key word z ok w1) is_new tries
 
     left_with : (gained : List Change) → length gained ≤ 2 → HasCounts gained (insertions_by request done) (removals_by request done) → Goes f 0 gained v w1 → GainsOnly gained v w1
-        → ((used : ℕ) (u z : SeatView) → u.shape ≡ v.shape → ArePrefixes u.seen v.seen → ArePrefixes w1.seen z.seen → Lifts v.shape w1.seen z.seen key v.shape.bits → Goes f used gained u z → CameBy f used u key request z word done) → LeftLeaf f v key request done w1
-    left_with gained few counts goes rest came = record {
-      word = word;
-      more = taken f v w0 key word request low kn l fits lets w1 ok h only t ∷ [];
-      steps = steps1 f v w0 key word request low kn l fits lets w1 ok h only t;
-      few_steps = omega arith;
-      tried = λ _. record { found = t.found; rest = []; second = refl; says = done_by f v w0 key word request low kn l fits lets w1 ok h only t done comes; no_other = no_try_none };
-      refusing = λ other. absurd (false≢true (sym other ∙ lets));
-      gained = gained;
-      few_gained = few;
-      counts = counts;
-      goes = goes;
-      rest = rest;
-      came = came;
-    }
+        → ((used : ℕ) (u z : SeatView) → u.shape ≡ v.shape → ArePrefixes u.seen v.seen → ArePrefixes w1.seen z.seen → Lifts v.shape w1.seen z.seen key v.shape.bits → Goes f used gained u z → CameBy f used u key request z word done) → LeftFrom f v key request w1 word done
+    left_with gained few counts goes rest came = (
+      record {
+        word = word;
+        more = taken f v w0 key word request low kn l fits lets w1 ok h only t ∷ [];
+        steps = steps1 f v w0 key word request low kn l fits lets w1 ok h only t;
+        few_steps = omega arith;
+        tried = λ _. record { found = t.found; rest = []; second = refl; says = done_by f v w0 key word request low kn l fits lets w1 ok h only t done comes; no_other = no_try_none };
+        refusing = λ other. absurd (false≢true (sym other ∙ lets));
+        gained = gained;
+        few_gained = few;
+        counts = counts;
+        goes = goes;
+        rest = rest;
+        came = came;
+      },
+      refl,
+    )
 
-    pub left_tried : LeftLeaf f v key request done w1
+    pub left_tried : LeftFrom f v key request w1 word done
     left_tried = ⊎_elim
         (λ (same : t.found ≡ word). let says = done_hit f v w0 key word request low kn l fits lets w1 ok h only t done comes same in
         let there : Advance = gone f v w0 key word request low kn l fits lets w1 ok h only t same in

@@ -57,3 +57,5 @@ pub mod Lifting
 pub mod Stocked
 pub mod LastingUpdates
 pub mod LastingCalls
+pub mod LastingLooks
+pub mod LastingNotes

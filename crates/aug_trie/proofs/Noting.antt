@@ -43,7 +43,7 @@ use Rattle.aug_trie.proofs.Trees.{keeps_on}
 use Rattle.aug_trie.proofs.Going.{room_same}
 
 -- what a view knows of the rounds of its table
-abbrev view_chain : SeatView → Chain
+abbrev pub view_chain : SeatView → Chain
 view_chain v = chain (past_rounds v.shape v.past) v.members (knows v).history
 
 module _ (f : ℕ → ℕ → List (ℕ × ℕ) → List ℕ) where
@@ -131,7 +131,7 @@ module _ (f : ℕ → ℕ → List (ℕ × ℕ) → List ℕ) where
     }
 
 -- what a pass's note says
-abbrev of_pass : PassFacts → NoteFacts
+abbrev pub of_pass : PassFacts → NoteFacts
 of_pass p = record { round = p.round; past = p.past; history = p.knows.history }
 
 -- ---- passes
@@ -171,7 +171,7 @@ module _ {A B : Type 0} (parts_a : Parts A) (parts_b : Parts B) (words : Option 
   note_learnt n w note number note_is kn l table =
       let p = told.0 in let v : SeatView = k.view in
       let mid : Known = record { table = k.table; view = learning v n.view } in
-      let root = root_node f v a.leaves a.bits a.next a.left p in
+      let root = root_node f v a.leaves p.leaves_are p.knows_table in
       let loads : LoadsNode f (learning v n.view) (2 * a.leaves - 2) number w.view = subst (λ (z : ℕ). LoadsNode f (learning v n.view) z number w.view) root.1 l.loaded in
       let held : KeepsAccount (face parts_a parts_b) (Some k) a = subst (λ (z : Option Known). KeepsAccount (face parts_a parts_b) z a) there holds in
       let counts : HasCounts (changes_of v.held) a.inserts a.removals = held.counts in

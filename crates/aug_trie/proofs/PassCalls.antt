@@ -108,11 +108,11 @@ module _ {A B : Type 0} (parts_a : Parts A) (parts_b : Parts B) where
 
     -- the root's word may be loaded
     pub root_inside : IsInner k.view.shape (2 * a.leaves - 2)
-    root_inside = (root_node f k.view a.leaves a.bits a.next a.left told.0).0
+    root_inside = (root_node f k.view a.leaves told.0.leaves_are told.0.knows_table).0
 
     pub snapshot_taken : (number : ℕ) (w : Known) → LoadsNode f k.view (2 * a.leaves - 2) number w.view → w.table ≡ k.table → SnapshotTaken now a (record { number = number }) w
     snapshot_taken number w loads table =
-        let p = told.0 in let now_is = told.1 in let root = root_node f k.view a.leaves a.bits a.next a.left p in
+        let p = told.0 in let now_is = told.1 in let root = root_node f k.view a.leaves p.leaves_are p.knows_table in
         let l = subst (λ (z : ℕ). LoadsNode f k.view z number w.view) (sym root.1) loads in
         let goes = goes_seeing f k.view w.view _ l.stepped p.knows_table l.sees in
         subst (λ (z : PassFacts × TableId). SnapshotTaken z.0 a (record { number = number }) (record { table = z.1; view = w.view })) (λ j. (now_is j, sym table j)) record {

@@ -14,7 +14,7 @@ use Rattle.aug_words.specs.Seats.{Known}
 use Rattle.aug_trie.specs.inside.Goes.{HasLeaves, Goes, KnowsRecords}
 use Rattle.aug_model.specs.declared.outcome.Outcome.{Outcome}
 use Rattle.aug_model.specs.declared.outcome.Outcome.TheVariants.{Accepted, Replaced, Refused, Unchanged, TooGreat, TooLittle}
-use Rattle.aug_trie.specs.inside.Climbing.{CameTo, WentUp, Updated, UpdatedFrom, advance_from, told_by}
+use Rattle.aug_trie.specs.inside.Climbing.{CameBy, CameTo, ChangesLeaf, WentUp, Updated, UpdatedFrom, advance_from, told_by}
 use Rattle.aug_trie.specs.inside.Weights.{WeighsAt}
 use Rattle.aug_trie.proofs.WholeWords.{from_whole, goes_whole, left_whole, told_whole}
 use Rattle.aug_trie.specs.LeafWords.{serial_in_word, weight_in_word}
@@ -104,6 +104,34 @@ module _ (face : ℕ → ℕ → List (ℕ × ℕ) → List ℕ) where
     found_between TooGreat loaded c = stayed_between face used v key request w kn low loaded c.stayed
     found_between TooLittle loaded c = stayed_between face used v key request w kn low loaded c.stayed
 
+    -- by the word that it found it came to this, or it lost the exchange
+    comes_from : (made : LeafUpdate) → ChangesLeaf request key made → (c : CameBy face used v key request w made.found made.outcome) → (made.outcome ≡ outcome_from request c.whole) ⊎ IsLost request key c.whole made.outcome (knows w)
+    comes_from made l c = let last = c.is_whole.last_bits in let same = from_whole _ _ last request in elim (cases_Bool (goes_from request made.found)) [
+      | inl lets ↦ elim (l.tries lets) [
+        | inl done ↦ inl (done ∙ sym (ap (λ (z : Bool). if z then outcome_by request made.found else outcome_at_once request) lets) ∙ sym same)
+        | inr lost ↦ inr (let lets_whole = goes_whole _ _ last request ∙ lets in record {
+          refused = lost;
+          was_to_go_on = lets_whole;
+          rises = let stayed = stayed_by face used v key request w kn low c.whole made.outcome (ap stores_nothing lost) c.came_to in
+              let shown = shown_number face used v key request w kn low c.whole stayed in let way = way_next request c.whole lets_whole in omega (arith, shown, way);
+        })
+      ]
+      | inr stops ↦ inl (l.stops stops ∙ sym (ap (λ (z : Bool). if z then outcome_by request made.found else outcome_at_once request) stops) ∙ sym same)
+    ]
+
+    -- so it tells this
+    pub tells_by : w.shape ≡ v.shape → (made : LeafUpdate) → ChangesLeaf request key made → CameBy face used v key request w made.found made.outcome → Tells request key (told_by made) (knows v) (knows w)
+    tells_by shaped made l c = let last = c.is_whole.last_bits in let between = found_between made.outcome c.whole c.came_to in record {
+      found = c.whole;
+      comes_to = comes_from made l c;
+      not_before = between.0;
+      not_after = between.1;
+      was = weighs_with face used v key request w kn low (serial_in_word c.whole) (weight_in_word c.whole) shaped (weighed_by made.outcome c.whole c.came_to);
+      stored = stored_by made.outcome c.whole c.came_to;
+      before = sym (told_whole _ _ last);
+      now = ap weight_told l.left ∙ sym (left_whole _ _ last request key made.outcome);
+    }
+
   module _ (v w : SeatView) (leaves bits next left key : ℕ) (request : Request) (p : IsPass face v leaves bits next left) (some : 1 ≤ left) (low : key < 2 ^ v.shape.bits) where
     known_after : (done : Outcome) → Updated face (next + bits) v key request w done → KnowsRound w
     known_after done u = updated_knowledge face (next + bits) v key request w p.knows_table low done (settled face u) p.knowledge
@@ -141,34 +169,16 @@ module _ (face : ℕ → ℕ → List (ℕ × ℕ) → List ℕ) where
       stored = subst (λ (z : ℕ). changes_of w.held ≡ changes_of v.held ++ changes_by request key z done) exact (stored_by (next + bits) v w key request p.knows_table low done u.came.whole u.came.came_to);
     }
 
-    -- by the word that it found it came to this, or it lost the exchange
-    comes_from : (done : Outcome) (u : Updated face (next + bits) v key request w done) → (done ≡ outcome_from request u.came.whole) ⊎ IsLost request key u.came.whole done (knows w)
-    comes_from done u = let last = u.came.is_whole.last_bits in let same = from_whole _ _ last request in elim (cases_Bool (goes_from request u.loaded)) [
-      | inl lets ↦ (let by : outcome_by request u.loaded ≡ outcome_from request u.loaded = ap (λ (z : Bool). if z then outcome_by request u.loaded else outcome_at_once request) (sym lets) in
-          let tried = u.tried lets in elim (cases_Bool (tried.found == u.loaded)) [
-            | inl found ↦ inl (tried.says ∙ ap (λ (z : Bool). if z then outcome_by request u.loaded else Refused) found ∙ by ∙ sym same)
-            | inr other ↦ inr (let lost : done ≡ Refused = tried.says ∙ ap (λ (z : Bool). if z then outcome_by request u.loaded else Refused) other in let lets_whole = goes_whole _ _ last request ∙ lets in record {
-              refused = lost;
-              was_to_go_on = lets_whole;
-              rises = let stayed = stayed_by face (next + bits) v key request w p.knows_table low u.came.whole done (ap stores_nothing lost) u.came.came_to in
-                  let shown = shown_number face (next + bits) v key request w p.knows_table low u.came.whole stayed in let way = way_next request u.came.whole lets_whole in omega (arith, shown, way);
-            })
-          ])
-      | inr stops ↦ inl ((u.refusing stops).0 ∙ ap (λ (z : Bool). if z then outcome_by request u.loaded else outcome_at_once request) (sym stops) ∙ sym same)
-    ]
-
     -- what an update tells by the word that it found and the one that it left
     pub tells : (made : LeafUpdate) → UpdatedFrom face (next + bits) v key request w made.found made.outcome → made.left ≡ word_left request key made.found made.outcome → Tells request key (told_by made) (knows v) (knows w)
-    tells made u left = let came = u.0.came in let last = came.is_whole.last_bits in let between = found_between (next + bits) v w key request p.knows_table low made.outcome came.whole came.came_to in record {
-      found = came.whole;
-      comes_to = comes_from made.outcome u.0;
-      not_before = between.0;
-      not_after = between.1;
-      was = weighs_with face (next + bits) v key request w p.knows_table low (serial_in_word came.whole) (weight_in_word came.whole) (gained_by made.outcome u.0).2.shaped (weighed_by (next + bits) v w key request p.knows_table low made.outcome came.whole came.came_to);
-      stored = stored_by (next + bits) v w key request p.knows_table low made.outcome came.whole came.came_to;
-      before = ap weight_told (sym u.1) ∙ sym (told_whole _ _ last);
-      now = ap weight_told (left ∙ ap (λ (z : ℕ). word_left request key z made.outcome) (sym u.1)) ∙ sym (left_whole _ _ last request key made.outcome);
-    }
+    tells made u left = tells_by (next + bits) v w key request p.knows_table low (gained_by made.outcome u.0).2.shaped made (record {
+      stops = λ stopped. (u.0.refusing (ap (goes_from request) u.1 ∙ stopped)).0;
+      tries = λ lets. let e = u.0.tried (ap (goes_from request) u.1 ∙ lets) in elim (cases_Bool (e.found == u.0.loaded)) [
+        | inl hit ↦ inl (e.says ∙ ap (λ (b : Bool). if b then outcome_by request u.0.loaded else Refused) hit ∙ ap (outcome_by request) u.1)
+        | inr miss ↦ inr (e.says ∙ ap (λ (b : Bool). if b then outcome_by request u.0.loaded else Refused) miss)
+      ];
+      left = left;
+    }) (subst (λ (z : ℕ). CameBy face (next + bits) v key request w z made.outcome) u.1 u.0.came)
 
 -- a pass whose seat was taken out for an update
 pub pass_told : (face : ℕ → ℕ → List (ℕ × ℕ) → List ℕ) (words : Option Known) (k : Known) (leaves bits next left : ℕ) (now : PassFacts) → HoldsPass face words leaves bits next left → words ≡ Some k → pass_facts (known_in words) left ≡ now

@@ -1,6 +1,7 @@
 -- What a call comes to that takes out a member of its snapshot, from what its parts come to.
 
-use Rattle.std.proofs.Common.{◌≡◌, ℕ, zero, suc, ◌+◌, ◌==◌, Bool, if◌then◌else◌, List, [], ◌∷◌, ◌++◌, All, length, length-append, Option, Some, None, sym, ap, ◌∙◌, subst, inl, inr, arith}
+use Rattle.std.specs.Prelude.{IfOk}
+use Rattle.std.proofs.Common.{◌≡◌, ◌⊎◌, ℕ, zero, suc, ◌+◌, ◌-◌, ◌^◌, ◌<◌, ◌≤◌, Result, Ok, Err, ◌==◌, Bool, if◌then◌else◌, List, [], ◌∷◌, ◌++◌, All, length, length-append, Option, Some, None, sym, ap, ◌∙◌, subst, inl, inr, arith}
 use Rattle.std.specs.Prelude.{slice_get, unwrap_or}
 use Rattle.std.proofs.lemmas.Bool.{cases_Bool}
 use Rattle.aug_core.specs.Kinds.{load_node}
@@ -9,19 +10,22 @@ use Rattle.aug_core.proofs.PrefixLemmas.{prefix_trans}
 use Rattle.aug_model.specs.Keys.{SetFacts, keys_of, list_of}
 use Rattle.aug_model.specs.Queries.{weight_of}
 use Rattle.aug_model.specs.declared.summary.Summary.{Summary}
-use Rattle.aug_trie.specs.Knowledge.{IsKnowledge}
+use Rattle.aug_query.specs.Tree.{IsTreeSet}
+use Rattle.aug_trie.specs.Knowledge.{Knowledge, IsKnowledge}
+use Rattle.aug_trie.specs.LastingTable.{LastingPops, TakesSeen, look_steps}
 use Rattle.aug_trie.specs.Node.{Keeps, Reads}
 use Rattle.aug_trie.specs.Pass.{PassFacts, GoesOn}
 use Rattle.aug_trie.specs.Pops.{member_at, pop_updates, PopsTo, Pops}
 use Rattle.aug_trie.specs.Round.{root_of}
 use Rattle.aug_trie.specs.Snapshot.{HasSnapshot, set_at, snapshot_cut}
 use Rattle.aug_trie.specs.Updates.{TakesSnapshot}
-use Rattle.aug_trie.specs.inside.Popping.{TakesShown}
+use Rattle.aug_trie.specs.inside.Popping.{SeesMember, TakesShown}
 use Rattle.aug_trie.specs.inside.ViewLaws.{stays_so, stays_on}
 use Rattle.aug_trie.specs.declared.queries.snapshot.Snapshot.{Snapshot}
 use Rattle.aug_trie.specs.declared.rounds.pop.Pop.{Pop}
 use Rattle.aug_trie.specs.declared.rounds.pop.Pop.TheVariants.{Member, Empty, Refused}
 use Rattle.aug_trie.specs.declared.rounds.pop.Side.{Side}
+use Rattle.aug_trie.specs.declared.rounds.pop.Side.TheVariants.{First, Last}
 
 -- a key that stands in the list is as they all are
 pub one_of_all : (P : ℕ → Type 0) (xs : List ℕ) (i k : ℕ) → All P xs → slice_get xs i ≡ Some k → P k
@@ -136,3 +140,44 @@ module _ {A B : Type 0} (summary_of : List (ℕ × ℕ) → Summary A B) where
       by_found (Some k) Empty is = absurd is
       by_found (Some k) (Member key weight) is = keeps_both old p.asked new asked is.2.keeps
       by_found (Some k) Refused is = keeps_both old p.asked new asked is.2.keeps
+
+-- ---- a pass of a table that lasts
+
+-- what holds of an answer holds where this follows from it
+if_ok : {T E : Type 0} {P Q : T → Type 0} (r : Result T E) → ((x : T) → P x → Q x) → IfOk r P → IfOk r Q
+if_ok (Ok x) follows is = follows x is
+if_ok (Err e) follows is = is
+
+-- the member at an end stands in the list
+pub end_stands : (side : Side) (keys : List ℕ) (k : ℕ) → member_at side keys ≡ Some k → (i : ℕ) × (slice_get keys i ≡ Some k)
+end_stands First keys k is = (0, is)
+end_stands Last keys k is = (length keys - 1, is)
+
+-- and so it has a weight, and is one of the keys that a set may have
+pub end_weighs : (side : Side) (set : SetFacts) (k : ℕ) → member_at side (list_of set) ≡ Some k → weight_of set.pairs k ≡ None → ⊥
+end_weighs side set k is none = let at = end_stands side (list_of set) k is in weighs_some set.pairs at.0 k at.1 none
+
+pub end_low : (side : Side) (set : SetFacts) (k : ℕ) → IsTreeSet set → member_at side (list_of set) ≡ Some k → k < 2 ^ set.bits
+end_low side set k tree is = let at = end_stands side (list_of set) k is in one_of_all (λ z. z < 2 ^ set.bits) (list_of set) at.0 k tree.is_key_set.below at.1
+
+module _ {A B : Type 0} (summary_of : List (ℕ × ℕ) → Summary A B) where
+  -- a pop, from what its parts come to
+  pub lasting_pops : {E : Type 0} (r : Result Pop E) (side : Side) (s : Snapshot) (seen : Option (ℕ × ℕ)) (most : ℕ) (old looked mid ended new : PassFacts) → TakesSnapshot old.knows looked.knows (snapshot_cut looked s) → HasSnapshot looked s → SeesMember side (set_at looked s) seen
+      → Reads summary_of most looked mid → (steps : ℕ) × (steps ≤ 1) × GoesOn 0 steps mid ended → ended.knows ≡ mid.knows → IfOk r (λ done. TakesSeen seen done ended.knows new.knows) → IfOk r (λ done. LastingPops side done old new)
+  lasting_pops r side s seen most old looked mid ended new takes known sees reads goes same = if_ok r (λ done took. record {
+    snapshot = s;
+    looked = looked;
+    takes = takes;
+    known = known;
+    seen = seen;
+    key = sees.key;
+    weighs = sees.weighs;
+    takes_seen = subst (λ (z : Knowledge). TakesSeen seen done z new.knows) (same ∙ ap (λ (z : PassFacts). z.knows) reads.stays.same) took;
+  })
+
+  pub lasting_pop_goes_on : (most : ℕ) (old looked mid ended new : PassFacts) → (a : ℕ) × (a ≤ look_steps) × GoesOn 0 a old looked → Reads summary_of most looked mid → (b : ℕ) × (b ≤ 1) × GoesOn 0 b mid ended → (new ≡ ended) ⊎ ((c : ℕ) × GoesOn 0 c ended new) → (steps : ℕ) × GoesOn 0 steps old new
+  lasting_pop_goes_on most old looked mid ended new x reads y z = let first = goes_reading summary_of 0 x.0 most old looked mid x.2 reads in let all = goes_on_both 0 0 (x.0 + first.0) y.0 old mid ended first.1 y.2 in
+      elim (z) [
+        | inl same ↦ (x.0 + first.0 + y.0, subst (λ (w : PassFacts). GoesOn 0 (x.0 + first.0 + y.0) old w) (sym same) all)
+        | inr took ↦ (x.0 + first.0 + y.0 + took.0, goes_on_both 0 0 (x.0 + first.0 + y.0) took.0 old ended new all took.1)
+      ]

@@ -10,7 +10,7 @@ use Rattle.aug_core.specs.Book.{Book, history_of, At, NamesOnce, IsBook}
 use Rattle.aug_core.specs.Counts.{changes_of}
 use Rattle.aug_core.specs.inside.RootCuts.{root_cut}
 use Rattle.aug_core.specs.inside.EntryCuts.{entry_of}
-use Rattle.aug_core.specs.Effects.{LoadsNode, opening_of}
+use Rattle.aug_core.specs.Effects.{KnowsBook, LoadsNode, opening_of}
 use Rattle.aug_core.specs.declared.view.Change.{Change}
 use Rattle.aug_core.specs.declared.view.Entry.{Entry}
 use Rattle.aug_core.specs.declared.view.SeatView.{SeatView}
@@ -101,8 +101,8 @@ module _ (face : ℕ → ℕ → List (ℕ × ℕ) → List ℕ) where
   }
 
   -- the root is a node of the pass's table
-  pub root_node : (v : SeatView) (leaves bits next left : ℕ) → IsPass face v leaves bits next left → IsInner v.shape (2 * leaves - 2) × (root_place v.shape ≡ 2 * leaves - 2)
-  root_node v leaves bits next left p = let inner = root_inner face (opening_of v) (some_bits face v p.knows_table) in let l = p.leaves_are.are in let t = twice v.shape.bits in
+  pub root_node : (v : SeatView) (leaves : ℕ) → HasLeaves v.shape leaves → KnowsBook face v → IsInner v.shape (2 * leaves - 2) × (root_place v.shape ≡ 2 * leaves - 2)
+  root_node v leaves are kn = let inner = root_inner face (opening_of v) (some_bits face v kn) in let l = are.are in let t = twice v.shape.bits in
       let e : root_place v.shape ≡ 2 * leaves - 2 = omega arith in (subst (IsInner v.shape) e inner, e)
 
   -- a load of the root

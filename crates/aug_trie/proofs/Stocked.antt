@@ -1,6 +1,6 @@
 -- One try at a node by the stock's next record.
-use Rattle.std.proofs.Common.{Option, ◌≡◌, ◌≢◌, inl, inr, ℕ, zero, suc, ◌+◌, ◌-◌, ◌*◌, ◌^◌, ◌<◌, ◌≤◌, max, Bool, nat_lt, if◌then◌else◌, List, [], ◌∷◌, ◌++◌, length, length-append, append_assoc, get_or, lt-ltb, le-ltb, sym, refl, ap, ◌∙◌, subst, ⊎_elim, arith}
-use Rattle.std.proofs.lemmas.Bool.{cases_lt, cases_eq, false≢true}
+use Rattle.std.proofs.Common.{◌==◌, Option, ◌≡◌, ◌≢◌, inl, inr, ℕ, zero, suc, ◌+◌, ◌-◌, ◌*◌, ◌^◌, ◌<◌, ◌≤◌, max, Bool, nat_lt, if◌then◌else◌, List, [], ◌∷◌, ◌++◌, length, length-append, append_assoc, get_or, lt-ltb, le-ltb, sym, refl, ap, ◌∙◌, subst, ⊎_elim, arith}
+use Rattle.std.proofs.lemmas.Bool.{cases_Bool, cases_lt, cases_eq, false≢true}
 use Rattle.std.proofs.lemmas.List.{append-nil}
 use Rattle.aug_monoid.specs.Parts.{Parts}
 use Rattle.aug_monoid.specs.inside.Laws.{IsMonoid}
@@ -21,7 +21,10 @@ use Rattle.aug_core.specs.declared.view.Held.{Held}
 use Rattle.aug_core.specs.declared.view.Replaced.{Replaced}
 use Rattle.aug_core.specs.declared.view.Reserved.{Reserved}
 use Rattle.aug_core.specs.declared.view.SeatView.{SeatView}
-use Rattle.aug_model.specs.declared.outcome.Outcome.{Outcome}
+use Rattle.aug_model.specs.declared.outcome.Outcome.TheVariants.{Refused}
+use Rattle.aug_trie.specs.Requests.{goes_from, outcome_by, word_left}
+use Rattle.aug_trie.specs.declared.updates.told.LeafUpdate.{LeafUpdate}
+use Rattle.aug_trie.specs.inside.Climbing.{CameBy}
 use Rattle.aug_core.proofs.Books.{fresh_now, newest_is_last, one_entry}
 use Rattle.aug_core.proofs.FaceLemmas.{left_in, right_in}
 use Rattle.aug_core.proofs.Filling.{filled_view, is_filled}
@@ -34,7 +37,7 @@ use Rattle.aug_words.specs.Stocks.{StockFacts, Stocks, HasReserved, ReservesAnew
 use Rattle.aug_words.proofs.Held.{born_at, numbered_at}
 use Rattle.aug_words.proofs.Stocking.{stocks_on, stocks_stored, told}
 use Rattle.aug_trie.specs.declared.updates.request.Request.{Request}
-use Rattle.aug_trie.specs.inside.Batching.{LeftLeaf}
+use Rattle.aug_trie.specs.inside.Batching.{LeftFrom}
 use Rattle.aug_trie.specs.inside.Goes.{Goes, Took, TookBetween, HasLeaves, KnowsLeaves, Looks, IsPartOf, part_steps, part_words}
 use Rattle.aug_trie.specs.inside.Lasting.{all_records, most_try_steps, birth_from, KeepsStock, LiftedTo, TriedBy, MovesOn, IsScanned, UpdatedHeld, UpdatedOver, WorksBy}
 use Rattle.aug_trie.specs.inside.RoundState.{eras_of}
@@ -415,30 +418,35 @@ module _ (f : ℕ → ℕ → List (ℕ × ℕ) → List ℕ) where
       (λ h only. (retiring_in era h, ap (λ (z : SeatView). z.held) is ∙ ap (on_first (retiring_in era)) only, refl, refl))) (ap (λ (z : SeatView). z.steps) is)
 
   -- the whole update
-  pub updated_over : {v w1 w2 w3 : SeatView} {k : StockFacts} {key bits era : ℕ} {request : Request} {done : Outcome} → bits ≡ v.shape.bits → key < 2 ^ v.shape.bits → LeftLeaf f v key request done w1 → LiftedTo f key w1 bits w2 → Stocks w2 k → Retires w2 era w3 → UpdatedOver f v key request done w3
-  updated_over {v} {w1} {w2} {w3} {k} {key} {bits} {era} {request} {done} is low l r s2 t = let last = works_retired s2 r.goes.knows_table t in let shaped = l.goes.shaped in let lowest = r.took.most_steps in let all = r.took.took.count in let one = l.few_steps in
+  pub updated_over : {v w1 w2 w3 : SeatView} {k : StockFacts} {key bits era : ℕ} {request : Request} {made : LeafUpdate} → bits ≡ v.shape.bits → key < 2 ^ v.shape.bits → LeftFrom f v key request w1 made.found made.outcome → made.left ≡ word_left request key made.found made.outcome → LiftedTo f key w1 bits w2 → Stocks w2 k → Retires w2 era w3 → UpdatedOver f v key request made w3
+  updated_over {v} {w1} {w2} {w3} {k} {key} {bits} {era} {request} {made} is low from left r s2 t = let l = from.0 in let last = works_retired s2 r.goes.knows_table t in let shaped = l.goes.shaped in let lowest = r.took.most_steps in let all = r.took.took.count in let one = l.few_steps in
       let leaf : WorksBy f 2 l.gained v w1 = record { goes = goes_more f 0 all_records l.gained v w1 (omega arith) l.goes; more = _; steps = l.steps; few = omega arith } in
       let way : WorksBy f (bits * (2 * most_try_steps part_words)) [] w1 w2 = record { goes = r.goes; more = r.took.took.more; steps = r.took.took.steps; few = omega arith } in
       let works : WorksBy f (v.shape.bits * (2 * most_try_steps part_words) + 3) l.gained v w3 =
       works_on f (bits * (2 * most_try_steps part_words) + 2) 1 _ (omega arith) (append-nil l.gained) (works_on f 2 (bits * (2 * most_try_steps part_words)) (bits * (2 * most_try_steps part_words) + 2) (omega arith) (append-nil l.gained) leaf way) last in record {
         gained = l.gained;
         works = works;
-        loaded = l.word;
-        stops = λ stopped. (l.refusing stopped).0;
+        at_leaf = record {
+          stops = λ stopped. (l.refusing (ap (goes_from request) from.1 ∙ stopped)).0;
+          tries = λ lets. let e = l.tried (ap (goes_from request) from.1 ∙ lets) in elim (cases_Bool (e.found == l.word)) [
+            | inl hit ↦ inl (e.says ∙ ap (λ (b : Bool). if b then outcome_by request l.word else Refused) hit ∙ ap (outcome_by request) from.1)
+            | inr miss ↦ inr (e.says ∙ ap (λ (b : Bool). if b then outcome_by request l.word else Refused) miss)
+          ];
+          left = left;
+        };
         came = λ u z same before after goes. let later = book_trans r.goes.later (book_trans last.goes.later after) in let at : z.shape ≡ v.shape = goes.shaped ∙ same in
             let lifts : Lifts v.shape w1.seen w2.seen key v.shape.bits = subst (λ (x : Shape × ℕ). Lifts x.0 w1.seen w2.seen key x.1) (λ i. (shaped i, is i)) r.lifts in
-            l.came all_records u z same before later (lifts_later f v.shape w1.seen w2.seen z.seen key v.shape.bits low (omega arith) (subst (λ (x : Shape). IsBook f x z.seen) at goes.knows_table.book) (book_trans last.goes.later after) lifts) goes;
+            subst (λ (x : ℕ). CameBy f all_records u key request z x made.outcome) from.1 (l.came all_records u z same before later (lifts_later f v.shape w1.seen w2.seen z.seen key v.shape.bits low (omega arith) (subst (λ (x : Shape). IsBook f x z.seen) at goes.knows_table.book) (book_trans last.goes.later after) lifts) goes);
       }
 
   -- what it reserved and let go of with it
-  pub updated_held : {v u w x : SeatView} {key : ℕ} {request : Request} {done : Outcome} → WorksBy f 3 [] v u → UpdatedOver f u key request done w → WorksBy f 1 [] w x → UpdatedHeld f v key request done x
-  updated_held {v} {u} {w} {x} {key} {request} {done} first o last = let shaped = first.goes.shaped in let bits : u.shape.bits ≡ v.shape.bits = ap (λ (z : Shape). z.bits) shaped in
+  pub updated_held : {v u w x : SeatView} {key : ℕ} {request : Request} {made : LeafUpdate} → WorksBy f 3 [] v u → UpdatedOver f u key request made w → WorksBy f 1 [] w x → UpdatedHeld f v key request made x
+  updated_held {v} {u} {w} {x} {key} {request} {made} first o last = let shaped = first.goes.shaped in let bits : u.shape.bits ≡ v.shape.bits = ap (λ (z : Shape). z.bits) shaped in
       let works : WorksBy f (v.shape.bits * (2 * most_try_steps part_words) + 7) o.gained v x =
       works_on f (u.shape.bits * (2 * most_try_steps part_words) + 6) 1 _ (omega arith) (append-nil o.gained) (works_on f 3 (u.shape.bits * (2 * most_try_steps part_words) + 3) (u.shape.bits * (2 * most_try_steps part_words) + 6) (omega arith) refl first o.works) last in record {
         gained = o.gained;
         works = works;
-        loaded = o.loaded;
-        stops = o.stops;
+        at_leaf = o.at_leaf;
         came = λ a z same before after. o.came a z (same ∙ sym shaped) (book_trans before first.goes.later) (book_trans last.goes.later after);
       }
 

@@ -3,5 +3,6 @@
 pub(crate) mod crew;
 pub(crate) mod lifting;
 pub(crate) mod pass;
+pub(crate) mod pop;
 pub(crate) mod table;
 pub(crate) mod working;

@@ -1,5 +1,5 @@
 //! Passes of a table that lasts: they make thousands of updates with the records of a few. What an update comes to says what those before it left.
-ghost use Rattle.std.specs.Prelude.{◌≡◌, ◌+◌, ◌^◌, ◌<◌, IfErr, IfOk};
+ghost use Rattle.std.specs.Prelude.{◌≡◌, ◌+◌, ◌^◌, ◌<◌, IfErr, IfOk, None};
 ghost use Rattle.aug_trie.specs.Round.{table_of};
 
 use crate::assertions::equal;
@@ -7,18 +7,18 @@ use aug_monoid::{Extent, Sum};
 use aug_trie::Outcome::{Accepted, Refused, Replaced, TooGreat, TooLittle, Unchanged};
 use aug_trie::Request::{Add, Insert, Put, Remove, Sub, Take};
 use aug_trie::{
-    BeginError, Lasting, LastingCrew, LastingError, LastingPass, Members, Outcome, Request,
+    BeginError, Lasting, LastingCrew, LastingError, LastingPass, Members, Outcome, Request, Told,
 };
 use std::alloc::Global;
 use std::sync::Wait;
 use std::thread;
 use std::thread::Threads;
 
-type Table = Lasting<Sum, Extent>;
+pub(super) type Table = Lasting<Sum, Extent>;
 
-type Crew = LastingCrew<Sum, Extent>;
+pub(super) type Crew = LastingCrew<Sum, Extent>;
 
-type Hand = LastingPass<Sum, Extent>;
+pub(super) type Hand = LastingPass<Sum, Extent>;
 
 // A table of 3 bits over these members, for so many passes with the records of so many updates each.
 fn opened_over(
@@ -36,7 +36,7 @@ fn opened_over(
 }
 
 // One without members.
-fn opened(alloc: Global, workers: u32, updates: u32) -> Result<(Table, Crew), BeginError>
+pub(super) fn opened(alloc: Global, workers: u32, updates: u32) -> Result<(Table, Crew), BeginError>
     ensures together { IfOk result (λ t. table_of t.1.round ≡ t.0) }
     ensures bits { IfOk result (λ t. t.1.round.bits ≡ 3) }
 {
@@ -48,34 +48,50 @@ fn opened(alloc: Global, workers: u32, updates: u32) -> Result<(Table, Crew), Be
 }
 
 // The next pass.
-fn next_hand(alloc: Global, crew: &mut Crew, table: &Table) -> Result<Hand, LastingError>
+pub(super) fn next_hand(alloc: Global, crew: &mut Crew, table: &Table) -> Result<Hand, LastingError>
     requires together { table_of crew.old.round ≡ table.now }
     requires bits { crew.old.round.bits ≡ 3 }
     ensures crew { crew.new.round ≡ crew.old.round }
     ensures hand { IfOk result (λ h. h.pass.round ≡ crew.old.round) }
+    ensures no_look { IfOk result (λ h. h.look ≡ None) }
 {
     crew.pass(alloc, table)
 }
 
-// What an update comes to, once there is room for it. None if there is none after a thousand tries.
-fn changed(hand: &mut Hand, table: &Table, k: u32, request: Request) -> Option<Outcome>
+// What an update tells, once there is room for it. None if there is none after a thousand tries.
+fn told(hand: &mut Hand, table: &Table, k: u32, request: Request) -> Option<Told>
     requires together { table_of hand.old.pass.round ≡ table.now }
     requires key { k < 2 ^ hand.old.pass.round.bits }
-    ensures { hand.new.pass.round ≡ hand.old.pass.round }
+    requires no_look { hand.old.look ≡ None }
+    ensures round { hand.new.pass.round ≡ hand.old.pass.round }
+    ensures no_look { hand.new.look ≡ None }
 {
     for _ in 0..1_000 {
-        if let Ok(done) = hand.update(table, k, request) {
-            return Some(done);
+        if let Ok(told) = hand.update(table, k, request) {
+            return Some(told);
         }
     }
     None
+}
+
+// What it comes to.
+pub(super) fn changed(hand: &mut Hand, table: &Table, k: u32, request: Request) -> Option<Outcome>
+    requires together { table_of hand.old.pass.round ≡ table.now }
+    requires key { k < 2 ^ hand.old.pass.round.bits }
+    requires no_look { hand.old.look ≡ None }
+    ensures round { hand.new.pass.round ≡ hand.old.pass.round }
+    ensures no_look { hand.new.look ≡ None }
+{
+    told(hand, table, k, request).map(|told| told.outcome)
 }
 
 // Whether a key comes to what it should that is put in, weighs more and then less, and is taken out again.
 fn comes_and_goes(hand: &mut Hand, table: &Table, k: u32, weight: u32) -> bool
     requires together { table_of hand.old.pass.round ≡ table.now }
     requires key { k < 2 ^ hand.old.pass.round.bits }
-    ensures { hand.new.pass.round ≡ hand.old.pass.round }
+    requires no_look { hand.old.look ≡ None }
+    ensures round { hand.new.pass.round ≡ hand.old.pass.round }
+    ensures no_look { hand.new.look ≡ None }
 {
     let put = changed(hand, table, k, Put(weight));
     let more = changed(hand, table, k, Add(7));
@@ -91,11 +107,13 @@ fn comes_and_goes(hand: &mut Hand, table: &Table, k: u32, weight: u32) -> bool
 }
 
 // How many of so many keys, of which there are four from this one on, come to what they should.
-fn go_round(hand: &mut Hand, table: &Table, from: u32, times: u32) -> u32
+pub(super) fn go_round(hand: &mut Hand, table: &Table, from: u32, times: u32) -> u32
     requires together { table_of hand.old.pass.round ≡ table.now }
     requires bits { hand.old.pass.round.bits ≡ 3 }
     requires from { from < 5 }
-    ensures { hand.new.pass.round ≡ hand.old.pass.round }
+    requires no_look { hand.old.look ≡ None }
+    ensures round { hand.new.pass.round ≡ hand.old.pass.round }
+    ensures no_look { hand.new.look ≡ None }
 {
     let mut good: u32 = 0;
     for turn in 0..times {
@@ -149,10 +167,10 @@ fn asked(
     table: &Table,
     row: (bool, u32, Request),
 ) -> Option<Outcome>
-    requires first { (table_of first.old.pass.round ≡ table.now) × (first.old.pass.round.bits ≡ 3) }
-    requires second { (table_of second.old.pass.round ≡ table.now) × (second.old.pass.round.bits ≡ 3) }
-    ensures first { first.new.pass.round ≡ first.old.pass.round }
-    ensures second { second.new.pass.round ≡ second.old.pass.round }
+    requires first { (table_of first.old.pass.round ≡ table.now) × (first.old.pass.round.bits ≡ 3) × (first.old.look ≡ None) }
+    requires second { (table_of second.old.pass.round ≡ table.now) × (second.old.pass.round.bits ≡ 3) × (second.old.look ≡ None) }
+    ensures first { (first.new.pass.round ≡ first.old.pass.round) × (first.new.look ≡ None) }
+    ensures second { (second.new.pass.round ≡ second.old.pass.round) × (second.new.look ≡ None) }
 {
     let (other, k, request) = row;
     if k > 7 {
@@ -166,8 +184,8 @@ fn asked(
 
 // How many of the rows come to what they should.
 fn good_rows(first: &mut Hand, second: &mut Hand, table: &Table) -> u32
-    requires first { (table_of first.old.pass.round ≡ table.now) × (first.old.pass.round.bits ≡ 3) }
-    requires second { (table_of second.old.pass.round ≡ table.now) × (second.old.pass.round.bits ≡ 3) }
+    requires first { (table_of first.old.pass.round ≡ table.now) × (first.old.pass.round.bits ≡ 3) × (first.old.look ≡ None) }
+    requires second { (table_of second.old.pass.round ≡ table.now) × (second.old.pass.round.bits ≡ 3) × (second.old.look ≡ None) }
 {
     let mut good: u32 = 0;
     for (other, k, request, outcome) in ROWS {
@@ -191,6 +209,49 @@ fn two_passes_find_what_the_other_left(rt: HostRuntime) -> Result<(), LastingErr
         crew.pass(rt.alloc(), &table).err(),
         Some(LastingError::NoLane),
     );
+    Ok(())
+}
+
+// What is asked of a key, what that comes to, and what the key weighed and weighs then.
+const TELLS: [(Request, Outcome, Option<u32>, Option<u32>); 9] = [
+    (Remove, Refused, None, None),
+    (Insert, Accepted, None, Some(5)),
+    (Put(70), Replaced, Some(5), Some(70)),
+    (Add(0), Unchanged, Some(70), Some(70)),
+    (Add(u32::MAX), TooGreat, Some(70), Some(70)),
+    (Sub(30), Replaced, Some(70), Some(40)),
+    (Take(70), Refused, Some(40), Some(40)),
+    (Sub(40), Accepted, Some(40), None),
+    (Sub(1), TooLittle, None, None),
+];
+
+// How many of these tell what they should.
+fn good_tells(hand: &mut Hand, table: &Table) -> u32
+    requires together { table_of hand.old.pass.round ≡ table.now }
+    requires bits { hand.old.pass.round.bits ≡ 3 }
+    requires no_look { hand.old.look ≡ None }
+{
+    let mut good: u32 = 0;
+    for (request, outcome, before, now) in TELLS {
+        let expected = Told {
+            outcome,
+            before,
+            now,
+        };
+        if told(hand, table, 5, request) == Some(expected) {
+            good = good.saturating_add(1);
+        }
+    }
+    good
+}
+
+#[test]
+fn an_update_tells_what_its_key_weighed_and_weighs(rt: HostRuntime) -> Result<(), LastingError> {
+    let Ok((table, mut crew)) = opened(rt.alloc(), 1, 2) else {
+        return Err(LastingError::OutOfMemory);
+    };
+    let mut hand = next_hand(rt.alloc(), &mut crew, &table)?;
+    equal(&rt, good_tells(&mut hand, &table), 9);
     Ok(())
 }
 
@@ -258,10 +319,10 @@ fn two_at_work<R: Threads + Wait + Sync>(
     let (first, second) = thread::join(
         rt,
         move ||
-            requires hand { (table_of one.pass.round ≡ t.now) × (one.pass.round.bits ≡ 3) }
+            requires hand { (table_of one.pass.round ≡ t.now) × (one.pass.round.bits ≡ 3) × (one.look ≡ None) }
         { go_round(&mut one, t, 0, times) },
         move ||
-            requires hand { (table_of other.pass.round ≡ t.now) × (other.pass.round.bits ≡ 3) }
+            requires hand { (table_of other.pass.round ≡ t.now) × (other.pass.round.bits ≡ 3) × (other.look ≡ None) }
         { go_round(&mut other, t, 4, times) },
     );
     Ok([first, second])

@@ -13,6 +13,8 @@ mod granting;
 #[cfg(test)]
 mod lasting;
 #[cfg(test)]
+mod looks;
+#[cfg(test)]
 mod playing;
 #[cfg(test)]
 mod refused;

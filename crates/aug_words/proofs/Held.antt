@@ -2,12 +2,13 @@
 use Rattle.std.proofs.Common.{◌≡◌, ◌⊎◌, inl, inr, ◌&&◌, ◌||◌, Bool, nat_le, nat_lt, true, Some, false, ℕ, zero, suc, ◌+◌, ◌-◌, ◌*◌, ◌^◌, ◌<◌, ◌≤◌, List, [], ◌∷◌, ◌++◌, length-append, append_assoc, refl, sym, ap, ◌∙◌, subst, arith}
 use Rattle.std.specs.Prelude.{Option, unwrap_or, option_map}
 use Rattle.std.proofs.lemmas.Bool.{true≢false, leb-true, leb-false, ltb-true, ltb-false, and_cases, and_parts, or_parts, false_from_ne_true}
+use Rattle.std.proofs.lemmas.List.{append-nil}
 use Rattle.std.proofs.lemmas.List.Elements.{All-append}
 use Rattle.aug_core.specs.Places.{Shape, era_place}
 use Rattle.aug_core.specs.Addresses.{IsInner, left_of, right_of}
 use Rattle.aug_core.specs.Book.{Book, ArePrefixes, IsFresh, IsBook, At}
 use Rattle.aug_core.specs.Kinds.{load_leaf, load_node, load_era}
-use Rattle.aug_core.specs.Records.{floor_of}
+use Rattle.aug_core.specs.Records.{IsClosed, floor_of}
 use Rattle.aug_core.specs.Effects.{Covers, LoadsLeaf, LoadsNode, Sees, seeing}
 use Rattle.aug_core.specs.declared.step.StepTaken.{StepTaken}
 use Rattle.aug_core.specs.declared.view.Entry.{Entry}
@@ -19,9 +20,12 @@ use Rattle.aug_core.proofs.PrefixLemmas.{book_refl, book_trans, entry_stays}
 use Rattle.aug_core.proofs.Refreshing.{is_loaded}
 use Rattle.aug_words.specs.Stocks.{StockFacts, Stocks, number_in_word, birth_in_word, ReservesAnew, IsLate, GoesBy, HasSeenLater, HasSeenLaterOver, HoldsThree, LoadsOver, LoadsHeld}
 use Rattle.aug_words.specs.inside.Stocking.{covers_three, GoesStill, LoadsWord, LoadsWords}
-use Rattle.aug_words.proofs.Stocking.{tries_leaf, quiet, no_try_one, number_named, birth_named, named_used, stocks_on}
+use Rattle.aug_words.proofs.Stocking.{tries_leaf, quiet, no_try_none, no_try_one, number_named, birth_named, named_used, stocks_on}
 
 -- ---- steps, one after another
+
+pub goes_by_none : (most : ℕ) (v : SeatView) → GoesBy most v v
+goes_by_none most v = record { same = refl; later = book_refl v.seen; fresh = fresh_now v.shape v.seen; more = []; steps = sym (append-nil v.steps); few = omega arith; no_try = no_try_none }
 
 pub goes_by_on : (m n k : ℕ) (u v w : SeatView) → m + n ≤ k → GoesBy m u v → GoesBy n v w → GoesBy k u w
 goes_by_on m n k u v w fits x y = let xf = x.few in let yf = y.few in record {
@@ -199,10 +203,11 @@ module _ (face : ℕ → ℕ → List (ℕ × ℕ) → List ℕ) where
     found = n.found;
     shown = n.shown;
     covers = covered v w k q n.index r n.entry x is l.still.reserves s l.book inner n.newest.at n.found low (n.held x is).0;
+    closed = λ y found. subst (λ (z : Shape). IsClosed z w.seen (floor_of y)) (sym (ap (λ (z : SeatView). z.shape) n.stepped)) (n.held y (sym l.still.reserves ∙ found)).1;
   }
 
   pub held_before : (m n k : ℕ) (u v w : SeatView) (q r : ℕ) → m + n ≤ k → GoesBy m u v → LoadsHeld face n v q r w → LoadsHeld face k u q r w
-  held_before m n k u v w q r fits c l = record { goes = goes_by_on m n k u v w fits c l.goes; book = l.book; index = l.index; entry = l.entry; newest = l.newest; found = l.found; shown = l.shown; covers = l.covers }
+  held_before m n k u v w q r fits c l = record { goes = goes_by_on m n k u v w fits c l.goes; book = l.book; index = l.index; entry = l.entry; newest = l.newest; found = l.found; shown = l.shown; covers = l.covers; closed = l.closed }
 
   pub three_held : (v w : SeatView) (k : StockFacts) (q : ℕ) (r : ℕ × ℕ × ℕ) (x : Reserved) → v.reserved ≡ Some x → Stocks v k → IsInner v.shape q → birth_in_word r.0 ≤ k.era → (2 ^ v.shape.bits ≤ left_of v.shape q → (birth_in_word r.1 ≤ k.era) × (birth_in_word r.2 ≤ k.era))
       → LoadsWords face v q r w → LoadsOver face 3 v q r w

@@ -191,3 +191,5 @@ module _ (face : ℕ → ℕ → List (ℕ × ℕ) → List ℕ) where
     pub found : r ≡ entry.word
     pub shown : entry.passed ≡ false
     pub covers : Covers w q index entry
+    -- from each that it holds it holds those below
+    pub closed : (x : Reserved) → w.reserved ≡ Some x → IsClosed w.shape w.seen (floor_of x)

@@ -139,6 +139,44 @@ impl Stock {
         pass.load_node(node)
     }
 
+    // Reserves an era if none is reserved: at most three steps.
+    fn reserve_first<A: Monoid, B: Monoid>(
+        &mut self,
+        pass: &mut WordPass<A, B>,
+        words: &Words<A, B>,
+    )
+        requires together { AreTogether words.now pass.old }
+        requires slots { HasReservations pass.old.view }
+        requires stocks { Stocks pass.old.view self.old }
+        ensures goes { StaysAt pass.old pass.new (GoesBy 3 pass.old.view pass.new.view) }
+        ensures reserved { HasReserved pass.new.view }
+        ensures stocks { Stocks pass.new.view self.new }
+        ensures same { self.new ≡ record self.old { era = self.new.era } }
+    {
+        if self.era() == 0 {
+            self.reserve_any(pass, words);
+        }
+    }
+
+    /// Loads a node's word as [`load_held`](Stock::load_held) does, and reserves an era before that if none is reserved: so it ends within 11 steps.
+    pub fn look_at<A: Monoid, B: Monoid>(
+        &mut self,
+        pass: &mut WordPass<A, B>,
+        words: &Words<A, B>,
+        node: usize,
+    ) -> u64
+        requires together { AreTogether words.now pass.old }
+        requires slots { HasReservations pass.old.view }
+        requires stocks { Stocks pass.old.view self.old }
+        requires inner { IsInner pass.old.view.shape node }
+        ensures loads { StaysAt pass.old pass.new (LoadsHeld (face A.parts B.parts) 11 pass.old.view node result pass.new.view) }
+        ensures stocks { Stocks pass.new.view self.new }
+        ensures same { self.new ≡ record self.old { era = self.new.era } }
+    {
+        self.reserve_first(pass, words);
+        self.load_held(pass, words, node)
+    }
+
     /// Loads the words of a node, of its left child and of its right child, so that what is reserved holds the records that they name. If one was born later,
     /// it reserves anew and loads all three again, and the next time it reserves all later eras too: so it ends within 14 steps. The table has `leaves` leaves.
     pub fn load_over<A: Monoid, B: Monoid>(

@@ -124,6 +124,13 @@ impl Stock {
         self.words.len()
     }
 
+    // What is reserved, or 0.
+    pub(crate) fn era(&self) -> u64
+        ensures { result ≡ self.now.era }
+    {
+        self.era
+    }
+
     /// Whether the record that a node's word names was born no later than what is reserved: what is later the pass must not read, and has to reserve anew.
     pub fn covers(&self, word: u64) -> bool
         ensures { result ≡ nat_le (birth_in_word word) self.now.era }
@@ -253,7 +260,7 @@ impl Stock {
         is_held(eras, birth_in_word(self.words[i]), self.deaths[i])
     }
 
-    // Puts a record that waits before the others, with those that may be written.
+    // Puts a record that waits before the others, with those that may be written. Most often it is the first of them.
     fn set_free(&mut self, i: usize)
         requires waits { (self.old.free ≤ i) × (i < length self.old.words) }
         requires retired { self.old.replaced ≡ 0 }
@@ -264,9 +271,12 @@ impl Stock {
         } }
     {
         let first = self.free;
+        self.free = first + 1;
+        if i == first {
+            return;
+        }
         (self.words[i], self.words[first]) = (self.words[first], self.words[i]);
         (self.deaths[i], self.deaths[first]) = (self.deaths[first], self.deaths[i]);
-        self.free = first + 1;
     }
 
     /// Reserves the era that it loads. False if there is no era left: they have 40 bits.

@@ -54,6 +54,10 @@ module _ (face : ℕ → ℕ → List (ℕ × ℕ) → List ℕ) where
     pub rest : GainsOnly gained v w
     pub came : (used : ℕ) (u z : SeatView) → u.shape ≡ v.shape → ArePrefixes u.seen v.seen → ArePrefixes w.seen z.seen → Lifts v.shape w.seen z.seen key v.shape.bits → Goes face used gained u z → CameBy face used u key request z word done
 
+  -- and by this word, which it found
+  abbrev pub LeftFrom : SeatView → ℕ → Request → SeatView → ℕ → Outcome → Type 0
+  LeftFrom v key request w found done = (l : LeftLeaf v key request done w) × (l.word ≡ found)
+
   -- one update of a batch was at its leaf, between two views
   pub record LeftPart (v w : SeatView) (key : ℕ) (request : Request) (done : Outcome) (part : BatchPart) : Type 0 where
     pub before : SeatView

@@ -36,8 +36,9 @@ module _ (face : ℕ → ℕ → List (ℕ × ℕ) → List ℕ) where
     pub in_earlier : IsNamedUnder v earlier level place words.0
     pub in_later : IsNamedUnder v later level place words.1
 
-  -- what a walk goes by: the bits of its keys, and both roots
-  pub record IsBothWalk (v : SeatView) (earlier later : Snapshot) (bits : ℕ) : Type 0 where
+  -- what a walk goes by: the bits of its keys, both roots, and that what names a record is its number
+  pub record IsBothWalk (number : ℕ → ℕ) (v : SeatView) (earlier later : Snapshot) (bits : ℕ) : Type 0 where
+    pub plain : (word : ℕ) → number word ≡ word
     pub bits_are : bits ≡ v.shape.bits
     pub tops : IsNamedInBoth v earlier later bits 0 (earlier.number, later.number)
 

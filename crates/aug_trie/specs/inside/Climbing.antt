@@ -1,5 +1,5 @@
 -- An update as a whole: its steps, and its result.
-use Rattle.std.specs.Prelude.{◌≡◌, ℕ, ◌+◌, ◌-◌, ◌%◌, ◌^◌, ◌<◌, ◌≤◌, ◌==◌, nat_lt, ⊤, true, false, List, [], ◌∷◌, ◌++◌, length}
+use Rattle.std.specs.Prelude.{◌≡◌, ◌⊎◌, ℕ, ◌+◌, ◌-◌, ◌%◌, ◌^◌, ◌<◌, ◌≤◌, ◌==◌, nat_lt, ⊤, true, false, List, [], ◌∷◌, ◌++◌, length}
 use Rattle.aug_core.specs.Places.{Shape}
 use Rattle.aug_core.specs.Book.{IsPassed}
 use Rattle.aug_core.specs.Kinds.{load_leaf}
@@ -14,11 +14,17 @@ use Rattle.aug_trie.specs.inside.Goes.{Goes}
 use Rattle.aug_trie.specs.inside.Weights.{WeighsAt}
 use Rattle.aug_trie.specs.Pass.{TryNoLeaf, ExchangesOnce, least_update_steps, most_update_steps}
 use Rattle.aug_trie.specs.LeafWords.{serial_in_word, weight_in_word}
-use Rattle.aug_trie.specs.Requests.{goes_from, in_the_way, outcome_at_once, weight_told}
+use Rattle.aug_trie.specs.Requests.{goes_from, in_the_way, outcome_at_once, outcome_by, weight_told, word_left}
 use Rattle.aug_trie.specs.declared.updates.request.Request.{Request}
 use Rattle.aug_trie.specs.declared.updates.told.LeafUpdate.{LeafUpdate}
 use Rattle.aug_trie.specs.declared.updates.told.Told.{Told}
 use Rattle.aug_trie.specs.declared.updates.request.Request.TheVariants.{Insert, Remove, Put, Add, Sub, Take}
+
+-- what an update came to by the word that it found at its leaf, and the word that it left
+pub record ChangesLeaf (request : Request) (key : ℕ) (made : LeafUpdate) : Type 0 where
+  pub stops : goes_from request made.found ≡ false → made.outcome ≡ outcome_at_once request
+  pub tries : goes_from request made.found ≡ true → (made.outcome ≡ outcome_by request made.found) ⊎ (made.outcome ≡ outcome.Refused)
+  pub left : made.left ≡ word_left request key made.found made.outcome
 
 -- what an update of a leaf tells
 abbrev pub told_by : LeafUpdate → Told

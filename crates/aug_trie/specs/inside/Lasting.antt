@@ -1,6 +1,6 @@
 -- A pass over the stock of its lane: what an update keeps on its way to the root.
 use Rattle.std.specs.Prelude.{◌≡◌, ◌≢◌, ◌⊎◌, ℕ, suc, ◌+◌, ◌*◌, ◌^◌, ◌<◌, ◌≤◌, Bool, true, false, max, if◌then◌else◌, List, [], ◌∷◌, ◌++◌, length, slice_index}
-use Rattle.aug_core.specs.Addresses.{place_count, IsInner, left_of, right_of}
+use Rattle.aug_core.specs.Addresses.{place_count, root_place, IsInner, left_of, right_of}
 use Rattle.aug_core.specs.Book.{history_of, At, ArePrefixes}
 use Rattle.aug_core.specs.Counts.{changes_of}
 use Rattle.aug_core.specs.Records.{Lists, first_era}
@@ -15,11 +15,11 @@ use Rattle.aug_core.specs.declared.view.Replaced.{Replaced}
 use Rattle.aug_core.specs.declared.view.SeatView.{SeatView}
 use Rattle.aug_words.specs.Reservations.{HasReservations}
 use Rattle.aug_words.specs.Seats.{Known, Store, AreTogether}
-use Rattle.aug_words.specs.Stocks.{StockFacts, Stocks, HasReserved, IsHeld, birth_in_word, scan_steps}
-use Rattle.aug_model.specs.declared.outcome.Outcome.{Outcome}
+use Rattle.aug_words.specs.Stocks.{StockFacts, Stocks, HasReserved, IsHeld, LoadsHeld, birth_in_word, scan_steps}
 use Rattle.aug_trie.specs.declared.updates.request.Request.{Request}
-use Rattle.aug_trie.specs.Requests.{goes_from, outcome_at_once}
-use Rattle.aug_trie.specs.inside.Climbing.{CameBy}
+use Rattle.aug_trie.specs.declared.updates.told.LeafUpdate.{LeafUpdate}
+use Rattle.aug_trie.specs.LastingTable.{look_steps}
+use Rattle.aug_trie.specs.inside.Climbing.{CameBy, ChangesLeaf}
 use Rattle.aug_trie.specs.inside.Goes.{Goes, TookBetween, part_steps, part_words, try_steps}
 
 -- no record has this number or a greater one. So what goes from here on tells nothing of the lane's records, of which its stock tells
@@ -84,20 +84,23 @@ module _ (face : ℕ → ℕ → List (ℕ × ℕ) → List ℕ) where
     pub few : length more ≤ most
 
   -- a whole update, from when an era was reserved, and what it comes to between an earlier view and a later one
-  pub record UpdatedOver (v : SeatView) (key : ℕ) (request : Request) (done : Outcome) (w : SeatView) : Type 0 where
+  pub record UpdatedOver (v : SeatView) (key : ℕ) (request : Request) (made : LeafUpdate) (w : SeatView) : Type 0 where
     pub gained : List Change
     pub works : WorksBy (v.shape.bits * (2 * most_try_steps part_words) + 3) gained v w
-    pub loaded : ℕ
-    pub stops : goes_from request loaded ≡ false → done ≡ outcome_at_once request
-    pub came : (u z : SeatView) → u.shape ≡ v.shape → ArePrefixes u.seen v.seen → ArePrefixes w.seen z.seen → Goes face all_records gained u z → CameBy face all_records u key request z loaded done
+    pub at_leaf : ChangesLeaf request key made
+    pub came : (u z : SeatView) → u.shape ≡ v.shape → ArePrefixes u.seen v.seen → ArePrefixes w.seen z.seen → Goes face all_records gained u z → CameBy face all_records u key request z made.found made.outcome
 
   -- with what it reserved and let go of
-  pub record UpdatedHeld (v : SeatView) (key : ℕ) (request : Request) (done : Outcome) (w : SeatView) : Type 0 where
+  pub record UpdatedHeld (v : SeatView) (key : ℕ) (request : Request) (made : LeafUpdate) (w : SeatView) : Type 0 where
     pub gained : List Change
     pub works : WorksBy (v.shape.bits * (2 * most_try_steps part_words) + 7) gained v w
-    pub loaded : ℕ
-    pub stops : goes_from request loaded ≡ false → done ≡ outcome_at_once request
-    pub came : (u z : SeatView) → u.shape ≡ v.shape → ArePrefixes u.seen v.seen → ArePrefixes w.seen z.seen → Goes face all_records gained u z → CameBy face all_records u key request z loaded done
+    pub at_leaf : ChangesLeaf request key made
+    pub came : (u z : SeatView) → u.shape ≡ v.shape → ArePrefixes u.seen v.seen → ArePrefixes w.seen z.seen → Goes face all_records gained u z → CameBy face all_records u key request z made.found made.outcome
+
+  -- the root was looked at within so many steps, and what is reserved holds the record of its newest entry
+  pub record LooksAt (v : SeatView) (r : ℕ) (w : SeatView) : Type 0 where
+    pub works : WorksBy look_steps [] v w
+    pub loads : LoadsHeld face look_steps v (root_place v.shape) r w
 
   -- the era was moved on
   pub record MovesOn (v w : SeatView) : Type 0 where

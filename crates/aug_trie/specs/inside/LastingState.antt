@@ -1,13 +1,16 @@
 -- What the fields of a table that lasts keep, and those of its crew and of its passes.
-use Rattle.std.specs.Prelude.{◌≡◌, ℕ, ◌^◌, ◌≤◌, Option, Some, List, []}
+use Rattle.std.specs.Prelude.{◌≡◌, ℕ, ◌^◌, ◌≤◌, Option, Some, None, List, []}
 use Rattle.aug_core.specs.Places.{Shape, with_reservations}
 use Rattle.aug_core.specs.Effects.{KnowsBook}
 use Rattle.aug_core.specs.declared.view.SeatView.{SeatView}
 use Rattle.aug_words.specs.Seats.{Known, Store}
-use Rattle.aug_words.specs.Stocks.{StockFacts, Stocks}
+use Rattle.aug_words.specs.Stocks.{StockFacts, Stocks, number_in_word}
 use Rattle.aug_trie.specs.inside.Goes.{HasLeaves}
 use Rattle.aug_trie.specs.inside.Knows.{KnowsRound}
 use Rattle.aug_trie.specs.inside.PassState.{pass_facts}
+use Rattle.aug_trie.specs.inside.NamedCuts.{HasNamed}
+use Rattle.aug_trie.specs.inside.SnapshotWalk.{IsWalk}
+use Rattle.aug_trie.specs.declared.queries.snapshot.Snapshot.{Snapshot}
 use Rattle.aug_trie.specs.LastingTable.{LastingFacts}
 
 -- the table has room for all keys, and a reservation for each lane
@@ -19,9 +22,9 @@ pub record LastsBy (layout : Shape) (store : Store) : Type 0 where
   pub laid_out : layout ≡ store.shape
   pub lasts : IsLasting store.shape
 
--- the pass whose seat knows this, with its stock
-abbrev pub lasting_facts : Known → StockFacts → LastingFacts
-lasting_facts known stock = record { pass = pass_facts known known.view.shape.updates; stock = stock }
+-- the pass whose seat knows this, with its stock and what it holds
+abbrev pub lasting_facts : Known → StockFacts → Option Snapshot → LastingFacts
+lasting_facts known stock look = record { pass = pass_facts known known.view.shape.updates; stock = stock; look = look }
 
 module _ (face : ℕ → ℕ → List (ℕ × ℕ) → List ℕ) where
   -- a crew that handed so many lanes out
@@ -36,18 +39,24 @@ module _ (face : ℕ → ℕ → List (ℕ × ℕ) → List ℕ) where
   abbrev pub HasLastingCrew : Known → Type 0
   HasLastingCrew known = (handed : ℕ) × IsLastingCrew known.view handed
 
-  -- a pass between two updates: all that was replaced is retired, and nothing is reserved
-  pub record IsLastingPass (v : SeatView) (k : StockFacts) (leaves bits : ℕ) : Type 0 where
+  -- a snapshot that is held: what is reserved holds the records of its tree
+  pub record IsHeldLook (v : SeatView) (s : Snapshot) (bits : ℕ) : Type 0 where
+    pub named : HasNamed v.shape v.seen s
+    pub walk : IsWalk face number_in_word v s bits
+
+  -- a pass between two calls: all that was replaced is retired, and what is reserved holds the snapshot, if there is one
+  pub record IsLastingPass (v : SeatView) (k : StockFacts) (leaves bits : ℕ) (look : Option Snapshot) : Type 0 where
     pub lasts : IsLasting v.shape
     pub leaves_are : HasLeaves v.shape leaves
     pub bits_are : bits ≡ v.shape.bits
     pub knows_table : KnowsBook face v
     pub stocks : Stocks v k
     pub none : k.replaced ≡ 0
-    pub rests : k.era ≡ 0
+    pub rests : look ≡ None → k.era ≡ 0
+    pub looks : (s : Snapshot) → look ≡ Some s → IsHeldLook v s bits
     pub knowledge : KnowsRound v
 
-  pub record HasLastingPass (words : Option Known) (k : StockFacts) (leaves bits : ℕ) : Type 0 where
+  pub record HasLastingPass (words : Option Known) (k : StockFacts) (leaves bits : ℕ) (look : Option Snapshot) : Type 0 where
     pub known : Known
     pub there : words ≡ Some known
-    pub is_pass : IsLastingPass known.view k leaves bits
+    pub is_pass : IsLastingPass known.view k leaves bits look

@@ -6,21 +6,21 @@ use Rattle.aug_model.specs.Keys.{SetFacts}
 use Rattle.aug_query.specs.Tree.{IsTreeSet}
 use Rattle.aug_query.specs.declared.loaded.Loaded.{Loaded}
 use Rattle.aug_words.specs.Seats.{Known}
-use Rattle.aug_trie.specs.inside.NodeWords.{IsNodeAt}
+use Rattle.aug_trie.specs.inside.NodeWords.{HoldsNodeAt}
 use Rattle.aug_trie.specs.inside.NamedCuts.{cut_named, members_of}
 use Rattle.aug_trie.specs.declared.queries.snapshot.Snapshot.{Snapshot}
-use Rattle.aug_trie.specs.inside.Goes.{KnowsRecords}
+use Rattle.aug_trie.specs.inside.Goes.{ReadsBelow}
 
 -- the set that a snapshot shows in what a pass has seen
 abbrev pub set_seen : SeatView → Snapshot → SetFacts
 set_seen v s = members_of v.shape.bits (cut_named v.shape v.seen s)
 
-module _ (face : ℕ → ℕ → List (ℕ × ℕ) → List ℕ) where
+module _ (face : ℕ → ℕ → List (ℕ × ℕ) → List ℕ) (number : ℕ → ℕ) where
   -- the word names the node at a level and a place of the snapshot's tree
   pub record IsNamed (v : SeatView) (s : Snapshot) (level place word : ℕ) : Type 0 where
-    pub knows_records : KnowsRecords face v
+    pub reads : ReadsBelow face number v
     pub is_tree_set : IsTreeSet (set_seen v s)
-    pub node : IsNodeAt v.shape v.seen (cut_named v.shape v.seen s) level place word
+    pub holds : HoldsNodeAt v (cut_named v.shape v.seen s) level place word
 
   -- what a walk goes by: the bits of its keys, and the root
   pub record IsWalk (v : SeatView) (s : Snapshot) (bits : ℕ) : Type 0 where

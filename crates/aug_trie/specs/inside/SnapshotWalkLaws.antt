@@ -32,8 +32,8 @@ kept_on p q r s t u k l m a b = record {
   few_steps = let x = a.few_steps in let y = b.few_steps in let long = length-append a.more b.more in omega arith;
 }
 
-pub stands : {A B : Type 0} (f : ℕ → ℕ → List (ℕ × ℕ) → List ℕ) (sum : List (ℕ × ℕ) → Summary A B) (v : SeatView) (s : Snapshot) (level place word : ℕ) → IsNamed f v s level place word
+pub stands : {A B : Type 0} (f : ℕ → ℕ → List (ℕ × ℕ) → List ℕ) (number : ℕ → ℕ) (sum : List (ℕ × ℕ) → Summary A B) (v : SeatView) (s : Snapshot) (level place word : ℕ) → IsNamed f number v s level place word
     → IsNodeOf sum (set_seen v s) level place (sum_of sum (set_seen v s).pairs (keys_below (list_of (set_seen v s)) level place))
-stands f sum v s level place word named =
-    let at = named.node.part.word in
+stands f number sum v s level place word named =
+    let at = named.holds.node.part.word in
     record { is_tree_set = named.is_tree_set; level_fits = at.level_fits; place_fits = row_in_keys v.shape.bits level place at.level_fits at.place_fits; tells = refl }

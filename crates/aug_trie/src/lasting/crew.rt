@@ -46,6 +46,7 @@ impl<A: Monoid, B: Monoid> LastingCrew<A, B> {
         ensures handed { IfOk result (λ pass. HandsOut self.old self.new pass.pass) }
         ensures stock { IfOk result (λ pass. pass.stock.free ≡ self.old.round.updates * self.old.round.bits) }
         ensures rests { IfOk result (λ pass. pass.stock.era ≡ 0) }
+        ensures no_look { IfOk result (λ pass. pass.look ≡ None) }
     {
         let lane = self.lead.handed();
         if lane == table.layout.workers() {
@@ -62,6 +63,7 @@ impl<A: Monoid, B: Monoid> LastingCrew<A, B> {
             leaves: 1 << bits,
             bits,
             since: 0,
+            look: None,
         })
     }
 }

@@ -7,13 +7,11 @@ ghost use Rattle.aug_words.specs.Stocks.{HasReserved};
 ghost use Rattle.aug_trie.specs.inside.Goes.{HasLeaves};
 ghost use Rattle.aug_trie.specs.inside.Lasting.{KeepsStock, TriedBy, CoveredBy, LiftedTo, birth_from};
 
+use crate::queries::record_words::NUMBERS;
 use crate::updates::parts::any_part;
 use crate::updates::refreshing::{fill, five_words};
 use aug_monoid::Monoid;
 use aug_words::{Stock, WordPass, Words};
-
-// How many numbers of records there are beside their births in the words of nodes.
-const NUMBERS: u64 = 1 << 24;
 
 // The birth of the stock's next record over two children with these words. A leaf's word names no record.
 #[inline(always)]

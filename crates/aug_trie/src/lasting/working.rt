@@ -3,12 +3,13 @@ ghost use Rattle.std.specs.Prelude.{◌≡◌, ◌+◌, ◌^◌, ◌<◌, ◌≤
 ghost use Rattle.aug_core.specs.Faces.{face};
 ghost use Rattle.aug_words.specs.Stocks.{HasReserved};
 ghost use Rattle.aug_trie.specs.inside.Goes.{HasLeaves};
-ghost use Rattle.aug_trie.specs.inside.Lasting.{KeepsStock, IsScanned, MovesOn, UpdatedHeld, UpdatedOver, WorksBy};
+ghost use Rattle.aug_trie.specs.inside.Knows.{knows};
+ghost use Rattle.aug_trie.specs.inside.Lasting.{KeepsStock, IsScanned, LooksAt, MovesOn, UpdatedHeld, UpdatedOver, WorksBy};
 
 use crate::lasting::lifting::lift_all;
 use crate::updates::batch::at_leaf;
 use crate::updates::request::Request;
-use aug_model::Outcome;
+use crate::updates::told::LeafUpdate;
 use aug_monoid::Monoid;
 use aug_words::{Stock, WordPass, Words};
 
@@ -38,9 +39,26 @@ pub(crate) fn release<A: Monoid, B: Monoid>(
     requires keeps { KeepsStock (face A.parts B.parts) words.now pass.old stock.old }
     ensures keeps { KeepsStock (face A.parts B.parts) words.now pass.new stock.new }
     ensures same { stock.new ≡ record stock.old { era = 0 } }
+    ensures knows { knows pass.new.view ≡ knows pass.old.view }
     ensures works { WorksBy (face A.parts B.parts) 1 [] pass.old.view pass.new.view }
 {
     stock.release(pass, words);
+}
+
+// Loads the root's word so that what is reserved holds its record and all below it. An era is reserved before that if none is.
+pub(crate) fn look_at_root<A: Monoid, B: Monoid>(
+    pass: &mut WordPass<A, B>,
+    stock: &mut Stock,
+    words: &Words<A, B>,
+    leaves: usize,
+) -> u64
+    requires keeps { KeepsStock (face A.parts B.parts) words.now pass.old stock.old }
+    requires leaves { HasLeaves pass.old.view.shape leaves }
+    ensures keeps { KeepsStock (face A.parts B.parts) words.now pass.new stock.new }
+    ensures same { stock.new ≡ record stock.old { era = stock.new.era } }
+    ensures looks { LooksAt (face A.parts B.parts) pass.old.view result pass.new.view }
+{
+    stock.look_at(pass, words, 2 * leaves - 2)
 }
 
 // Changes the leaf of a key as it is asked to, unless its word refuses that, brings what it is then to the root, and retires what it replaced on the way.
@@ -52,7 +70,7 @@ pub(crate) fn update_over<A: Monoid, B: Monoid>(
     bits: u32,
     key: u32,
     request: Request,
-) -> Outcome
+) -> LeafUpdate
     requires keeps { KeepsStock (face A.parts B.parts) words.now pass.old stock.old }
     requires reserved { HasReserved pass.old.view }
     requires leaves { HasLeaves pass.old.view.shape leaves }
@@ -65,10 +83,10 @@ pub(crate) fn update_over<A: Monoid, B: Monoid>(
     ensures updated { UpdatedOver (face A.parts B.parts) pass.old.view key request result pass.new.view }
     ensures records { stock.old.free ≤ stock.new.free + bits }
 {
-    let done = at_leaf(pass, key, request);
+    let made = at_leaf(pass, key, request);
     lift_all(pass, stock, words, leaves, bits, key as usize);
     stock.retire(pass, words);
-    done
+    made
 }
 
 // Moves the era on, if there is a next one.
@@ -130,7 +148,7 @@ pub(crate) fn update_held<A: Monoid, B: Monoid>(
     bits: u32,
     key: u32,
     request: Request,
-) -> Outcome
+) -> LeafUpdate
     requires keeps { KeepsStock (face A.parts B.parts) words.now pass.old stock.old }
     requires leaves { HasLeaves pass.old.view.shape leaves }
     requires bits { bits ≡ pass.old.view.shape.bits }
@@ -143,7 +161,7 @@ pub(crate) fn update_held<A: Monoid, B: Monoid>(
     ensures updated { UpdatedHeld (face A.parts B.parts) pass.old.view key request result pass.new.view }
 {
     reserve(pass, stock, words);
-    let done = update_over(pass, stock, words, leaves, bits, key, request);
+    let made = update_over(pass, stock, words, leaves, bits, key, request);
     release(pass, stock, words);
-    done
+    made
 }

@@ -26,6 +26,7 @@ fn left_under<A: Monoid, B: Monoid, W: RecordWords>(
     word: u64,
 ) -> u64
     requires knows { KnowsRecords (face A.parts B.parts) (W.known words.old).view }
+    requires plain { (word : ℕ) → W.number word ≡ word }
     requires node { IsNodeUnder (W.known words.old).view.shape (W.known words.old).view.seen (top_of (W.known words.old).view snapshot) (level + 1) place word }
     ensures table { (W.known words.new).table ≡ (W.known words.old).table }
     ensures looks { Looks 1 (W.known words.old).view (W.known words.new).view }
@@ -45,6 +46,7 @@ fn right_under<A: Monoid, B: Monoid, W: RecordWords>(
     word: u64,
 ) -> u64
     requires knows { KnowsRecords (face A.parts B.parts) (W.known words.old).view }
+    requires plain { (word : ℕ) → W.number word ≡ word }
     requires node { IsNodeUnder (W.known words.old).view.shape (W.known words.old).view.seen (top_of (W.known words.old).view snapshot) (level + 1) place word }
     ensures table { (W.known words.new).table ≡ (W.known words.old).table }
     ensures looks { Looks 1 (W.known words.old).view (W.known words.new).view }
@@ -86,14 +88,14 @@ impl<W: RecordWords, A: Monoid, B: Monoid> Model for BothWalk<W, A, B> {
 
     ghost view = { λ w. record { words = W.known w.words; earlier = w.earlier; later = w.later; bits = w.bits; loaded = w.loaded } };
 
-    ghost invariant = { λ w. IsBothWalk (face A.parts B.parts) (W.known w.words).view w.earlier w.later w.bits };
+    ghost invariant = { λ w. IsBothWalk (face A.parts B.parts) W.number (W.known w.words).view w.earlier w.later w.bits };
 }
 
 impl<W: RecordWords, A: Monoid, B: Monoid> BothWalk<W, A, B> {
     // A walk over two snapshots of the pass or the reader that has these words.
     #[inline(always)]
     pub(crate) fn over(words: W, earlier: Snapshot, later: Snapshot, bits: u32) -> BothWalk<W, A, B>
-        requires { IsBothWalk (face A.parts B.parts) (W.known words).view earlier later bits }
+        requires { IsBothWalk (face A.parts B.parts) W.number (W.known words).view earlier later bits }
         ensures words { result.words ≡ W.known words }
         ensures earlier { result.earlier ≡ earlier }
         ensures later { result.later ≡ later }

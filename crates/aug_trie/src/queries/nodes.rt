@@ -2,11 +2,11 @@
 ghost use Rattle.std.specs.Prelude.{◌≡◌, ◌+◌, ◌*◌, ◌≤◌};
 ghost use Rattle.aug_core.specs.Faces.{face};
 ghost use Rattle.aug_model.specs.Folds.{summary_of};
-ghost use Rattle.aug_trie.specs.inside.NodeWords.{IsNodeAt};
+ghost use Rattle.aug_trie.specs.inside.NodeWords.{HoldsNodeAt, IsNodeAt};
 ghost use Rattle.aug_trie.specs.inside.LeafPairs.{leaf_pairs};
 ghost use Rattle.aug_trie.specs.TreeOf.{IsTreeOf};
 ghost use Rattle.aug_trie.specs.inside.NamedCuts.{cut_named};
-ghost use Rattle.aug_trie.specs.inside.Goes.{Looks, KnowsRecords};
+ghost use Rattle.aug_trie.specs.inside.Goes.{Looks, KnowsRecords, ReadsBelow};
 
 use crate::queries::node::Node;
 use crate::queries::record_words::RecordWords;
@@ -39,8 +39,8 @@ pub(crate) fn summary_at<A: Monoid, B: Monoid, W: RecordWords>(
     place: u32,
     word: u64,
 ) -> Summary<A, B>
-    requires knows { KnowsRecords (face A.parts B.parts) (W.known words.old).view }
-    requires node { IsNodeAt (W.known words.old).view.shape (W.known words.old).view.seen (cut_named (W.known words.old).view.shape (W.known words.old).view.seen snapshot) level place word }
+    requires knows { ReadsBelow (face A.parts B.parts) W.number (W.known words.old).view }
+    requires node { HoldsNodeAt (W.known words.old).view (cut_named (W.known words.old).view.shape (W.known words.old).view.seen snapshot) level place word }
     ensures table { (W.known words.new).table ≡ (W.known words.old).table }
     ensures looks { Looks 3 (W.known words.old).view (W.known words.new).view }
     ensures tells { IsTreeOf (summary_of A.parts B.parts) (W.known words.old).view.shape.bits (cut_named (W.known words.old).view.shape (W.known words.old).view.seen snapshot) level place result }

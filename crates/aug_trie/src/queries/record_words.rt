@@ -7,8 +7,8 @@ ghost use Rattle.aug_core.specs.Effects.{GuardsRecord};
 ghost use Rattle.aug_core.specs.Fields.{field_offset};
 ghost use Rattle.aug_words.specs.Seats.{Known, LoadsRecordWord};
 ghost use Rattle.aug_model.specs.NodeKeys.{keys_below};
-ghost use Rattle.aug_trie.specs.inside.NodeWords.{IsNodeAt};
-ghost use Rattle.aug_trie.specs.inside.Goes.{Looks, KnowsRecords};
+ghost use Rattle.aug_trie.specs.inside.NodeWords.{HoldsNodeAt};
+ghost use Rattle.aug_trie.specs.inside.Goes.{Looks, ReadsBelow};
 ghost use Rattle.aug_trie.specs.inside.NamedCuts.{cut_named};
 
 use crate::queries::snapshot::Snapshot;
@@ -18,24 +18,32 @@ use aug_monoid::Monoid;
 use aug_words::{Lead, WordPass, WordReader, Words};
 use std::marker::Model;
 
+// How many numbers of records there are beside their births in the words of nodes.
+pub(crate) const NUMBERS: u64 = 1 << 24;
+
 /// Who may load words of records: a pass, or a crew or a reader that has the words of its round at hand.
 pub(crate) trait RecordWords {
     // What it knows of its table.
     ghost known: { Self → Known };
 
-    // One of the five words of a record that it has seen: one step.
-    fn load_word(&mut self, number: u64, field: RecordField) -> u64
-        requires { GuardsRecord (known self.old).view number }
+    // The number of a record, by the word that names it.
+    ghost number: { ℕ → ℕ };
+
+    // One of the five words of the record that a word names: one step.
+    fn load_word(&mut self, word: u64, field: RecordField) -> u64
+        requires { GuardsRecord (known self.old).view (number word) }
         ensures table { (known self.new).table ≡ (known self.old).table }
-        ensures view { LoadsRecordWord (known self.old).view number (field_offset field) result (known self.new).view };
+        ensures view { LoadsRecordWord (known self.old).view (number word) (field_offset field) result (known self.new).view };
 }
 
 impl<A: Monoid, B: Monoid> RecordWords for WordPass<'_, A, B> {
     ghost known = { λ p. p };
 
+    ghost number = { λ w. w };
+
     #[inline(always)]
-    fn load_word(&mut self, number: u64, field: RecordField) -> u64 {
-        self.load_record_word(number, field)
+    fn load_word(&mut self, word: u64, field: RecordField) -> u64 {
+        self.load_record_word(word, field)
     }
 }
 
@@ -59,9 +67,11 @@ impl<'r, A: Monoid, B: Monoid> Model for CrewWords<'r, A, B> {
 impl<A: Monoid, B: Monoid> RecordWords for CrewWords<'_, A, B> {
     ghost known = { λ c. c };
 
+    ghost number = { λ w. w };
+
     #[inline(always)]
-    fn load_word(&mut self, number: u64, field: RecordField) -> u64 {
-        self.lead.load_record_word(self.words, number, field)
+    fn load_word(&mut self, word: u64, field: RecordField) -> u64 {
+        self.lead.load_record_word(self.words, word, field)
     }
 }
 
@@ -85,9 +95,38 @@ impl<'r, A: Monoid, B: Monoid> Model for ReaderWords<'r, A, B> {
 impl<A: Monoid, B: Monoid> RecordWords for ReaderWords<'_, A, B> {
     ghost known = { λ r. r };
 
+    ghost number = { λ w. w };
+
     #[inline(always)]
-    fn load_word(&mut self, number: u64, field: RecordField) -> u64 {
-        self.reader.load_record_word(self.words, number, field)
+    fn load_word(&mut self, word: u64, field: RecordField) -> u64 {
+        self.reader.load_record_word(self.words, word, field)
+    }
+}
+
+/// The words of a table that lasts, by a pass that holds a snapshot.
+#[derive(Drop)]
+pub(crate) struct HeldWords<'r, A: Monoid, B: Monoid> {
+    pub(crate) pass: WordPass<'r, A, B>,
+}
+
+impl<'r, A: Monoid, B: Monoid> Model for HeldWords<'r, A, B> {
+    ghost use Rattle.aug_words.specs.Seats.{Known};
+
+    ghost Value = { Known };
+
+    ghost view = { λ h. h.pass };
+}
+
+impl<A: Monoid, B: Monoid> RecordWords for HeldWords<'_, A, B> {
+    ghost use Rattle.aug_words.specs.Stocks.{number_in_word};
+
+    ghost known = { λ h. h };
+
+    ghost number = { number_in_word };
+
+    #[inline(always)]
+    fn load_word(&mut self, word: u64, field: RecordField) -> u64 {
+        self.pass.load_record_word(word % NUMBERS, field)
     }
 }
 
@@ -100,11 +139,11 @@ pub(crate) fn left_word<A: Monoid, B: Monoid, W: RecordWords>(
     place: u32,
     word: u64,
 ) -> u64
-    requires knows { KnowsRecords (face A.parts B.parts) (W.known words.old).view }
-    requires node { IsNodeAt (W.known words.old).view.shape (W.known words.old).view.seen (cut_named (W.known words.old).view.shape (W.known words.old).view.seen snapshot) (level + 1) place word }
+    requires knows { ReadsBelow (face A.parts B.parts) W.number (W.known words.old).view }
+    requires node { HoldsNodeAt (W.known words.old).view (cut_named (W.known words.old).view.shape (W.known words.old).view.seen snapshot) (level + 1) place word }
     ensures table { (W.known words.new).table ≡ (W.known words.old).table }
     ensures looks { Looks 1 (W.known words.old).view (W.known words.new).view }
-    ensures node { IsNodeAt (W.known words.old).view.shape (W.known words.old).view.seen (cut_named (W.known words.old).view.shape (W.known words.old).view.seen snapshot) level (2 * place) result }
+    ensures node { HoldsNodeAt (W.known words.old).view (cut_named (W.known words.old).view.shape (W.known words.old).view.seen snapshot) level (2 * place) result }
 {
     let _ = (snapshot, level, place);
     words.load_word(word, RecordField::Left)
@@ -119,11 +158,11 @@ pub(crate) fn right_word<A: Monoid, B: Monoid, W: RecordWords>(
     place: u32,
     word: u64,
 ) -> u64
-    requires knows { KnowsRecords (face A.parts B.parts) (W.known words.old).view }
-    requires node { IsNodeAt (W.known words.old).view.shape (W.known words.old).view.seen (cut_named (W.known words.old).view.shape (W.known words.old).view.seen snapshot) (level + 1) place word }
+    requires knows { ReadsBelow (face A.parts B.parts) W.number (W.known words.old).view }
+    requires node { HoldsNodeAt (W.known words.old).view (cut_named (W.known words.old).view.shape (W.known words.old).view.seen snapshot) (level + 1) place word }
     ensures table { (W.known words.new).table ≡ (W.known words.old).table }
     ensures looks { Looks 1 (W.known words.old).view (W.known words.new).view }
-    ensures node { IsNodeAt (W.known words.old).view.shape (W.known words.old).view.seen (cut_named (W.known words.old).view.shape (W.known words.old).view.seen snapshot) level (2 * place + 1) result }
+    ensures node { HoldsNodeAt (W.known words.old).view (cut_named (W.known words.old).view.shape (W.known words.old).view.seen snapshot) level (2 * place + 1) result }
 {
     let _ = (snapshot, level, place);
     words.load_word(word, RecordField::Right)
@@ -138,8 +177,8 @@ pub(crate) fn count_at<A: Monoid, B: Monoid, W: RecordWords>(
     place: u32,
     word: u64,
 ) -> u32
-    requires knows { KnowsRecords (face A.parts B.parts) (W.known words.old).view }
-    requires node { IsNodeAt (W.known words.old).view.shape (W.known words.old).view.seen (cut_named (W.known words.old).view.shape (W.known words.old).view.seen snapshot) level place word }
+    requires knows { ReadsBelow (face A.parts B.parts) W.number (W.known words.old).view }
+    requires node { HoldsNodeAt (W.known words.old).view (cut_named (W.known words.old).view.shape (W.known words.old).view.seen snapshot) level place word }
     ensures table { (W.known words.new).table ≡ (W.known words.old).table }
     ensures looks { Looks 1 (W.known words.old).view (W.known words.new).view }
     ensures value { result ≡ length (keys_below (set_of_cut (cut_named (W.known words.old).view.shape (W.known words.old).view.seen snapshot)) level place) }

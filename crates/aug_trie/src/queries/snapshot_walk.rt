@@ -2,12 +2,13 @@
 ghost use Rattle.std.specs.Prelude.{◌≡◌, Some};
 ghost use Rattle.aug_core.specs.Faces.{face};
 ghost use Rattle.aug_words.specs.Seats.{AreTogether, NamesRoot};
+ghost use Rattle.aug_words.specs.Stocks.{number_in_word};
 ghost use Rattle.aug_trie.specs.inside.SnapshotWalk.{HasWalk, IsWalk};
 ghost use Rattle.aug_trie.specs.inside.Goes.{KnowsRecords};
 
 use crate::queries::nodes::summary_at;
 use crate::queries::record_words::{
-    CrewWords, ReaderWords, RecordWords, count_at, left_word, right_word,
+    CrewWords, HeldWords, ReaderWords, RecordWords, count_at, left_word, right_word,
 };
 use crate::queries::snapshot::Snapshot;
 use crate::updates::leaf_words::leaf_weight;
@@ -36,14 +37,14 @@ impl<W: RecordWords, A: Monoid, B: Monoid> Model for SnapshotWalk<W, A, B> {
 
     ghost view = { λ w. record { words = W.known w.words; snapshot = w.snapshot; bits = w.bits; loaded = w.loaded } };
 
-    ghost invariant = { λ w. IsWalk (face A.parts B.parts) (W.known w.words).view w.snapshot w.bits };
+    ghost invariant = { λ w. IsWalk (face A.parts B.parts) W.number (W.known w.words).view w.snapshot w.bits };
 }
 
 impl<W: RecordWords, A: Monoid, B: Monoid> SnapshotWalk<W, A, B> {
     // A walk over a snapshot of who has these words.
     #[inline(always)]
     pub(crate) fn over(words: W, snapshot: Snapshot, bits: u32) -> SnapshotWalk<W, A, B>
-        requires { IsWalk (face A.parts B.parts) (W.known words).view snapshot bits }
+        requires { IsWalk (face A.parts B.parts) W.number (W.known words).view snapshot bits }
         ensures words { result.words ≡ W.known words }
         ensures snapshot { result.snapshot ≡ snapshot }
     {
@@ -74,7 +75,7 @@ impl<'r, A: Monoid, B: Monoid> SnapshotWalk<WordPass<'r, A, B>, A, B> {
         snapshot: Snapshot,
         bits: u32,
     ) -> SnapshotWalk<WordPass<'r, A, B>, A, B>
-        requires { HasWalk (face A.parts B.parts) words snapshot bits }
+        requires { HasWalk (face A.parts B.parts) (λ w. w) words snapshot bits }
         ensures words { words.entry ≡ Some result.words }
         ensures snapshot { result.snapshot ≡ snapshot }
     {
@@ -121,7 +122,7 @@ impl<'r, A: Monoid, B: Monoid> SnapshotWalk<ReaderWords<'r, A, B>, A, B> {
         bits: u32,
     ) -> SnapshotWalk<ReaderWords<'r, A, B>, A, B>
         requires together { AreTogether words.now reader }
-        requires walk { IsWalk (face A.parts B.parts) reader.view snapshot bits }
+        requires walk { IsWalk (face A.parts B.parts) (λ w. w) reader.view snapshot bits }
         ensures words { result.words ≡ reader }
         ensures snapshot { result.snapshot ≡ snapshot }
     {
@@ -138,6 +139,31 @@ impl<'r, A: Monoid, B: Monoid> SnapshotWalk<ReaderWords<'r, A, B>, A, B> {
     }
 }
 
+impl<'r, A: Monoid, B: Monoid> SnapshotWalk<HeldWords<'r, A, B>, A, B> {
+    // A walk over a snapshot that the pass with these words holds.
+    #[inline(always)]
+    pub(crate) fn of_held(
+        pass: WordPass<'r, A, B>,
+        snapshot: Snapshot,
+        bits: u32,
+    ) -> SnapshotWalk<HeldWords<'r, A, B>, A, B>
+        requires { IsWalk (face A.parts B.parts) number_in_word pass.view snapshot bits }
+        ensures words { pass.entry ≡ result.words }
+        ensures snapshot { result.snapshot ≡ snapshot }
+    {
+        SnapshotWalk::over(HeldWords { pass }, snapshot, bits)
+    }
+
+    // The words again.
+    #[inline(always)]
+    pub(crate) fn into_pass(self) -> WordPass<'r, A, B>
+        ensures { result ≡ self.entry.words }
+    {
+        let HeldWords { pass } = self.into_words();
+        pass
+    }
+}
+
 impl<W: RecordWords, A: Monoid, B: Monoid> Descend<A, B> for SnapshotWalk<W, A, B> {
     type Name = u64;
 
@@ -150,7 +176,7 @@ impl<W: RecordWords, A: Monoid, B: Monoid> Descend<A, B> for SnapshotWalk<W, A, 
 
     ghost loads_of = { λ w. w.loaded };
 
-    ghost Names = { λ w level place word. IsNamed (face A.parts B.parts) w.words.view w.snapshot level place word };
+    ghost Names = { λ w level place word. IsNamed (face A.parts B.parts) W.number w.words.view w.snapshot level place word };
 
     ghost KeepsRest = { λ first w. KeepsWords first.words w.words first.snapshot w.snapshot first.loaded w.loaded };
 
@@ -158,7 +184,7 @@ impl<W: RecordWords, A: Monoid, B: Monoid> Descend<A, B> for SnapshotWalk<W, A, 
 
     ghost keeps_on = { λ first w last a b. kept_on first.words w.words last.words first.snapshot w.snapshot last.snapshot first.loaded w.loaded last.loaded a b };
 
-    ghost name_stands = { λ w level place word named. stands (face A.parts B.parts) (summary_of A.parts B.parts) w.words.view w.snapshot level place word named };
+    ghost name_stands = { λ w level place word named. stands (face A.parts B.parts) W.number (summary_of A.parts B.parts) w.words.view w.snapshot level place word named };
 
     #[inline(always)]
     fn bits(&self) -> u32 {

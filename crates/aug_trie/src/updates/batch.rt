@@ -4,16 +4,18 @@ ghost use Rattle.aug_core.specs.Faces.{face};
 ghost use Rattle.aug_core.specs.Counts.{changes_of};
 ghost use Rattle.aug_core.specs.Effects.{MayChange, KnowsBook};
 ghost use Rattle.aug_words.specs.Seats.{StaysAt};
+ghost use Rattle.aug_trie.specs.Requests.{word_left};
 ghost use Rattle.aug_trie.specs.UpdateBatches.{apart};
 ghost use Rattle.aug_trie.specs.inside.Climbing.{FitsRequest};
 ghost use Rattle.aug_trie.specs.inside.Goes.{HasLeaves, HasRoom};
-ghost use Rattle.aug_trie.specs.inside.Batching.{IsAccountAfter, LeftAll, LeftLeaf, RaisedAll};
+ghost use Rattle.aug_trie.specs.inside.Batching.{IsAccountAfter, LeftAll, LeftFrom, RaisedAll};
 ghost use Rattle.aug_trie.specs.inside.Counted.{HasCounts};
 ghost use Rattle.aug_trie.specs.inside.PassState.{IsPass};
 
 use crate::rounds::account::Account;
 use crate::updates::propagate::propagate;
 use crate::updates::request::Request;
+use crate::updates::told::LeafUpdate;
 use crate::updates::update::{at_once, goes_on, outcome_of, word_after};
 use aug_model::Outcome;
 use aug_monoid::Monoid;
@@ -39,20 +41,33 @@ pub(crate) fn at_leaf<A: Monoid, B: Monoid>(
     pass: &mut WordPass<A, B>,
     key: u32,
     request: Request,
-) -> Outcome
+) -> LeafUpdate
     requires key { key < 2 ^ pass.old.view.shape.bits }
     requires knows { KnowsBook (face A.parts B.parts) pass.old.view }
     requires may { MayChange pass.old.view }
-    ensures { StaysAt pass.old pass.new (LeftLeaf (face A.parts B.parts) pass.old.view key request result pass.new.view) }
+    ensures at { StaysAt pass.old pass.new (LeftFrom (face A.parts B.parts) pass.old.view key request pass.new.view result.found result.outcome) }
+    ensures left { result.left ≡ word_left request key result.found result.outcome }
 {
     let _amount = amount_in(request);
     let leaf = key as usize;
     let word = pass.begin_at_leaf(leaf);
     if !goes_on(request, word) {
-        return at_once(request);
+        let outcome = at_once(request);
+        return LeafUpdate {
+            outcome,
+            found: word,
+            left: word,
+        };
     }
-    let done = pass.try_leaf(leaf, word, word_after(request, key, word));
-    outcome_of(request, word, done)
+    let next = word_after(request, key, word);
+    let done = pass.try_leaf(leaf, word, next);
+    let outcome = outcome_of(request, word, done);
+    let left = if done { next } else { word };
+    LeafUpdate {
+        outcome,
+        found: word,
+        left,
+    }
 }
 
 // Changes the leaf of each key as it is asked to, and puts down what that came to.
@@ -78,7 +93,7 @@ pub(crate) fn at_leaves<A: Monoid, B: Monoid>(
     let mut account = account;
     for place in 0..keys.len() {
         let request = requests[place];
-        let done = at_leaf(pass, keys[place], request);
+        let done = at_leaf(pass, keys[place], request).outcome;
         outcomes[place] = done;
         account = account.after(request, done);
     }

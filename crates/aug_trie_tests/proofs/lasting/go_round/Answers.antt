@@ -1,4 +1,4 @@
-use Rattle.std.proofs.Common.{◌≡◌, ℕ, ◌+◌, ◌%◌, ◌^◌, ◌<◌, ◌∙◌, refl, sym, ap, subst, arith}
+use Rattle.std.proofs.Common.{ℕ, ◌+◌, ◌%◌, ◌^◌, ◌<◌, ◌∙◌, sym, ap, subst, arith}
 use Rattle.aug_trie.specs.Round.{RoundFacts, table_of}
 use Rattle.aug_trie_tests.proofs.lasting.go_round.Goals as goal
 

@@ -3,4 +3,4 @@ use Rattle.aug_trie.proofs.Stocked.{updated_held}
 use Rattle.aug_trie.proofs.lasting.working.update_held.Goals as goal
 
 pub returns-clause-updated : goal.returns-clause-updated
-returns-clause-updated g c = updated_held (face g.A.Monoid.parts g.B.Monoid.parts) c.reserve.ensures.works c.update_over-done.ensures.updated c.release.ensures.works
+returns-clause-updated g c = updated_held (face g.A.Monoid.parts g.B.Monoid.parts) c.reserve.ensures.works c.update_over-made.ensures.updated c.release.ensures.works

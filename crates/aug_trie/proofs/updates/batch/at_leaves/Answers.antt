@@ -17,8 +17,8 @@ after-account-requires g c = let may = may_leave (face g.A.Monoid.parts g.B.Mono
 
 pub loop-place-preserved : goal.loop-place-preserved
 loop-place-preserved g c = record {
-  table = c.at_leaf-done.ensures.table ∙ c.loop-place.invariant.table;
-  left = left_more (face g.A.Monoid.parts g.B.Monoid.parts) c.requires.keys c.requires.pass c.requires.budget c.loop-place-test.true c.loop-place.invariant.left refl c.at_leaf-done.ensures.view c.after-account.ensures;
+  table = c.at_leaf-done.ensures.at.table ∙ c.loop-place.invariant.table;
+  left = left_more (face g.A.Monoid.parts g.B.Monoid.parts) c.requires.keys c.requires.pass c.requires.budget c.loop-place-test.true c.loop-place.invariant.left refl c.at_leaf-done.ensures.at.view.0 c.after-account.ensures;
 }
 
 pub returns : goal.returns

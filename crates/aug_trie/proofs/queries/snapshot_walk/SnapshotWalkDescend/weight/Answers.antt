@@ -5,4 +5,4 @@ use Rattle.aug_trie.proofs.queries.snapshot_walk.SnapshotWalkDescend.weight.Goal
 
 pub returns : goal.returns
 returns g c = let v = c.args.self.now.words.view in
-    c.leaf_weight.ensures ∙ leaf_weighs g.A.Monoid.parts g.B.Monoid.parts v c.requires.knows_records.knows_table (cut_named v.shape v.seen c.args.self.now.snapshot) 0 c.args._place c.args.node.now c.requires.node refl
+    c.leaf_weight.ensures ∙ leaf_weighs g.A.Monoid.parts g.B.Monoid.parts v c.requires.reads.knows_table (cut_named v.shape v.seen c.args.self.now.snapshot) 0 c.args._place c.args.node.now c.requires.holds.node refl

@@ -13,7 +13,7 @@ use Rattle.aug_trie.proofs.rounds.pass.Pass.cursor_from.Goals as goal
 
 pub of_pass-walk-requires : goal.of_pass-walk-requires
 of_pass-walk-requires g c = let i = c.self.inside in
-    subst (λ (z : Option Known). HasWalk (face g.A.Monoid.parts g.B.Monoid.parts) z c.args.s i.account.bits) (sym c.take.ensures.value)
+    subst (λ (z : Option Known). HasWalk (face g.A.Monoid.parts g.B.Monoid.parts) (λ word. word) z c.args.s i.account.bits) (sym c.take.ensures.value)
     (may_walk g.A.Monoid.parts g.B.Monoid.parts i.words i.account.leaves i.account.bits i.account.next i.account.left c.args.self.now c.args.s c.self.invariant.pass c.self.view_is c.requires)
 
 pub invariant_of-self : goal.invariant_of-self

@@ -1,0 +1,6 @@
+use Rattle.std.proofs.Common.{◌∙◌, ap}
+use Rattle.aug_trie.specs.Round.{table_of}
+use Rattle.aug_trie_tests.proofs.looks.taken_out.Goals as goal
+
+pub popped-requires-clause-together : goal.popped-requires-clause-together
+popped-requires-clause-together c = ap table_of c.loop.invariant.round ∙ c.requires.together

@@ -7,7 +7,7 @@ use Rattle.aug_core.specs.Places.{Shape, record_start, record_words, word_count,
 use Rattle.aug_core.specs.Addresses.{IsInner}
 use Rattle.aug_core.specs.Lanes.{word_of_state}
 use Rattle.aug_core.specs.Eras.{IsAtWork, Ruled}
-use Rattle.aug_core.specs.Reclaiming.{loaded_era, turned_era, reserved_era, released_era, retired, scanned, own_reservation, ShowsLater}
+use Rattle.aug_core.specs.Reclaiming.{loaded_era, turned_era, reserved_era, released_era, retired, scanned, ShowsLater}
 use Rattle.aug_core.specs.inside.Reclaims.{MayReserve}
 use Rattle.aug_core.specs.Book.{word_of_node}
 use Rattle.aug_core.specs.Records.{first_era}
@@ -78,15 +78,15 @@ module _ (face : ℕ → ℕ → List (ℕ × ℕ) → List ℕ) (shape : Shape)
   turns_era place i era me work live empty inside at used is = in_its_era face shape n id place i me (λ x. either (eqb x era) (era + 1) x) (λ w. turned_era (step n w era (era + 1) none) me) work live inside at
       (λ o. reserve.turns_era face o n id place era me live empty used is)
 
-  pub reserves_era : (place i era : ℕ) (me : Sat) → me.0.live ≡ true → me.1 ≡ [] → place < word_count me.0.shape → i ≡ me.0.base + place → MayReserve me.0 → place ≡ own_reservation me.0 → 0 < era → first_era era ≤ me.0.reached
+  pub reserves_era : (place i slot era : ℕ) (me : Sat) → me.0.live ≡ true → me.1 ≡ [] → place < word_count me.0.shape → i ≡ me.0.base + place → MayReserve me.0 slot → place ≡ reservation_place me.0.shape slot → 0 < era → first_era era ≤ me.0.reached
       → Allows (Ruled face shape) n id me i (λ _. era) (λ _. in_part reserved_era (step n i era 0 none) me era)
-  reserves_era place i era me live empty inside at may is some_era known = in_its_era face shape n id place i me (λ _. era) (λ w _ m. reserved_era (step n w era 0 none) me era m) (holds_lane me.0 may.lane may.only) live inside at
-      (λ o. reserve.reserves_era face o n id place era me live empty may is some_era known)
+  reserves_era place i slot era me live empty inside at may is some_era known = in_its_era face shape n id place i me (λ _. era) (λ w _ m. reserved_era (step n w era 0 none) me era m) (holds_lane me.0 may.lane may.only) live inside at
+      (λ o. reserve.reserves_era face o n id place slot era me live empty may is some_era known)
 
-  pub releases_era : (place i : ℕ) (me : Sat) → me.0.live ≡ true → me.1 ≡ [] → place < word_count me.0.shape → i ≡ me.0.base + place → MayReserve me.0 → place ≡ own_reservation me.0
+  pub releases_era : (place i slot : ℕ) (me : Sat) → me.0.live ≡ true → me.1 ≡ [] → place < word_count me.0.shape → i ≡ me.0.base + place → MayReserve me.0 slot → place ≡ reservation_place me.0.shape slot
       → Allows (Ruled face shape) n id me i (λ _. 0) (λ _. in_part released_era (step n i 0 0 none) me 0)
-  releases_era place i me live empty inside at may is = in_its_era face shape n id place i me (λ _. 0) (λ w _ m. released_era (step n w 0 0 none) me 0 m) (holds_lane me.0 may.lane may.only) live inside at
-      (λ o. reserve.releases_era face o n id place 0 me live empty may is refl)
+  releases_era place i slot me live empty inside at may is = in_its_era face shape n id place i me (λ _. 0) (λ w _ m. released_era (step n w 0 0 none) me 0 m) (holds_lane me.0 may.lane may.only) live inside at
+      (λ o. reserve.releases_era face o n id place slot 0 me live empty may is refl)
 
   pub retires : (place i : ℕ) (me : Sat) (h : Held) → me.0.live ≡ true → me.1 ≡ [] → place < word_count me.0.shape → i ≡ me.0.base + place → HoldsOnly me.0 h → 0 < me.0.shape.reservations → ShowsLater me.0 h → place ≡ era_place me.0.shape
       → Allows (Ruled face shape) n id me i (λ x. x) (in_part retired (step n i 0 0 none) me)

@@ -3,7 +3,7 @@ use Rattle.std.proofs.Common.{◌≡◌, ℕ, zero, suc, ◌+◌, ◌<◌, ◌�
 use Rattle.std.proofs.lemmas.Bool.{cases_eq}
 use Rattle.aug_core.specs.Places.{record_start, record_words}
 use Rattle.aug_core.specs.inside.Refreshes.{SaysLoaded, stored}
-use Rattle.aug_core.specs.Effects.{Covers, IsBornBy, reserved_by, MayStore, storing, IsFilled}
+use Rattle.aug_core.specs.Effects.{CoversUntil, IsBornBy, MayStore, storing, IsFilled}
 use Rattle.aug_core.specs.declared.view.SeatView.{SeatView}
 use Rattle.aug_core.proofs.Owning.{with_here, with_other}
 use Rattle.aug_core.proofs.Clients.{after_store, owns_what_it_stores}
@@ -41,13 +41,12 @@ module _ (v : SeatView) (number : ℕ) (five : List ℕ) (may : MayStore v numbe
       (λ other. with_other (after n).shape (record_start (after n).shape number + n) (get_or five n 0) m.own k (λ is. other (omega arith)) ∙ says n k (omega arith) (omega arith)) (cases_eq k n)
 
   -- a record that says what was loaded may be published
-  pub is_filled : (face : ℕ → ℕ → List (ℕ × ℕ) → List ℕ) (q old birth : ℕ) (loaded : SaysLoaded face v.shape v.seen q old five) → Covers v q loaded.is_loaded.index loaded.is_loaded.from → IsBornBy v loaded.is_loaded.left.birth birth → IsBornBy v loaded.is_loaded.right.birth birth → IsBornBy v birth (reserved_by v) → IsFilled face (filled_view v number five) q old birth number
-  is_filled face q old birth loaded covers left_born right_born born = let l = loaded.is_loaded in record {
+  pub is_filled : (face : ℕ → ℕ → List (ℕ × ℕ) → List ℕ) (q old birth : ℕ) (loaded : SaysLoaded face v.shape v.seen q old five) → CoversUntil v q loaded.is_loaded.index loaded.is_loaded.from birth → IsBornBy v loaded.is_loaded.left.birth birth → IsBornBy v loaded.is_loaded.right.birth birth → IsFilled face (filled_view v number five) q old birth number
+  is_filled face q old birth loaded covers left_born right_born = let l = loaded.is_loaded in record {
     is_loaded = l;
     covers = covers;
     left_born = left_born;
     right_born = right_born;
-    born = born;
     own = (may_fill record_words).own;
     owns = owns_what_it_stores (filled_view v number five) number (may_fill record_words);
     full = λ k small. says record_words k small (omega arith) ∙ ap (λ (z : List ℕ). get_or z k 0) loaded.five_are

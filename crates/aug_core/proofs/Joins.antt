@@ -137,6 +137,7 @@ module _ (face : ℕ → ℕ → List (ℕ × ℕ) → List ℕ) (o : Opening) (
           spares = kn.spares;
           records = record {
             reserved = λ x e. let t = kn.records.reserved x e in let own = t.0 in (record { index = own.index; held = own.held; at = at_longer v.held w.held own.index own.held own.at; is = own.is }, t.1);
+            once = kn.records.once;
             reached = kn.records.reached;
             replaced = λ a h c q l. ⊎_elim (λ old. kn.records.replaced a h c old l) (λ new. kw.records.replaced new.0 h c new.2 l) (append_at v.held w.held h a q);
           };

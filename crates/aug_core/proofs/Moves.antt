@@ -1,6 +1,5 @@
 -- What a step of one seat carries over: the words of its own lanes change, or one word of a leaf or a node, and the book stays or grows.
 use Rattle.std.proofs.Common.{◌≡◌, ℕ, ◌+◌, ◌^◌, ◌<◌, ◌≤◌, ◌≢◌, ◌⊎◌, inl, inr, List, [], ◌∷◌, ◌++◌, length, get_or, set, refl, sym, ap, ◌∙◌, subst, ⊎_elim, false, arith, length-set, get_or-set_other, get_or-set_same, Some}
-use Rattle.std.specs.Prelude.{Option}
 use Rattle.std.proofs.lemmas.Bool.{cases_eq}
 use Rattle.std.proofs.lemmas.List.{set-get_or}
 use mathlib.Core.Option.{some}
@@ -158,7 +157,7 @@ module _ (face : ℕ → ℕ → List (ℕ × ℕ) → List ℕ) (o : Opening) (
     }
 
     -- a view that was shown nothing of it
-    pub knows_keeping : (held : List Held) (reserved : Option Reserved) (reached : ℕ) (steps : List StepTaken) → ((a : ℕ) (h : Held) → get_elem? held a ≡ some h → HoldsLane o.shape after fate' h)
+    pub knows_keeping : (held : List Held) (reserved : List Reserved) (reached : ℕ) (steps : List StepTaken) → ((a : ℕ) (h : Held) → get_elem? held a ≡ some h → HoldsLane o.shape after fate' h)
         → KeepsView o.shape after fate' gone' book' record v { held = held; reserved = reserved; reached = reached; steps = steps } → Knows o after fate' gone' book' record v { held = held; reserved = reserved; reached = reached; steps = steps }
     knows_keeping held reserved reached steps holds keeps = let kn = r.each_view id v at in record {
       shaped = kn.shaped;

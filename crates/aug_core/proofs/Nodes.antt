@@ -1,6 +1,6 @@
 -- A node's word goes to a record of the seat's own lane, which is its newest entry then.
-use Rattle.std.proofs.Common.{◌⊎◌, inl, inr, ◌%◌, Some, ◌-◌, true, false, Bool, not, if◌then◌else◌, ◌≡◌, ◌≢◌, ℕ, ◌+◌, ◌^◌, ◌<◌, ◌≤◌, List, [], ◌∷◌, ◌++◌, length, get_or, set, eqb, eq-eqb, ne_eqb, sym, refl, ap, ◌∙◌, subst, ⊎_elim, arith}
-use Rattle.std.specs.Prelude.{Option, unwrap_or, option_map, ◌==◌}
+use Rattle.std.proofs.Common.{◌⊎◌, inl, inr, ◌%◌, ◌-◌, true, false, Bool, not, if◌then◌else◌, ◌≡◌, ◌≢◌, ℕ, ◌+◌, ◌^◌, ◌<◌, ◌≤◌, List, [], ◌∷◌, ◌++◌, length, get_or, set, eqb, eq-eqb, ne_eqb, sym, refl, ap, ◌∙◌, subst, ⊎_elim, arith}
+use Rattle.std.specs.Prelude.{◌==◌}
 use Rattle.std.proofs.lemmas.Bool.{cases_lt}
 use mathlib.Core.Bool.{true≢false}
 use mathlib.Core.Option.{none, some}
@@ -13,9 +13,9 @@ use Rattle.aug_core.specs.Addresses.{place_count, IsInner, left_of, right_of}
 use Rattle.aug_core.specs.Book.{Book, history_of, At, IsNewest, IsLastNamed, ArePrefixes, word_of_node, FloorsCover, IsFresh, NamesOnce, SerialsFit, IsBook}
 use Rattle.aug_core.specs.Opening.{Opening}
 use Rattle.aug_core.specs.Rule.{NamesNewest, HoldsLane, Kept}
-use Rattle.aug_core.specs.Records.{Lists, Fate, standing, owned_by, StandsAs, HasWords, IsThere, IsClosed, floor_of, Waits, IsReplaced, KeepsView, OwnsRecord}
+use Rattle.aug_core.specs.Records.{Lists, Fate, standing, owned_by, StandsAs, HasWords, IsThere, IsClosed, floor_of, lane_of, Waits, IsReplaced, KeepsView, OwnsRecord}
 use Rattle.aug_core.specs.Kinds.{try_node}
-use Rattle.aug_core.specs.Effects.{Sat, HoldsOnly, Owns, MayStore, reserved_by, IsBornBy, on_first, last_replaced, ReplacesOther, publishing_from, seeing, publishing, IsFilled, TriesNode, tried_node}
+use Rattle.aug_core.specs.Effects.{Sat, HoldsOnly, Owns, MayStore, IsBornBy, on_first, last_replaced, ReplacesOther, publishing_from, seeing, publishing, IsFilled, TriesNode, tried_node}
 use Rattle.aug_core.specs.inside.EraSteps.{WithEra}
 use Rattle.aug_core.specs.inside.LaneStates.{HasTakenLane}
 use Rattle.aug_core.specs.declared.step.StepTaken.{StepTaken}
@@ -38,6 +38,7 @@ use Rattle.aug_core.proofs.Moves.{St, MayMove, moves_on, holds_on, knows_seeing,
 use Rattle.aug_core.proofs.Stores.{alone, one_lane, is_taken}
 use Rattle.aug_core.proofs.States.{Did}
 use Rattle.aug_core.proofs.Fits.{fits_book, named_once, sees_after}
+use Rattle.aug_core.proofs.Clients.{covers_now}
 use Rattle.aug_core.proofs.Loads.{guarded, sees_it}
 use Rattle.aug_core.proofs.PrefixLemmas.{book_trans, entry_stays}
 use Rattle.aug_core.proofs.ReaderCounts.{still_works}
@@ -60,7 +61,7 @@ module _ (face : ℕ → ℕ → List (ℕ × ℕ) → List ℕ) (o : Opening) w
     know = (r.each_view id v at).saw
 
     abbrev HeldFrom : ℕ → ℕ → Type 0
-    HeldFrom p i = (o.shape.reservations ≡ 0) ⊎ ((x : Reserved) × (v.reserved ≡ Some x) × (floor_of x p ≤ i))
+    HeldFrom p i = (o.shape.reservations ≡ 0) ⊎ ((x : Reserved) × Lists v.reserved x × (floor_of x p ≤ i) × (birth ≤ x.era))
 
     by_used : {birth era : ℕ} → 0 < o.shape.reservations → IsBornBy v birth era → birth ≤ era
     by_used used le = ⊎_elim (λ off. let same = ap (λ (z : Shape). z.reservations) shaped in absurd (omega arith)) (λ le. le) le
@@ -87,8 +88,8 @@ module _ (face : ℕ → ℕ → List (ℕ × ℕ) → List ℕ) (o : Opening) w
       one_inner inner' = let n = one_name face o.shape r.book r.tree.is_book p found.index i found.entry e inner' found.at at_i found.named in
           let same : found.index ≡ i = ⊎_elim (λ off. (named_once o.shape s.words r.fate r.gone r.book r.records off).once p found.index i found.entry e inner' found.at at_i n.0)
           (λ x. let t = (r.each_view id v at).records.reserved x.0 x.1 in let used : 0 < o.shape.reservations = (let low = t.1.exists in omega arith) in let le = born_by used in let one = n.1 used in
-          let era : reserved_by v ≡ x.0.era = ap (λ (z : Option Reserved). unwrap_or (option_map (λ (y : Reserved). y.era) z) 0) x.1 in let low = x.2 in let later = up in let most = by_used used c.born in
-          t.1.once p found.index i found.entry e inner' found.at at_i (omega arith) (omega arith) (omega arith) low n.0) from in
+          let low = x.2 in let later = up in let most = x.3 in
+          (r.each_view id v at).records.once x.0 x.0 x.1 x.1 p found.index i found.entry e inner' found.at at_i (omega arith) (omega arith) (omega arith) low n.0) from in
           one_entry r.book p i found.entry e (subst (λ (z : ℕ). At r.book p z found.entry) same found.at) at_i
 
       last_child : LastChild p i e
@@ -126,7 +127,7 @@ module _ (face : ℕ → ℕ → List (ℕ × ℕ) → List ℕ) (o : Opening) w
     -- what was loaded of a child is held by what the view reserved, if that matters
     held_below : (p i : ℕ) → ((x : Reserved) → floor_of x q ≤ c.is_loaded.index → IsClosed o.shape r.book (floor_of x) → floor_of x p ≤ i) → HeldFrom p i
     held_below p i below = ⊎_elim (λ off. inl (ap (λ (z : Shape). z.reservations) (sym shaped) ∙ off))
-        (λ x. inr (x.0, x.1, below x.0 x.3 (((r.each_view id v at).records.reserved x.0 x.1).1).closed)) c.covers
+        (λ x. inr (x.0, x.1, below x.0 x.3 (((r.each_view id v at).records.reserved x.0 x.1).1).closed, x.4)) c.covers
 
     from_at : At r.book q c.is_loaded.index c.is_loaded.from
     from_at = entry_stays know q c.is_loaded.index c.is_loaded.from c.is_loaded.loaded
@@ -180,7 +181,7 @@ module _ (face : ℕ → ℕ → List (ℕ × ℕ) → List ℕ) (o : Opening) w
 
     -- what was loaded of the node the table has as it was seen
     from_there : HasWords o.shape s.words c.is_loaded.from.number c.is_loaded.from.words × (StandsAs o.shape (r.fate c.is_loaded.from.number) q c.is_loaded.index ⊎ ((x : Reserved) × (x.slot < o.shape.reservations) × Waits r.fate x c.is_loaded.from.number))
-    from_there = guarded face o s r v (r.each_view id v at) shaped q c.is_loaded.index c.is_loaded.from record { inner = subst (λ (z : Shape). IsInner z q) (sym shaped) inner; at = c.is_loaded.loaded; covers = c.covers }
+    from_there = guarded face o s r v (r.each_view id v at) shaped q c.is_loaded.index c.is_loaded.from record { inner = subst (λ (z : Shape). IsInner z q) (sym shaped) inner; at = c.is_loaded.loaded; covers = covers_now v q c.is_loaded.index c.is_loaded.from birth c.covers }
 
     top_there : IsThere o.shape s.words r.fate q node_newest.index node_newest.entry
     top_there = let low = r.records.newest q inner.inside in let long = node_newest.newest.last in r.records.there q node_newest.index node_newest.entry inner node_newest.newest.at (omega arith)
@@ -285,10 +286,11 @@ module _ (face : ℕ → ℕ → List (ℕ × ℕ) → List ℕ) (o : Opening) w
     keeps_view : get_or s.words q 0 ≡ old → (steps : List StepTaken) → KeepsView o.shape words' fate' r.gone longer_book record v { seen = longer_book; held = lane' ∷ []; steps = steps }
     keeps_view hit steps = let k = view_on o.shape s.words r.fate r.gone r.book words' fate' longer_book (tree_leaves face o s r id v at q inner.inside entry fate' h.lane c.own.life free (published hit)) (tree_slots face o s r id v at q inner.inside entry fate' h.lane c.own.life free (published hit)) v (r.each_view id v at).records in record {
       reserved = λ x e. let t = k.reserved x e in (
-        holds_lane_on v record v { seen = longer_book; held = lane' ∷ []; steps = steps } x.slot
+        holds_lane_on v record v { seen = longer_book; held = lane' ∷ []; steps = steps } (lane_of o.shape x.slot)
             (λ a g p. let u = alone h g a (subst (λ (z : List Held). get_elem? z a ≡ some g) only p) in (lane', subst (λ (z : ℕ). get_elem? (lane' ∷ []) z ≡ some lane') (sym u.0) refl, ap (λ (z : Held). z.lane) (sym u.1))) t.0,
         t.1,
       );
+      once = k.once;
       reached = k.reached;
       replaced = λ a g x p l. let u = alone lane' g a p in subst (λ (z : ℕ). IsReplaced o.shape words' fate' longer_book z x) (ap (λ (z : Held). z.lane) u.1)
           (⊎_elim (λ was. k.replaced 0 h x held (l.0, was)) (λ new. subst (IsReplaced o.shape words' fate' longer_book h.lane) new.1 (replaced_now hit))

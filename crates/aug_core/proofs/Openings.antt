@@ -234,7 +234,7 @@ module _ (face : ℕ → ℕ → List (ℕ × ℕ) → List ℕ) (o : Opening) w
     lent = lent;
     words = known;
     whole = whole;
-    reserved = None;
+    reserved = [];
     reached = 0;
     began = no_beginning;
     steps = [];

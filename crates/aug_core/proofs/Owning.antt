@@ -1,5 +1,5 @@
 -- The records that a lane owns, where their list changes or one of their words does.
-use Rattle.std.proofs.Common.{◌≡◌, ◌≢◌, ℕ, zero, suc, ◌+◌, ◌-◌, ◌<◌, Bool, true, false, cond, if◌then◌else◌, lt-ltb, le-ltb, List, [], ◌∷◌, length, map, filter, get_or, set, length-set, get_or-set_same, get_or-set_other, sym, refl, ap, ◌∙◌, subst, ⊎_elim, arith}
+use Rattle.std.proofs.Common.{◌≡◌, ◌≢◌, ◌⊎◌, inl, inr, ℕ, zero, suc, ◌+◌, ◌-◌, ◌<◌, Bool, true, false, cond, if◌then◌else◌, lt-ltb, le-ltb, List, [], ◌∷◌, length, map, filter, get_or, set, length-set, get_or-set_same, get_or-set_other, sym, refl, ap, ◌∙◌, subst, ⊎_elim, arith}
 use Rattle.std.specs.List.{range_with_len}
 use Rattle.std.proofs.lemmas.Bool.{cases_eq, cases_lt}
 use mathlib.Core.Option.{some, some-injective, some-ne-none}
@@ -11,10 +11,18 @@ use Rattle.aug_core.specs.Effects.{with_word}
 use Rattle.aug_core.specs.declared.view.Owned.{Owned}
 
 module _ {A : Type 0} where
+  first_at : (x : A) (l : List A) (y : A) (i : ℕ) → get_elem? (x ∷ l) i ≡ some y → (y ≡ x) ⊎ Lists l y
+  first_at x l y zero e = inl (sym (some-injective x y e))
+  first_at x l y (suc i) e = inr (i, e)
+
   at_of_map : {B : Type 0} (f : A → B) (l : List A) (i : ℕ) (y : B) → get_elem? (map f l) i ≡ some y → (x : A) × (get_elem? l i ≡ some x) × (f x ≡ y)
   at_of_map f [] i y e = absurd (some-ne-none y (sym e))
   at_of_map f (x ∷ xs) zero y e = (x, refl, some-injective (f x) y e)
   at_of_map f (x ∷ xs) (suc i) y e = at_of_map f xs i y e
+
+  -- what stands in a list is its first element or stands in the rest
+  pub listed_first : (x : A) (l : List A) (y : A) → Lists (x ∷ l) y → (y ≡ x) ⊎ Lists l y
+  listed_first x l y t = first_at x l y t.0 t.1
 
   -- what stands in a mapped list is what became of an element, and each element became one
   pub listed_map : {B : Type 0} (f : A → B) (l : List A) (y : B) → Lists (map f l) y → (x : A) × Lists l x × (f x ≡ y)

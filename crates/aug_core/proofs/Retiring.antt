@@ -12,7 +12,7 @@ use Rattle.aug_core.specs.Places.{Shape, record_start, record_count, record_word
 use Rattle.aug_core.specs.Addresses.{place_count, IsInner, left_of, right_of}
 use Rattle.aug_core.specs.Book.{history_of, At}
 use Rattle.aug_core.specs.Opening.{Opening}
-use Rattle.aug_core.specs.Records.{Lists, Fate, standing, owned_by, StandsAs, IsThere, Waits, Protects, IsReplaced, KeepsView, KeepsRecords, OwnsRecord}
+use Rattle.aug_core.specs.Records.{Lists, Fate, standing, owned_by, StandsAs, IsThere, Waits, Protects, lane_of, IsReplaced, KeepsView, KeepsRecords, OwnsRecord}
 use Rattle.aug_core.specs.Rule.{HoldsLane, Kept}
 use Rattle.aug_core.specs.Kinds.{load_era}
 use Rattle.aug_core.specs.Effects.{Sat, HoldsOnly, on_first}
@@ -147,7 +147,6 @@ module _ (face : ℕ → ℕ → List (ℕ × ℕ) → List ℕ) (o : Opening) w
       not_late = p.not_late;
       in_use = λ q. let low = p.in_use q in omega arith;
       closed = p.closed;
-      once = p.once;
       holds = λ q i e inner at' young low. let t = p.holds q i e inner at' young low in (
         t.0,
         ⊎_elim
@@ -165,6 +164,7 @@ module _ (face : ℕ → ℕ → List (ℕ × ℕ) → List ℕ) (o : Opening) w
     others_view : (j : ℕ) (u : SeatView) → j ≢ id → get_elem? s.views j ≡ some u → KeepsView o.shape s.words r.fate r.gone r.book u → KeepsView o.shape s.words fate' gone' r.book u
     others_view j u ne p k = record {
       reserved = λ x e. let t = k.reserved x e in (t.0, protects_on x t.1);
+      once = k.once;
       reached = k.reached;
       replaced = λ a g d q l. let m = k.replaced a g d q l in record {
         inner = m.inner;
@@ -234,10 +234,11 @@ module _ (face : ℕ → ℕ → List (ℕ × ℕ) → List ℕ) (o : Opening) w
     view' : KeepsView o.shape s.words fate' gone' r.book after
     view' = let k = (r.each_view id v at).records in record {
       reserved = λ x e. let t = k.reserved x e in (
-        holds_lane_on v after x.slot
+        holds_lane_on v after (lane_of o.shape x.slot)
             (λ a g p. let u = alone h g a (subst (λ (z : List Held). get_elem? z a ≡ some g) only p) in (lane', subst (λ (z : ℕ). get_elem? (lane' ∷ []) z ≡ some lane') (sym u.0) refl, ap (λ (z : Held). z.lane) (sym u.1))) t.0,
         protects_on x t.1,
       );
+      once = k.once;
       reached = omega arith;
       replaced = λ a g c p l. absurd (some-ne-none c (sym (subst (λ (z : Held). get_elem? z.replaced l.0 ≡ some c) (sym (alone lane' g a p).1) l.1)));
     }

@@ -28,7 +28,7 @@ module _ (face : ℕ → ℕ → List (ℕ × ℕ) → List ℕ) (o : Opening) (
   fresh = new_lane o.shape v.words n
 
   abbrev newer : SeatView
-  newer = record { live = v.live; era = v.era; past = v.past; shape = v.shape; base = v.base; members = v.members; seen = v.seen; also = []; told = None; held = fresh ∷ []; spare = None; reads = false; lent = []; words = []; whole = []; reserved = None; reached = v.reached; began = no_beginning; steps = [] }
+  newer = record { live = v.live; era = v.era; past = v.past; shape = v.shape; base = v.base; members = v.members; seen = v.seen; also = []; told = None; held = fresh ∷ []; spare = None; reads = false; lent = []; words = []; whole = []; reserved = []; reached = v.reached; began = no_beginning; steps = [] }
 
   abbrev views : List SeatView
   views = set s.views id (handing_out v) ++ newer ∷ []
@@ -144,6 +144,6 @@ module _ (face : ℕ → ℕ → List (ℕ × ℕ) → List ℕ) (o : Opening) w
   pub splits_seat : (id n : ℕ) (v : SeatView) → v.live ≡ true → v.spare ≡ Some n → n < v.shape.workers → Splits (Kept face o) id v (handing_out v) (handed_out v)
   splits_seat id n v live spare room s r at =
       let shaped : v.shape ≡ o.shape = (r.each_view id v at).shaped live in
-      subst (λ (z : Held). Kept face o record { words = s.words; homes = s.homes; views = set s.views id (handing_out v) ++ record { live = v.live; era = v.era; past = v.past; shape = v.shape; base = v.base; members = v.members; seen = v.seen; also = []; told = None; held = z ∷ []; spare = None; reads = false; lent = []; words = []; whole = []; reserved = None; reached = v.reached; began = no_beginning; steps = [] } ∷ [] })
+      subst (λ (z : Held). Kept face o record { words = s.words; homes = s.homes; views = set s.views id (handing_out v) ++ record { live = v.live; era = v.era; past = v.past; shape = v.shape; base = v.base; members = v.members; seen = v.seen; also = []; told = None; held = z ∷ []; spare = None; reads = false; lent = []; words = []; whole = []; reserved = []; reached = v.reached; began = no_beginning; steps = [] } ∷ [] })
       (λ i. new_lane (sym shaped i) v.words (unwrap_or (sym spare i) 0))
       (hands_out face o s r id v at live n spare (subst (λ (z : Shape). n < z.workers) shaped room))

@@ -1,15 +1,15 @@
 -- What the steps show that only a table has which uses records again. A seat loads the era, or turns it to the next; it reserves an era that was reached, and
 -- lets go of it; what it replaced becomes its own with the era that it loads once the root shows later entries; and each load of a reservation
 -- passes those of its own records that this one does not hold.
-use Rattle.std.specs.Prelude.{◌≡◌, ℕ, ◌+◌, ◌<◌, ◌≤◌, ◌==◌, Bool, false, nat_lt, nat_le, if◌then◌else◌, [], ◌∷◌, ◌++◌, length, map, slice_index, Some, None}
-use Rattle.std.specs.List.{range_with_len}
+use Rattle.std.specs.Prelude.{◌≡◌, ℕ, ◌+◌, ◌<◌, ◌≤◌, ◌==◌, Bool, false, nat_lt, nat_le, not, if◌then◌else◌, List, [], ◌∷◌, ◌++◌, length, map, slice_index}
+use Rattle.std.specs.List.{filter, range_with_len}
 use Rattle.atomic_table.specs.Table.{Step}
 use Rattle.aug_core.specs.Places.{record_words, reservation_place}
 use Rattle.aug_core.specs.Addresses.{place_count, IsInner, left_of, right_of}
 use Rattle.aug_core.specs.Book.{history_of, At}
 use Rattle.aug_core.specs.Records.{IsClosed, first_era, floor_of, Lists}
 use Rattle.aug_core.specs.Kinds.{load_era, turn_era, load_reservation, store_reservation}
-use Rattle.aug_core.specs.Effects.{Sat, on_first, own_lane}
+use Rattle.aug_core.specs.Effects.{Sat, on_first}
 use Rattle.aug_core.specs.declared.step.StepTaken.{StepTaken}
 use Rattle.aug_core.specs.declared.view.Entry.{Entry}
 use Rattle.aug_core.specs.declared.view.Held.{Held}
@@ -31,27 +31,28 @@ loaded_era st m r m' = (m'.1 ≡ []) × (m'.0 ≡ reaching m.0 r (load_era st.wo
 abbrev pub turned_era : Step (Unit {0}) → Sat → ℕ → Sat → Type 0
 turned_era st m r m' = (m'.1 ≡ []) × (m'.0 ≡ reaching m.0 (if r == st.first then r + 1 else r) (turn_era st.word st.first r)) × (m.0.reached ≤ r)
 
--- the word of the reservation of the view's lane
-abbrev pub own_reservation : SeatView → ℕ
-own_reservation v = reservation_place v.shape (own_lane v.held)
+-- the reservations but that with this place among all
+abbrev pub but_slot : ℕ → List Reserved → List Reserved
+but_slot slot xs = filter (λ x. not (x.slot == slot)) xs
 
--- the view reserved an era: it holds what was in use at that moment, as far as it was made by then, and what comes to be named in place of that
-pub record Reserves (v : SeatView) (place era : ℕ) (w : SeatView) : Type 0 where
+-- the view reserved an era: it holds what was in use at that moment, as far as it was made by then, and what comes to be named in place of that. Its other
+-- reservations stay
+pub record Reserves (v : SeatView) (slot era : ℕ) (w : SeatView) : Type 0 where
   pub now : Reserved
-  pub stepped : w ≡ record v { reserved = Some now; steps = v.steps ++ store_reservation place era ∷ [] }
-  pub slot : now.slot ≡ own_lane v.held
+  pub stepped : w ≡ record v { reserved = now ∷ but_slot slot v.reserved; steps = v.steps ++ store_reservation (reservation_place v.shape slot) era ∷ [] }
+  pub slot_is : now.slot ≡ slot
   pub era_is : now.era ≡ era
   pub closed : IsClosed v.shape v.seen (floor_of now)
 
 abbrev pub reserved_era : Step (Unit {0}) → Sat → ℕ → Sat → Type 0
-reserved_era st m r m' = (m'.1 ≡ []) × Reserves m.0 st.word st.first m'.0
+reserved_era st m r m' = (slot : ℕ) → st.word ≡ reservation_place m.0.shape slot → (m'.1 ≡ []) × Reserves m.0 slot st.first m'.0
 
 -- and let go of it: 0 is no era
 abbrev pub releasing : SeatView → ℕ → SeatView
-releasing v place = record v { reserved = None; steps = v.steps ++ store_reservation place 0 ∷ [] }
+releasing v slot = record v { reserved = but_slot slot v.reserved; steps = v.steps ++ store_reservation (reservation_place v.shape slot) 0 ∷ [] }
 
 abbrev pub released_era : Step (Unit {0}) → Sat → ℕ → Sat → Type 0
-released_era st m r m' = (m'.1 ≡ []) × (m'.0 ≡ releasing m.0 st.word)
+released_era st m r m' = (slot : ℕ) → st.word ≡ reservation_place m.0.shape slot → (m'.1 ≡ []) × (m'.0 ≡ releasing m.0 slot)
 
 -- the view has seen the root show, for each place, an entry from these indices on, and all that was replaced from its lane is before them
 pub record ShowsLater (v : SeatView) (lane : Held) : Type 0 where

@@ -3,7 +3,7 @@
 -- entries that were in use when it made it, all that were made by then. A record leaves use in two steps. Who replaced its entry owns it from when the
 -- root shows a later one, with the era that is then found; and writes it once each reservation was found to hold no era of its life. In a table that uses
 -- no record again nothing is gone, and there are no reservations.
-use Rattle.std.specs.Prelude.{◌≡◌, ◌⊎◌, ℕ, ◌+◌, ◌%◌, ◌^◌, ◌<◌, ◌≤◌, List, length, slice_index, Some}
+use Rattle.std.specs.Prelude.{◌≡◌, ◌⊎◌, ℕ, ◌+◌, ◌%◌, ◌^◌, ◌<◌, ◌≤◌, List, length, slice_index}
 use mathlib.Core.Option.{some}
 use lib.ListN.{get_elem?}
 use Rattle.aug_core.specs.Places.{Shape, opening_count, record_start, record_count, record_words, era_place, reservation_place}
@@ -81,8 +81,14 @@ pub record Protects (s : Shape) (words : List ℕ) (fate : ℕ → Fate) (gone :
   pub in_use : (q : ℕ) → floor_of x q ≤ gone q
   pub closed : IsClosed s book (floor_of x)
   pub holds : (q i : ℕ) (e : Entry) → IsInner s q → At book q i e → e.birth ≤ x.era → floor_of x q ≤ i → HasWords s words e.number e.words × (StandsAs s (fate e.number) q i ⊎ Waits fate x e.number)
-  -- and of the entries of a node that it holds no two are of one record
-  pub once : (q i j : ℕ) (e f : Entry) → IsInner s q → At book q i e → At book q j f → e.birth ≤ x.era → f.birth ≤ x.era → floor_of x q ≤ i → floor_of x q ≤ j → e.number ≡ f.number → i ≡ j
+
+-- what two reservations hold of a node is of different records
+abbrev pub HoldsOnce : Shape → Book → Reserved → Reserved → Type 0
+HoldsOnce s book x y = (q i j : ℕ) (e f : Entry) → IsInner s q → At book q i e → At book q j f → e.birth ≤ x.era → f.birth ≤ y.era → floor_of x q ≤ i → floor_of y q ≤ j → e.number ≡ f.number → i ≡ j
+
+-- the lane to which a reservation belongs: each has as many, and the first ones of all lanes come first
+abbrev pub lane_of : Shape → ℕ → ℕ
+lane_of s slot = slot % s.workers
 
 -- the lane is one that the view holds
 pub record IsItsLane (v : SeatView) (lane : ℕ) : Type 0 where
@@ -106,8 +112,10 @@ pub record IsReplaced (s : Shape) (words : List ℕ) (fate : ℕ → Fate) (book
 
 -- what a view can count on
 pub record KeepsView (s : Shape) (words : List ℕ) (fate : ℕ → Fate) (gone : ℕ → ℕ) (book : Book) (v : SeatView) : Type 0 where
-  -- if it reserved something, it holds the lane whose reservation it is
-  pub reserved : (x : Reserved) → v.reserved ≡ Some x → IsItsLane v x.slot × Protects s words fate gone book x
+  -- what it reserved is of a lane that it holds
+  pub reserved : (x : Reserved) → Lists v.reserved x → IsItsLane v (lane_of s x.slot) × Protects s words fate gone book x
+  -- and of the entries of a node that it holds no two are of one record
+  pub once : (x y : Reserved) → Lists v.reserved x → Lists v.reserved y → HoldsOnce s book x y
   -- the era that it knows was reached
   pub reached : v.reached ≤ slice_index words (era_place s)
   -- the entries that were replaced from its lanes stand

@@ -35,7 +35,7 @@ renewing v whole = record v {
   spare = None;
   reads = false;
   whole = whole;
-  reserved = None;
+  reserved = [];
   reached = 0;
   began = no_beginning;
   steps = [];
@@ -105,7 +105,7 @@ module _ (face : ℕ → ℕ → List (ℕ × ℕ) → List ℕ) where
     lent = v.lent;
     words = table_part base (word_count v.shape) v.whole;
     whole = v.whole;
-    reserved = None;
+    reserved = [];
     reached = 0;
     began = no_beginning;
     steps = [];

@@ -112,4 +112,4 @@ no_beginning = record { seen = []; steps = []; changes = [] }
 
 -- the view of the first seat, which hands all lanes out
 abbrev pub newcomer : (ℕ → ℕ → List (ℕ × ℕ) → List ℕ) → TableKey → SeatView
-newcomer face k = record { live = true; era = 0; past = []; shape = k.opening.shape; base = 0; members = k.opening.members; seen = opening_book face k.opening; also = []; told = None; held = []; spare = Some 0; reads = false; lent = []; words = []; reserved = None; reached = 0; whole = replicate k.words 0; began = no_beginning; steps = [] }
+newcomer face k = record { live = true; era = 0; past = []; shape = k.opening.shape; base = 0; members = k.opening.members; seen = opening_book face k.opening; also = []; told = None; held = []; spare = Some 0; reads = false; lent = []; words = []; reserved = []; reached = 0; whole = replicate k.words 0; began = no_beginning; steps = [] }

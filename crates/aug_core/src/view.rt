@@ -88,7 +88,7 @@ pub struct Replaced {
 
 /// What a seat reserved: while it stands, no record is written that the seat may read.
 pub struct Reserved {
-    /// The place of the reservation among all: the lane of the seat.
+    /// The place of the reservation among all, one of those of the seat's lane.
     pub slot: u64,
     /// The era that was reserved.
     pub era: u64,
@@ -174,7 +174,7 @@ pub struct SeatView {
     /// The words of the whole table, as they are now but for those of the part at work, while the seat hands lanes out.
     pub whole: LinkedList<u64>,
     /// What it reserved, in a table that uses records again.
-    pub reserved: Option<Reserved>,
+    pub reserved: LinkedList<Reserved>,
     /// An era that the table has reached.
     pub reached: u64,
     /// The beginning of the update that the seat is in, or was in last.

@@ -93,9 +93,9 @@ none_left [] e = refl
 none_left (x ∷ xs) e = absurd (omega (arith, e))
 
 pub all_of_round : (crew : CrewFacts) (ended : EndedFacts) → Ends crew ended → ended.missing ≡ 0 → AreChangesOf crew.round.bits (crew_chain crew).now crew.knows.accepted
-all_of_round crew ended ends none = let t = ends.tallies in
-    let same : crew.knows.accepted ++ flat_map (λ list. list) t.lost ≡ crew.knows.accepted =
-    ap (λ (z : List (List Change)). crew.knows.accepted ++ flat_map (λ list. list) z) (none_left t.lost (t.one_each ∙ none)) ∙ append-nil crew.knows.accepted in record {
+all_of_round crew ended ends none = let t = ends.tallies.all in
+    let same : crew.knows.accepted ++ flat_map (λ list. list) t.lists ≡ crew.knows.accepted =
+    ap (λ (z : List (List Change)). crew.knows.accepted ++ flat_map (λ list. list) z) (none_left t.lists (t.one_each ∙ none)) ∙ append-nil crew.knows.accepted in record {
       tally = subst (Tallies (opening_cut crew.round.bits crew.round.members) (last_cut crew.knows.history)) same t.together;
       weigh = subst (λ (z : List Change). All (Weighs (opening_cut crew.round.bits crew.round.members) z) crew.knows.history) same t.weigh;
     }

@@ -1,6 +1,7 @@
 -- What a batch of updates comes to, as one record, from the pass as it was and from what its words' calls say.
-use Rattle.std.proofs.Common.{◌≡◌, Option, Some, ℕ, suc, ◌+◌, ◌-◌, ◌*◌, ◌^◌, ◌<◌, ◌≤◌, List, [], ◌∷◌, ◌++◌, All, length, get_or, length-append, append_assoc, sym, refl, ap, ◌∙◌, subst, arith}
+use Rattle.std.proofs.Common.{◌≡◌, ◌==◌, Bool, if◌then◌else◌, inl, inr, Option, Some, ℕ, suc, ◌+◌, ◌-◌, ◌*◌, ◌^◌, ◌<◌, ◌≤◌, List, [], ◌∷◌, ◌++◌, All, length, get_or, length-append, append_assoc, sym, refl, ap, ◌∙◌, subst, arith}
 use Rattle.std.proofs.Math.Nat.{mul-add}
+use Rattle.std.proofs.lemmas.Bool.{cases_Bool}
 use Rattle.std.proofs.lemmas.List.{append-nil}
 use Rattle.std.proofs.lemmas.List.Elements.{All-nil, All-append}
 use Rattle.std.proofs.lemmas.Nat.{mul-le}
@@ -26,15 +27,19 @@ use Rattle.aug_trie.specs.History.{last_cut}
 use Rattle.aug_trie.specs.Knowledge.{StandsIn}
 use Rattle.aug_trie.specs.Node.{Keeps}
 use Rattle.aug_trie.specs.Pass.{PassFacts, GoesOn, most_update_steps, most_rise_steps}
-use Rattle.aug_trie.specs.Updates.{ComesTo}
+use Rattle.aug_trie.specs.LastingBatches.{DoesAlone}
+use Rattle.aug_trie.specs.Updates.{ComesTo, Tells}
 use Rattle.aug_trie.specs.declared.rounds.account.Account.{Account}
 use Rattle.aug_model.specs.declared.outcome.Outcome.{Outcome}
+use Rattle.aug_model.specs.declared.outcome.Outcome.TheVariants.{Refused}
 use Rattle.aug_trie.specs.declared.updates.request.Request.{Request}
+use Rattle.aug_trie.specs.declared.updates.told.LeafUpdate.{LeafUpdate}
 use Rattle.aug_trie.specs.inside.Batching.{LeftPart, LeftAll, RaisedAll, IsAccountAfter}
-use Rattle.aug_trie.specs.inside.Climbing.{CameBy, Settled}
+use Rattle.aug_trie.specs.inside.Climbing.{CameBy, ChangesLeaf, Settled, told_by}
+use Rattle.aug_trie.specs.inside.LastingRuns.{MadeBetween}
 use Rattle.aug_trie.specs.inside.Weights.{WeighsAt}
 use Rattle.aug_trie.specs.LeafWords.{serial_in_word, weight_in_word}
-use Rattle.aug_trie.specs.Requests.{in_the_way, changes_by}
+use Rattle.aug_trie.specs.Requests.{in_the_way, changes_by, outcome_by, word_left}
 use Rattle.aug_core.specs.Cuts.{serial_of}
 use Rattle.aug_trie.specs.inside.Counted.{HasCounts}
 use Rattle.aug_trie.specs.inside.Goes.{Goes, HasLeaves, HasRoom}
@@ -43,7 +48,7 @@ use Rattle.aug_trie.specs.inside.PassState.{pass_facts, known_in, IsPass, KeepsA
 use Rattle.aug_trie.proofs.Accepting.{comes_to, knowledge_on, shown_number, stayed_by, updated_knowledge}
 use Rattle.aug_trie.proofs.Going.{goes_after, room_on, room_within}
 use Rattle.aug_trie.proofs.LeavingAll.{steps_in, made_in}
-use Rattle.aug_trie.proofs.Passing.{pass_told, pass_on, updates_on, weighed_by, stored_by}
+use Rattle.aug_trie.proofs.Passing.{pass_told, pass_on, updates_on, tells_by, weighed_by, stored_by}
 use Rattle.aug_trie.proofs.Raising.{newest_later}
 use Rattle.aug_trie.proofs.Trees.{keeps_on}
 use Rattle.aug_trie.proofs.WholeWords.{goes_whole}
@@ -72,40 +77,87 @@ module _ (f : ℕ → ℕ → List (ℕ × ℕ) → List ℕ) where
   }
 
   -- one update of a batch whose leaf is shown in the end
+  module _ {used : ℕ} {gained : List Change} {v z : SeatView} {key : ℕ} {request : Request} {done : Outcome} {own : List Change} (kn : KnowsBook f v) (low : key < 2 ^ v.shape.bits) (whole : Goes f used gained v z) (m : MadeBetween f key request done own v.shape.bits v z) where
+    pub kn_alone : KnowsBook f (blank v)
+    kn_alone = book_as f v refl refl refl kn
+
+    pub came_alone : CameBy f 0 (blank v) key request (made_alone z own) m.left.word done
+    came_alone = m.left.came 0 (blank v) (made_alone z own) (sym m.from_shape) m.from m.to (subst (λ (s : Shape). Lifts s m.after.seen z.seen key s.bits) (sym m.from_shape) m.lifts)
+        (subst (λ (made : List Change). Goes f 0 made (blank v) (made_alone z own)) m.made (goes_alone v z own whole))
+
+    pub settles_alone : Settled f 0 (blank v) key request (made_alone z own) done
+    settles_alone = record { loaded = came_alone.whole; more = m.left.more; refusing = λ stops. m.left.refusing (sym (goes_whole _ _ came_alone.is_whole.last_bits request) ∙ stops); came_to = came_alone.came_to }
+
+    pub own_stands : KnowsRound v → All (StandsIn (last_cut (knows z).history)) own
+    own_stands k = subst (All (StandsIn (last_cut (knows z).history))) (append-nil own)
+        (updated_knowledge f 0 (blank v) key request (made_alone z own) kn_alone low done settles_alone (record { is_history = k.is_history; stands = All-nil (StandsIn (last_cut (knows v).history)) })).stands
+
+    pub own_comes_to : ComesTo request key done (knows (blank v)) (record { history = (knows z).history; accepted = own })
+    own_comes_to = subst (λ (made : List Change). ComesTo request key done (knows (blank v)) (record { history = (knows z).history; accepted = made })) (append-nil own) (comes_to f 0 (blank v) key request (made_alone z own) kn_alone low done settles_alone)
+
+    -- what it would tell
+    abbrev told_alone : LeafUpdate
+    told_alone = record { outcome = done; found = m.left.word; left = word_left request key m.left.word done }
+
+    at_leaf_alone : ChangesLeaf request key told_alone
+    at_leaf_alone = record {
+      stops = λ stopped. (m.left.refusing stopped).0;
+      tries = λ lets. let e = m.left.tried lets in elim (cases_Bool (e.found == m.left.word)) [
+        | inl hit ↦ inl (e.says ∙ ap (λ (b : Bool). if b then outcome_by request m.left.word else Refused) hit)
+        | inr miss ↦ inr (e.says ∙ ap (λ (b : Bool). if b then outcome_by request m.left.word else Refused) miss)
+      ];
+      left = refl;
+    }
+
+    pub does_alone : DoesAlone request key done own (knows v) (knows z)
+    does_alone = record {
+      told = told_by told_alone;
+      says = refl;
+      updates = (
+        own_comes_to,
+        subst (λ (made : List Change). Tells request key (told_by told_alone) (knows (blank v)) (record { history = (knows z).history; accepted = made })) (append-nil own)
+            (tells_by f 0 (blank v) (made_alone z own) key request kn_alone low whole.shaped told_alone at_leaf_alone came_alone),
+      );
+    }
+
+  -- in a round
   module _ {used : ℕ} {gained : List Change} {v w z : SeatView} {key : ℕ} {request : Request} {done : Outcome} {part : BatchPart} (off : v.shape.reservations ≡ 0) (kn : KnowsBook f v) (low : key < 2 ^ v.shape.bits)
       (left : Goes f 0 gained v w) (up : Goes f used [] w z) (p : LeftPart f v w key request done part) (lifts : Lifts w.shape w.seen z.seen key w.shape.bits) where
     whole : Goes f used gained v z
     whole = goes_after f 0 used used gained [] gained v w z (omega arith) (omega arith) (append-nil gained) left up
 
-    kn' : KnowsBook f (blank v)
-    kn' = book_as f v refl refl refl kn
+    -- what its leaf had reached right after its steps there is shown
+    abbrev shown : MadeBetween f key request done part.made v.shape.bits v z
+    shown = record {
+      before = p.before;
+      after = p.after;
+      from = p.from;
+      from_shape = p.from_shape;
+      left = p.left;
+      to = book_trans p.to up.later;
+      lifts = record {
+        lifted = λ n x. (subst (λ (s : Shape). Lifts s w.seen z.seen key s.bits) left.shaped lifts).lifted n
+            (newest_later f v.shape p.after.seen w.seen key 0 n low (omega arith) (subst (λ (s : Shape). IsBook f s w.seen) left.shaped left.knows_table.book) p.to x);
+      };
+      made = p.made;
+    }
 
-    -- what its leaf had reached right after its steps there
-    lifts_own : Lifts p.before.shape p.after.seen z.seen key p.before.shape.bits
-    lifts_own = subst (λ (s : Shape). Lifts s p.after.seen z.seen key s.bits) (sym p.from_shape)
-        (record {
-          lifted = λ n x. (subst (λ (s : Shape). Lifts s w.seen z.seen key s.bits) left.shaped lifts).lifted n
-              (newest_later f v.shape p.after.seen w.seen key 0 n low (omega arith) (subst (λ (s : Shape). IsBook f s w.seen) left.shaped left.knows_table.book) p.to x);
-        })
+    kn' : KnowsBook f (blank v)
+    kn' = kn_alone kn low whole shown
 
     came : CameBy f 0 (blank v) key request (made_alone z part.made) p.left.word done
-    came = p.left.came 0 (blank v) (made_alone z part.made) (sym p.from_shape) p.from (book_trans p.to up.later) lifts_own
-        (subst (λ (made : List Change). Goes f 0 made (blank v) (made_alone z part.made)) p.made (goes_alone v z part.made whole))
+    came = came_alone kn low whole shown
 
-    settles : Settled f 0 (blank v) key request (made_alone z part.made) done
-    settles = record { loaded = came.whole; more = p.left.more; refusing = λ stops. p.left.refusing (sym (goes_whole _ _ came.is_whole.last_bits request) ∙ stops); came_to = came.came_to }
-
-    -- in a round by that very word
+    -- by that very word
     exact : came.whole ≡ p.left.word
     exact = came.is_whole.in_round off
 
     pub part_stands : KnowsRound v → All (StandsIn (last_cut (knows z).history)) part.made
-    part_stands k = subst (All (StandsIn (last_cut (knows z).history))) (append-nil part.made)
-        (updated_knowledge f 0 (blank v) key request (made_alone z part.made) kn' low done settles (record { is_history = k.is_history; stands = All-nil (StandsIn (last_cut (knows v).history)) })).stands
+    part_stands k = own_stands kn low whole shown k
 
     pub does_part : (table : TableId) (before after : ℕ) → DoesPart request key done part (pass_facts (record { table = table; view = v }) before) (pass_facts (record { table = table; view = z }) after)
     does_part table before after = record {
-      comes_to = subst (λ (made : List Change). ComesTo request key done (knows (blank v)) (record { history = (knows z).history; accepted = made })) (append-nil part.made) (comes_to f 0 (blank v) key request (made_alone z part.made) kn' low done settles);
+      comes_to = own_comes_to kn low whole shown;
       found = p.left.word;
       more = p.left.more;
       steps = p.steps;

@@ -38,7 +38,7 @@ use Rattle.aug_trie.specs.Knowledge.{inserts_of, removals_of}
 use Rattle.aug_trie.specs.Crew.{CrewFacts, HandsOut, TakesBack}
 use Rattle.aug_trie.proofs.Counters.{counted_none, is_insertion, is_removal}
 use Rattle.aug_core.proofs.Counting.{hits-append}
-use Rattle.aug_trie.proofs.Handing.{crew_begins, handed_out_is, handed_back_is, crew_after, pass_table, pass_begins, crew_out}
+use Rattle.aug_trie.proofs.Handing.{crew_begins, handed_out_is, handed_back_is, back_knowledge, one_more, crew_after, pass_table, pass_begins, crew_out}
 use Rattle.aug_trie.proofs.Histories.{numbers_long}
 use Rattle.aug_trie.proofs.Keeping.{weighs_later}
 use Rattle.aug_trie.proofs.RoundLemmas.{of_round}
@@ -150,14 +150,27 @@ module _ (face : ℕ → ℕ → List (ℕ × ℕ) → List ℕ) where
             (λ j. (is j, record { table = sym lead_table j; view = sym h.lead_is j }, record { table = sym pass_table j; view = sym h.pass_is j })) out;
       }
 
-  -- a lead that took a pass in and loaded the root
+  -- what contracts see of a lead that took a pass in and loaded the root
+  module _ (old p w : SeatView) (place r : ℕ) (lane : Held) (kv : KnowsBook face old) (kp : KnowsBook face p) (one_shape : p.shape ≡ old.shape) (only : HoldsOnly p lane) (l : LoadsNode face (taking_back old (finishing p place)) (root_place old.shape) r w) where
+    pub took_back_is : KnowsRound old → KnowsRound p → (table other : TableId) (free : Bool) (left : ℕ) → TakesBack (crew_facts (record { table = table; view = old }) free) (crew_facts (record { table = table; view = w }) free) (pass_facts (record { table = other; view = p }) left)
+    took_back_is k known table other free left = let after = back_knowledge face old p w place r lane kv kp one_shape only l k known in let more = one_more face old p w place r lane kv kp one_shape only l in record {
+      knows = handed_back_is face old p w place r lane kv kp one_shape only l;
+      crew_is = let facts : CrewFacts = crew_facts (record { table = table; view = w }) free in
+          λ i. record facts { round = round_of table (l.stepped i); past = past_rounds (l.stepped i).shape (l.stepped i).past; handed = unwrap_or (l.stepped i).spare 0; back = more i };
+      weights = λ key serial weight. weighs_later old.seen w.seen key serial weight l.sees.later;
+      weights_of_pass = λ key serial weight. weighs_later p.seen w.seen key serial weight l.sees.also_later;
+      knowledge = record { is_history = after.is_history; stands = after.stands };
+      loads = (r, ap (λ (z : SeatView). z.steps) l.stepped);
+    }
+
+  -- such a lead, if it was a crew's
   module _ (old p w : SeatView) (place r back inserts removals more less : ℕ) (c : HoldsCrew face old back inserts removals) (lane : Held) (only : HoldsOnly p lane) (one_shape : p.shape ≡ old.shape) (kp : KnowsBook face p) (known : KnowsRound p)
       (counts : HasCounts (changes_of p.held) more less) (l : LoadsNode face (taking_back old (finishing p place)) (root_place old.shape) r w) where
     back_knows : HandedBack (knows old) (knows p) (knows w)
     back_knows = handed_back_is face old p w place r lane c.is_crew.knows_table kp one_shape only l
 
     one_back : length w.held ≡ length old.held + 1
-    one_back = (crew_after face old p w place r lane c.is_crew.knows_table kp one_shape only l c.handed (length old.held) c.is_crew known).took_back
+    one_back = one_more face old p w place r lane c.is_crew.knows_table kp one_shape only l
 
     back_inserts : inserts_of (changes_of w.held) ≡ inserts_of (changes_of old.held) + more
     back_inserts = ap inserts_of back_knows.changes_of_both ∙ hits-append is_insertion (changes_of old.held) (changes_of p.held) ∙ (let e = counts.inserts_are in omega arith)
@@ -178,12 +191,4 @@ module _ (face : ℕ → ℕ → List (ℕ × ℕ) → List ℕ) where
 
     -- what contracts see of it
     pub takes_back_is : (table other : TableId) (free : Bool) (left : ℕ) → TakesBack (crew_facts (record { table = table; view = old }) free) (crew_facts (record { table = table; view = w }) free) (pass_facts (record { table = other; view = p }) left)
-    takes_back_is table other free left = record {
-      knows = back_knows;
-      crew_is = let facts : CrewFacts = crew_facts (record { table = table; view = w }) free in
-          λ i. record facts { round = round_of table (l.stepped i); past = past_rounds (l.stepped i).shape (l.stepped i).past; handed = unwrap_or (l.stepped i).spare 0; back = one_back i };
-      weights = λ key serial weight. weighs_later old.seen w.seen key serial weight l.sees.later;
-      weights_of_pass = λ key serial weight. weighs_later p.seen w.seen key serial weight l.sees.also_later;
-      knowledge = (crew_after face old p w place r lane c.is_crew.knows_table kp one_shape only l c.handed (length old.held) c.is_crew known).knowledge;
-      loads = (r, ap (λ (z : SeatView). z.steps) l.stepped);
-    }
+    takes_back_is table other free left = took_back_is old p w place r lane c.is_crew.knows_table kp one_shape only l c.is_crew.knowledge known table other free left

@@ -59,7 +59,7 @@ changes_few (h ∷ hs) most each = let here = each 0 h refl in let rest = change
 
 module _ (face : ℕ → ℕ → List (ℕ × ℕ) → List ℕ) (v : SeatView) (back inserts removals : ℕ) (c : HoldsCrew face v back inserts removals) (s : St) (r : Kept face (opening_of v) s) (id : ℕ) (at : get_elem? s.views id ≡ some v) where
   all_held : length v.held ≤ c.handed
-  all_held = held_few face s id c.handed v r at c.is_crew.hands_out c.is_crew.keeps_records c.is_crew.knows_table c.is_crew.knowledge.stands
+  all_held = held_few face s id c.handed v r at c.is_crew.hands_out c.is_crew.knows_table c.is_crew.knowledge.stands
 
   pub back_exact : back ≡ length v.held
   back_exact = let few = all_held in let most = c.few in let workers = c.is_crew.knows_table.laid_out.workers.1 in c.back_is ∙ mod-eq_of_lt (omega arith)
@@ -86,13 +86,13 @@ module _ (face : ℕ → ℕ → List (ℕ × ℕ) → List ℕ) (v : SeatView) 
   -- with so many passes missing
   abbrev Accounts : ℕ → Type 0
   Accounts missing = (t : TalliesWithLost v.shape.updates missing (opening_cut v.shape.bits v.members) (last_cut (knows v).history) (knows v).history (changes_of v.held))
-      × IsLedger (record { shape = v.shape; book = v.seen }) v.shape.bits v.members (knows v).history (changes_of v.held ++ flat_map (λ list. list) t.lost)
+      × IsLedger (record { shape = v.shape; book = v.seen }) v.shape.bits v.members (knows v).history (changes_of v.held ++ flat_map (λ list. list) t.all.lists)
 
   pub ends_so : (table : TableId) (free : Bool) (ended : EndedFacts) → ended.bits ≡ v.shape.bits → ended.members ≡ pairs_of_cut (last_cut (knows v).history) → ended.inserts ≡ inserts → ended.removals ≡ removals → ended.missing ≡ c.handed - back → ended.calls ≡ 0
       → Ends (crew_facts (record { table = table; view = v }) free) ended
   ends_so table free ended bits members ins rem miss loads = let spare : unwrap_or v.spare 0 ≡ c.handed = ap (λ (z : Option ℕ). unwrap_or z 0) c.is_crew.hands_out in
       let both : Accounts ended.missing = subst Accounts (ap (λ (z : ℕ). c.handed - z) (sym back_exact) ∙ sym miss)
-      (accounts_at_end face s id c.handed v r at c.is_crew.hands_out c.is_crew.keeps_records c.is_crew.knows_table c.is_crew.knowledge.stands (length v.held) refl risen) in record {
+      (accounts_at_end face s id c.handed v r at c.is_crew.hands_out c.is_crew.knows_table c.is_crew.knowledge.stands c.is_crew.keeps_records risen) in record {
         bits = bits;
         members = members;
         inserts = ins ∙ inserts_exact;

@@ -124,13 +124,17 @@ module _ (face : ℕ → ℕ → List (ℕ × ℕ) → List ℕ) where
           (stands_on face p w (changes_of p.held) kp back_table pass_shape t.sees.also_later k'.stands));
     }
 
+    -- it holds one lane more
+    pub one_more : length w.held ≡ length v.held + 1
+    one_more = let e : length w.held ≡ length v.held + length (on_first (in_state Ended) p.held) = ap (λ (z : SeatView). length z.held) t.stepped ∙ length-append v.held (on_first (in_state Ended) p.held) in
+        let one : length (on_first (in_state Ended) p.held) ≡ 1 = ap (λ (z : List Held). length (on_first (in_state Ended) z)) only in omega arith
+
     -- it took one more back
     pub crew_after : (handed back : ℕ) → IsCrew face v handed back → KnowsRound p → IsCrew face w handed (back + 1)
     crew_after handed back c k = record {
       keeps_records = ap (λ (z : Shape). z.reservations) back_shape ∙ c.keeps_records;
       knows_table = back_table;
       hands_out = ap (λ (z : SeatView). z.spare) t.stepped ∙ c.hands_out;
-      took_back = let e : length w.held ≡ length v.held + length (on_first (in_state Ended) p.held) = ap (λ (z : SeatView). length z.held) t.stepped ∙ length-append v.held (on_first (in_state Ended) p.held) in
-          let one : length (on_first (in_state Ended) p.held) ≡ 1 = ap (λ (z : List Held). length (on_first (in_state Ended) z)) only in let b = c.took_back in omega arith;
+      took_back = let e = one_more in let b = c.took_back in omega arith;
       knowledge = back_knowledge c.knowledge k;
     }

@@ -63,7 +63,7 @@ lasts_with : (s : Shape) (bits workers updates : ℕ) → s ≡ with_reservation
 lasts_with s bits workers updates is = record { is = is ∙ sym (ap (λ (z : Shape). with_reservations z.bits z.workers z.updates (2 ^ z.bits) z.workers) is) }
 
 -- and these numbers of its shape say it all
-same_lasting : (s t : Shape) → IsLasting s → IsLasting t → ◌≡◌ {A = ℕ × ℕ × ℕ} (s.bits, s.workers, s.updates) (t.bits, t.workers, t.updates) → s ≡ t
+pub same_lasting : (s t : Shape) → IsLasting s → IsLasting t → ◌≡◌ {A = ℕ × ℕ × ℕ} (s.bits, s.workers, s.updates) (t.bits, t.workers, t.updates) → s ≡ t
 same_lasting s t l l' same = l.is ∙ ap (λ (z : ℕ × ℕ × ℕ). with_reservations z.0 z.1 z.2 (2 ^ z.0) z.1) same ∙ sym l'.is
 
 -- what knows the round of a table that lasts sits at it
@@ -131,7 +131,6 @@ module _ (face : ℕ → ℕ → List (ℕ × ℕ) → List ℕ) where
           knows_table = kn;
           hands_out = refl;
           few = omega arith;
-          none_back = refl;
           knowledge = record { is_history = is_history face v kn; stands = All-nil (StandsIn (last_cut (knows v).history)) };
         }
 
@@ -179,7 +178,6 @@ module _ (face : ℕ → ℕ → List (ℕ × ℕ) → List ℕ) where
       knows_table = book_as face b refl refl refl (loaded_table face old b r c.knows_table l);
       hands_out = ap (λ (z : SeatView). (handing_out z).spare) l.stepped ∙ ap (λ z. (handing_out record old { spare = z }).spare) c.hands_out;
       few = let e : b.shape.workers ≡ old.shape.workers = ap (λ (z : Shape). z.workers) same_shape in omega arith;
-      none_back = same_held ∙ c.none_back;
       knowledge = record { is_history = k.is_history; stands = k.stands };
     }
 

@@ -1,5 +1,5 @@
 -- What a look at a table that lasts shows, and what a query on it comes to.
-use Rattle.std.proofs.Common.{◌≡◌, inr, ℕ, suc, ◌+◌, ◌-◌, ◌*◌, ◌<◌, ◌≤◌, ◌==◌, eq-eqb, if◌then◌else◌, Option, Some, None, List, [], length, length-append, get_or, refl, sym, ap, ◌∙◌, subst, arith}
+use Rattle.std.proofs.Common.{◌≡◌, inr, ℕ, suc, ◌+◌, ◌-◌, ◌*◌, ◌≤◌, eq-eqb, if◌then◌else◌, Option, Some, None, List, [], length, get_or, refl, sym, ap, ◌∙◌, subst, arith}
 use Rattle.std.specs.Prelude.{unwrap_or, Bool}
 use Rattle.std.specs.Path.{rfind_below}
 use Rattle.aug_monoid.specs.Parts.{Parts}
@@ -7,7 +7,6 @@ use Rattle.aug_core.specs.Addresses.{root_place}
 use Rattle.aug_core.specs.Book.{Book, At, IsNewest}
 use Rattle.aug_core.specs.Addresses.{IsInner}
 use Rattle.aug_core.specs.Counts.{changes_of}
-use Rattle.aug_core.specs.Cuts.{Cut}
 use Rattle.aug_core.specs.Effects.{Covers, KnowsBook}
 use Rattle.aug_core.specs.Faces.{face}
 use Rattle.aug_core.specs.Places.{Shape}
@@ -22,20 +21,19 @@ use Rattle.aug_trie.specs.Updates.{TakesSnapshot}
 use Rattle.aug_trie.specs.inside.Goes.{Looks}
 use Rattle.aug_trie.specs.inside.Knows.{knows, root_numbers}
 use Rattle.aug_trie.specs.inside.LastingState.{IsHeldLook}
-use Rattle.aug_trie.specs.inside.NamedCuts.{HasNamed, cut_named, IsSnapshotOf}
+use Rattle.aug_trie.specs.inside.NamedCuts.{HasNamed, cut_named}
 use Rattle.aug_trie.specs.inside.NodeWords.{HoldsNodeAt}
 use Rattle.aug_trie.specs.declared.queries.snapshot.Snapshot.{Snapshot}
 use Rattle.std.proofs.lemmas.Option.{none-some}
 use Rattle.std.proofs.lemmas.List.{length-map}
 use Rattle.std.proofs.lemmas.List.Elements.{All-nil}
 use Rattle.aug_core.specs.Book.{history_of}
-use Rattle.aug_core.specs.Effects.{reserved_by}
 use Rattle.aug_model.specs.Folds.{summary_of}
 use Rattle.aug_words.specs.Seats.{Known}
-use Rattle.aug_words.proofs.Stocking.{stocks_on}
+use Rattle.aug_words.proofs.Stocking.{stocks_same}
 use Rattle.aug_trie.specs.History.{last_cut}
 use Rattle.aug_trie.specs.Knowledge.{StandsIn}
-use Rattle.aug_trie.specs.LastingTable.{LastingFacts, look_steps}
+use Rattle.aug_trie.specs.LastingTable.{LastingFacts, LoadsRootLast, look_steps}
 use Rattle.aug_trie.specs.Node.{Reads}
 use Rattle.aug_trie.specs.Pass.{GoesOn}
 use Rattle.aug_trie.specs.inside.Goes.{HasLeaves}
@@ -54,7 +52,6 @@ use Rattle.aug_trie.proofs.Accepting.{knowledge_on, knows_on}
 use Rattle.aug_trie.proofs.Histories.{last_is}
 use Rattle.aug_trie.proofs.Snapshots.{number_at, cut_is}
 use Rattle.aug_trie.proofs.SnapshotWalks.{walk_on}
-use Rattle.aug_trie.proofs.Stocked.{reserved_on}
 use Rattle.aug_trie.proofs.Trees.{named_set}
 use Rattle.aug_trie.proofs.Walking.{top_node}
 
@@ -110,12 +107,12 @@ module _ {A B : Type 0} (parts_a : Parts A) (parts_b : Parts B) where
     numbered q i e inner at = let below = kn.book.below q i e inner at in let few = s.numbers in numbered_at f w.shape w.seen q i e.word e s.used kn.book inner at refl (omega arith)
 
     pub look_held : (bits : ℕ) → bits ≡ w.shape.bits → IsHeldLook f w held bits
-    look_held bits same = let x = reserved_on w (root_place w.shape) l.index l.entry s.used l.covers in record {
+    look_held bits same = record {
       named = shown.0;
       walk = record {
         bits_are = same;
         top = record {
-          reads = record { knows_table = kn; closed = inr (x.0, x.1, l.closed x.0 x.1); numbered = numbered };
+          reads = record { knows_table = kn; closed = inr l.closed; numbered = numbered };
           is_tree_set = named_set f w held kn;
           holds = subst (λ (z : ℕ). HoldsNodeAt w (cut_named w.shape w.seen held) z 0 r) (sym same) top;
         };
@@ -160,6 +157,9 @@ module _ {A B : Type 0} (parts_a : Parts A) (parts_b : Parts B) where
     pub has_look : HasNamed w.view.shape w.view.seen (record { number = r })
     has_look = opened.named
 
+    pub look_loads : LoadsRootLast now.pass r (pass_facts w w.view.shape.updates)
+    look_loads = subst (λ (z : LastingFacts). LoadsRootLast z.pass r (pass_facts w w.view.shape.updates)) (now_is f words stock leaves bits look now k holds facts there) (o.loads.before, o.loads.last)
+
     pub look_goes_on : (steps : ℕ) × (steps ≤ look_steps) × GoesOn 0 steps now.pass (pass_facts w w.view.shape.updates)
     look_goes_on = goes_on_by f words stock leaves bits look now k holds facts there w after table o.works known
 
@@ -191,7 +191,7 @@ module _ {A B : Type 0} (parts_a : Parts A) (parts_b : Parts B) where
       known = new.words;
       there = refl;
       is_pass = is_pass_on f words stock leaves bits look now walk.words holds facts there new.words stock d.keeps_rest.same_table look g
-          (stocks_on v w stock stock.era here.stocks (ap (λ (z : SeatView). z.shape) same) (ap (λ (z : SeatView). z.held) same) (here.stocks.era ∙ ap (λ (z : SeatView). reserved_by z) (sym same)))
+          (stocks_same v w stock here.stocks (ap (λ (z : SeatView). z.shape) same) (ap (λ (z : SeatView). z.held) same) (ap (λ (z : SeatView). z.reserved) same))
           here.none here.rests (λ x is. held_on f (n + c + 3 * s + 2 * p) bits v w x l (here.looks x is))
           (knowledge_on f 0 [] v w here.knows_table g (All-nil (StandsIn (last_cut (knows w).history))) here.knowledge);
     }

@@ -1,19 +1,19 @@
 -- What a note of a pass of a table that lasts says, and what such a pass learns of one.
-use Rattle.std.proofs.Common.{◌≡◌, ℕ, ◌*◌, ◌≤◌, Option, Some, None, List, [], ◌∷◌, refl, sym, ap, ◌∙◌, subst}
+use Rattle.std.proofs.Common.{◌≡◌, ℕ, ◌≤◌, Option, Some, None, List, [], refl, sym, ap, ◌∙◌, subst}
 use Rattle.std.proofs.lemmas.List.{append-nil}
 use Rattle.std.proofs.lemmas.Option.{none-some}
 use Rattle.aug_core.specs.Addresses.{root_place}
 use Rattle.aug_core.specs.Counts.{changes_of}
-use Rattle.aug_core.specs.Effects.{KnowsBook, noted, own_lane, reserved_by}
+use Rattle.aug_core.specs.Effects.{KnowsBook, noted, own_lane}
 use Rattle.aug_core.specs.Kinds.{load_node}
 use Rattle.aug_core.specs.declared.view.SeatView.{SeatView}
 use Rattle.aug_words.specs.Notes.{LearnsNote}
 use Rattle.aug_words.specs.Seats.{Known}
-use Rattle.aug_words.specs.Stocks.{StockFacts, Stocks}
-use Rattle.aug_words.proofs.Stocking.{stocks_on}
+use Rattle.aug_words.specs.Stocks.{StockFacts}
+use Rattle.aug_words.proofs.Stocking.{stocks_same}
 use Rattle.aug_trie.specs.LastingTable.{LastingFacts}
 use Rattle.aug_trie.specs.Note.{NoteFacts}
-use Rattle.aug_trie.specs.Pass.{PassFacts, GoesOn, chain_of}
+use Rattle.aug_trie.specs.Pass.{GoesOn, chain_of}
 use Rattle.aug_trie.specs.Passes.{HasLearnt}
 use Rattle.aug_trie.specs.declared.queries.snapshot.Snapshot.{Snapshot}
 use Rattle.aug_trie.specs.inside.Knows.{knows, KnowsRound}
@@ -70,7 +70,7 @@ module _ (f : ℕ → ℕ → List (ℕ × ℕ) → List ℕ) (words : Option Kn
       known = w;
       there = refl;
       is_pass = is_pass_on f words stock leaves bits look now k holds facts there w stock table look works.goes
-          (stocks_on v w.view stock stock.era p.stocks works.goes.shaped (ap (λ (z : SeatView). z.held) l.loaded.stepped) (p.stocks.era ∙ ap (λ (z : SeatView). reserved_by z) (sym l.loaded.stepped)))
+          (stocks_same v w.view stock p.stocks works.goes.shaped (ap (λ (z : SeatView). z.held) l.loaded.stepped) (ap (λ (z : SeatView). z.reserved) l.loaded.stepped))
           p.none p.rests (λ x is. absurd (none-some x (sym (no_look f words stock leaves bits look now k holds facts there closed) ∙ is))) known;
     }
 

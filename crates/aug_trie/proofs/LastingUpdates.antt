@@ -1,16 +1,16 @@
 -- What an update of a table that lasts comes to, from the pass as it was and from what the calls over its words say.
 use Rattle.std.proofs.lemmas.Option.{none-some}
-use Rattle.std.proofs.Common.{◌≡◌, Option, Some, None, false, ℕ, ◌+◌, ◌-◌, ◌*◌, ◌^◌, ◌<◌, ◌≤◌, List, [], ◌++◌, length, length-append, sym, refl, ap, ◌∙◌, subst, arith}
+use Rattle.std.proofs.Common.{◌≡◌, Option, Some, None, ℕ, ◌+◌, ◌-◌, ◌*◌, ◌^◌, ◌<◌, ◌≤◌, List, [], ◌++◌, length, slice_index, length-append, sym, refl, ap, ◌∙◌, subst, arith}
 use Rattle.std.proofs.lemmas.List.Elements.{All-nil}
 use Rattle.aug_core.specs.Places.{Shape}
 use Rattle.aug_core.specs.declared.step.StepTaken.{StepTaken}
 use Rattle.aug_core.specs.declared.view.Change.{Change}
 use Rattle.aug_core.specs.declared.view.SeatView.{SeatView}
 use Rattle.aug_words.specs.Seats.{Known, Store}
-use Rattle.aug_words.specs.Stocks.{StockFacts, Stocks, scan_steps}
+use Rattle.aug_words.specs.Stocks.{StockFacts, Stocks, IsHeld, birth_in_word, scan_steps}
 use Rattle.aug_trie.specs.History.{last_cut}
 use Rattle.aug_trie.specs.Knowledge.{StandsIn}
-use Rattle.aug_trie.specs.LastingTable.{LastingFacts, IsFull, most_lasting_steps}
+use Rattle.aug_trie.specs.LastingTable.{LastingFacts, IsFull, IsShort, most_lasting_steps}
 use Rattle.aug_trie.specs.Pass.{PassFacts, GoesOn}
 use Rattle.aug_trie.specs.Round.{table_of}
 use Rattle.aug_trie.specs.Updates.{ComesTo, Tells}
@@ -62,7 +62,7 @@ module _ (f : ℕ → ℕ → List (ℕ × ℕ) → List ℕ) (words : Option Kn
   pub no_look : now.look ≡ None → look ≡ None
   no_look none = ap (λ (z : LastingFacts). z.look) now_is ∙ none
 
-  slots : (s : Shape) → IsLasting s → s.reservations ≡ s.workers
+  pub slots : (s : Shape) → IsLasting s → s.reservations ≡ s.workers
   slots s l = ap (λ (z : Shape). z.reservations) l.is
 
   -- the pass is one of the table
@@ -111,17 +111,24 @@ module _ (f : ℕ → ℕ → List (ℕ × ℕ) → List ℕ) (words : Option Kn
     pub still_steps : WorksBy f (k.view.shape.reservations + 2) [] k.view w.view → (steps : ℕ) × (steps ≤ most_lasting_steps now.pass.round.bits now.pass.round.workers) × GoesOn 0 steps now.pass (pass_facts w w.view.shape.updates)
     still_steps o = let x = goes_on_by o (known_still o) in (x.0, (let le = x.1 in let e = slots k.view.shape is_pass.lasts in let n = ap (λ (z : LastingFacts). z.pass.round.workers) now_is in omega arith), x.2)
 
-    pub full : after.free < bits → IsScanned f k.view stock w.view after → IsFull now (lasting_facts w after look)
-    full few z = let g = z.works.goes in let e = slots k.view.shape is_pass.lasts in let same_workers : w.view.shape.workers ≡ k.view.shape.workers = ap (λ (y : Shape). y.workers) g.shaped in
-        subst (λ (y : LastingFacts). IsFull y (lasting_facts w after look)) now_is record {
-          few = let b = is_pass.bits_are ∙ ap (λ (y : Shape). y.bits) (sym g.shaped) in omega arith;
-          eras = z.eras;
-          more = z.before;
-          steps = z.scans ∙ (λ i. k.view.steps ++ z.before ++ scan_steps (sym g.shaped i) z.eras ((e ∙ sym same_workers) i));
-          held = λ i past low. let x = z.held i past low in let inside = x.1 in (x.0, omega arith, x.2);
-          same_size = z.size;
-          same_knowledge = λ i. record { history = root_history (g.shaped i) (z.same.0 i); accepted = z.same.1 i };
+    -- too few records were there
+    pub short_by : (steps : List StepTaken) (eras : ℕ → ℕ) → after.free < bits → w.view.shape ≡ k.view.shape → w.view.steps ≡ k.view.steps ++ steps ++ scan_steps k.view.shape eras k.view.shape.reservations
+        → ((i : ℕ) → after.free ≤ i → i < length after.words → (slot : ℕ) × (slot < k.view.shape.reservations) × IsHeld (eras slot) (birth_in_word (slice_index after.words i)) (slice_index after.deaths i)) → IsShort now (lasting_facts w after look)
+    short_by steps eras few shaped scans held = let e = slots k.view.shape is_pass.lasts in let same_workers : w.view.shape.workers ≡ k.view.shape.workers = ap (λ (y : Shape). y.workers) shaped in
+        subst (λ (y : LastingFacts). IsShort y (lasting_facts w after look)) now_is record {
+          few = let b = is_pass.bits_are ∙ ap (λ (y : Shape). y.bits) (sym shaped) in omega arith;
+          eras = eras;
+          more = steps;
+          steps = scans ∙ (λ i. k.view.steps ++ steps ++ scan_steps (sym shaped i) eras ((e ∙ sym same_workers) i));
+          held = λ i past low. let x = held i past low in let inside = x.1 in (x.0, omega arith, x.2);
         }
+
+    pub full : after.free < bits → IsScanned f k.view stock w.view after → IsFull now (lasting_facts w after look)
+    full few z = let g = z.works.goes in record {
+      short = short_by z.before z.eras few g.shaped z.scans z.held;
+      same_size = z.size ∙ ap (λ (y : LastingFacts). length y.stock.words) now_is;
+      same_knowledge = (λ i. record { history = root_history (g.shaped i) (z.same.0 i); accepted = z.same.1 i }) ∙ ap (λ (y : LastingFacts). y.pass.knows) now_is;
+    }
 
     -- an update
     module _ {key : ℕ} {request : Request} {made : LeafUpdate} (low : key < 2 ^ now.pass.round.bits) (o : UpdatedAfter f k.view key request made w.view) where

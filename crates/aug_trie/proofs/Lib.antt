@@ -56,6 +56,9 @@ pub mod Retiring
 pub mod Lifting
 pub mod Stocked
 pub mod LastingUpdates
+pub mod LastingRuns
+pub mod LastingBatches
 pub mod LastingCalls
+pub mod LastingAccounts
 pub mod LastingLooks
 pub mod LastingNotes

@@ -1,30 +1,65 @@
 -- From a leaf to the root over a stock, level by level.
-use Rattle.std.proofs.Common.{◌≡◌, inl, inr, ℕ, suc, ◌+◌, ◌*◌, ◌/◌, ◌^◌, ◌<◌, ◌≤◌, Bool, true, false, if◌then◌else◌, List, [], ◌∷◌, ◌++◌, length, lt-ltb, le-ltb, sym, refl, ap, ◌∙◌, subst, ⊎_elim, arith}
+use Rattle.std.proofs.Common.{◌≡◌, inl, inr, ℕ, suc, ◌+◌, ◌*◌, ◌^◌, ◌<◌, ◌≤◌, Bool, true, false, if◌then◌else◌, List, [], ◌∷◌, ◌++◌, length, lt-ltb, le-ltb, suc-mul, sym, refl, ap, ◌∙◌, subst, ⊎_elim, arith}
 use Rattle.std.proofs.lemmas.Bool.{cases_Bool, cases_lt}
-use Rattle.aug_core.specs.Places.{Shape}
+use Rattle.aug_core.specs.Places.{Shape, record_count}
 use Rattle.aug_core.specs.Addresses.{IsInner, left_of}
 use Rattle.aug_core.specs.Book.{IsBook}
-use Rattle.aug_core.specs.Effects.{HoldsOnly, KnowsBook}
+use Rattle.aug_core.specs.Effects.{HoldsOnly, KnowsBook, with_changes}
 use Rattle.aug_core.specs.inside.Refreshes.{NewestCovers, Refreshed}
-use Rattle.aug_core.specs.inside.Shows.{above}
+use Rattle.aug_core.specs.inside.Shows.{above, Lifts}
+use Rattle.aug_core.specs.declared.view.Change.{Change}
 use Rattle.aug_core.specs.declared.view.Held.{Held}
 use Rattle.aug_core.specs.declared.view.Replaced.{Replaced}
+use Rattle.aug_core.specs.declared.view.Reserved.{Reserved}
 use Rattle.aug_core.specs.declared.view.SeatView.{SeatView}
-use Rattle.aug_core.proofs.PlaceLemmas.{double_pow}
 use Rattle.aug_core.proofs.Refreshing.{covers_second}
-use Rattle.aug_core.proofs.Showing.{above_inner, above_root}
+use Rattle.aug_core.proofs.Showing.{above_inner}
 use Rattle.aug_words.specs.Reservations.{MayRetire}
-use Rattle.aug_words.specs.Stocks.{StockFacts, Stocks}
+use Rattle.aug_words.specs.Stocks.{StockFacts, ReservesAt, Stocks}
+use Rattle.aug_trie.specs.inside.Batching.{GainsOnly}
 use Rattle.aug_trie.specs.inside.Goes.{TookBetween, part_steps, part_words}
 use Rattle.aug_trie.specs.inside.Lasting.{all_records, most_try_steps, ReplacesAt, ShowsBelow, TriedBy, CoveredBy, LiftedTo}
 use Rattle.aug_trie.proofs.Going.{goes_self, goes_more, goes_on, took_none, between_on}
 use Rattle.aug_trie.proofs.Levels.{lifts_none, lifts_level}
+use Rattle.aug_trie.proofs.Raising.{raises_none, raises_on}
 use Rattle.aug_trie.proofs.Retiring.{shows_none, shows_on, shows_all}
 
 -- a list of no length is empty
 empty : (xs : List Replaced) → length xs ≡ 0 → xs ≡ []
 empty [] is = refl
 empty (x ∷ xs) is = absurd (omega arith)
+
+-- a lane that has only gained changes has its stock still
+pub stocks_gained : {v w : SeatView} {k : StockFacts} {gained : List Change} → w.shape ≡ v.shape → GainsOnly gained v w → Stocks v k → Stocks w k
+stocks_gained {v} {w} {k} {gained} shaped only s = record {
+  lane = with_changes gained s.lane;
+  only = only.held s.lane s.only;
+  used = subst (λ (z : Shape). 0 < z.reservations) (sym shaped) s.used;
+  numbers = subst (λ (z : Shape). record_count z ≤ 2 ^ 24) (sym shaped) s.numbers;
+  era = subst (λ (z : List Reserved). ReservesAt z s.lane.lane k.era) (sym only.reserved) s.era;
+  free = λ i low. let may = s.free i low in record {
+    lane = with_changes gained may.lane;
+    only = only.held may.lane may.only;
+    own = may.own;
+    listed = may.listed;
+    numbered = may.numbered;
+    exists = subst (λ (z : Shape). may.own.number < record_count z) (sym shaped) may.exists;
+    long = may.long;
+    scanned = may.scanned ∙ ap (λ (z : Shape). z.reservations) (sym shaped);
+  };
+  replaced = λ i past low. let x = s.replaced i past low in record { entry = x.entry; listed = x.listed; named = x.named; exists = subst (λ (z : Shape). x.entry.number < record_count z) (sym shaped) x.exists };
+  waits = λ i past low. let x = s.waits i past low in record {
+    own = x.own;
+    listed = x.listed;
+    named = x.named;
+    died = x.died;
+    exists = subst (λ (z : Shape). x.own.number < record_count z) (sym shaped) x.exists;
+    long = x.long;
+    scanned = subst (λ (z : Shape). x.own.life.scanned ≤ z.reservations) (sym shaped) x.scanned;
+  };
+  counted = s.counted;
+  once = s.once;
+}
 
 -- a child's part takes at most three loads
 few_loads : (s : Shape) (p : ℕ) → part_steps s p ≤ part_words
@@ -59,13 +94,18 @@ module _ (f : ℕ → ℕ → List (ℕ × ℕ) → List ℕ) where
         | inr lost ↦ (let y = z.miss lost x.0 x.1 in (y.0, y.1, inl (y.2 ∙ x.2)))
       ]
 
+  -- where nothing was replaced yet
+  pub shows_stocked : {v : SeatView} {k : StockFacts} (key : ℕ) → KnowsBook f v → Stocks v k → k.replaced ≡ 0 → ShowsBelow v key 0
+  shows_stocked {v} {k} key kn s none = shows_none f v s.lane key kn s.only (empty s.lane.replaced (s.counted ∙ none))
+
   module _ {v : SeatView} {key : ℕ} (low : key < 2 ^ v.shape.bits) where
-    pub lifted_none : {k : StockFacts} → KnowsBook f v → Stocks v k → k.replaced ≡ 0 → LiftedTo f key v 0 v
-    lifted_none {k} kn s none = let h : Held = s.lane in record {
+    pub lifted_none : KnowsBook f v → ShowsBelow v key 0 → LiftedTo f key v 0 v
+    lifted_none kn below = record {
       goes = goes_more f 0 all_records [] v v (omega arith) (goes_self f v kn);
       took = record { steps = 0; least_steps = omega arith; most_steps = omega arith; took = took_none v v refl };
       lifts = lifts_none v.shape v.seen key;
-      shows = (h, s.only, shows_none f v h (above v.shape key 1) kn (empty h.replaced (s.counted ∙ none)));
+      raises = raises_none f v key;
+      shows = below;
     }
 
     pub inner_lifted : {u : SeatView} {level node : ℕ} → suc level ≤ v.shape.bits → LiftedTo f key v level u → node ≡ above v.shape key (suc level) → IsInner u.shape node
@@ -75,23 +115,15 @@ module _ (f : ℕ → ℕ → List (ℕ × ℕ) → List ℕ) where
     pub lifted_on : {u w : SeatView} {level node : ℕ} → suc level ≤ v.shape.bits → LiftedTo f key v level u → node ≡ above v.shape key (suc level) → CoveredBy f u node w → LiftedTo f key v (level + 1) w
     lifted_on {u} {w} {level} {node} up l is c = let s : Shape = v.shape in let shaped = l.goes.shaped in let whole = goes_on f all_records all_records all_records [] v u w (omega arith) (omega arith) l.goes c.goes in
         let next : suc level ≡ level + 1 = omega arith in let loads = few_loads u.shape (left_of u.shape node) in let inner : IsInner u.shape node = inner_lifted up l is in
-        let covers = subst (λ (z : Shape × ℕ). NewestCovers z.0 u.seen w.seen z.1) (λ i. (shaped i, is i)) c.covers in let x = l.shows in let r = c.replaces x.0 x.1 in
-        subst (λ (n : ℕ). LiftedTo f key v n w) next record {
+        let covers = subst (λ (z : Shape × ℕ). NewestCovers z.0 u.seen w.seen z.1) (λ i. (shaped i, is i)) c.covers in record {
           goes = whole;
-          took = between_on v u w 0 (level * (2 * most_try_steps part_words)) 0 _ 0 (suc level * (2 * most_try_steps part_words)) (omega arith) (omega arith) l.took c.took;
-          lifts = lifts_level f s v.seen u w key level low up (subst (λ (z : Shape). IsBook f z w.seen) whole.shaped whole.knows_table.book) c.goes.later covers l.lifts;
-          shows = (
-            r.0,
-            r.1,
-            subst (λ (z : ℕ × ℕ). ShowsBelow w r.0 (2 ^ z.0 + z.1 / 2)) (λ i. (ap (λ (z : Shape). z.bits) shaped i, is i))
-                (shows_on u w x.0 r.0 node c.goes.shaped inner c.goes.later c.covers r.2 (subst (ShowsBelow u x.0) (sym is) x.2)),
-          );
+          took = between_on v u w 0 (level * (2 * most_try_steps part_words)) 0 _ 0 ((level + 1) * (2 * most_try_steps part_words)) (omega arith) (let one = suc-mul level (2 * most_try_steps part_words) in omega arith) l.took c.took;
+          lifts = subst (Lifts s v.seen w.seen key) next (lifts_level f s v.seen u w key level low up (subst (λ (z : Shape). IsBook f z w.seen) whole.shaped whole.knows_table.book) c.goes.later covers l.lifts);
+          raises = raises_on f v u w key level node up shaped is c.goes c.covers l.raises;
+          shows = subst (ShowsBelow w key) next (shows_on u w key level node (subst (λ (z : Shape). key < 2 ^ z.bits) (sym shaped) low) (subst (λ (z : Shape). suc level ≤ z.bits) (sym shaped) up)
+              (is ∙ ap (λ (z : Shape). above z key (suc level)) (sym shaped)) inner c.goes.later c.covers l.shows c.goes.shaped c.replaces);
         }
 
     -- at the root
-    pub may_retire : {w : SeatView} → LiftedTo f key v v.shape.bits w → MayRetire w
-    may_retire {w} l = let x = l.shows in let bits : ℕ = v.shape.bits in record {
-      lane = x.0;
-      only = x.1;
-      later = shows_all w x.0 (above v.shape key (suc bits)) (let root = above_root v.shape key low in let d = double_pow bits in let same = ap (λ (z : Shape). 2 ^ (z.bits + 1)) l.goes.shaped in omega arith) x.2;
-    }
+    pub may_retire : {w : SeatView} {level : ℕ} → v.shape.bits ≤ level → LiftedTo f key v level w → MayRetire w
+    may_retire {w} {level} top l = shows_all w key level (subst (λ (z : Shape). z.bits ≤ level) (sym l.goes.shaped) top) l.shows

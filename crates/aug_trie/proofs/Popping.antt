@@ -1,6 +1,6 @@
 -- What a call comes to that takes out a member of its snapshot, from what its parts come to.
 
-use Rattle.std.specs.Prelude.{IfOk}
+use Rattle.std.specs.Prelude.{IfErr, IfOk}
 use Rattle.std.proofs.Common.{◌≡◌, ◌⊎◌, ℕ, zero, suc, ◌+◌, ◌-◌, ◌^◌, ◌<◌, ◌≤◌, Result, Ok, Err, ◌==◌, Bool, if◌then◌else◌, List, [], ◌∷◌, ◌++◌, All, length, length-append, Option, Some, None, sym, ap, ◌∙◌, subst, inl, inr, arith}
 use Rattle.std.specs.Prelude.{slice_get, unwrap_or}
 use Rattle.std.proofs.lemmas.Bool.{cases_Bool}
@@ -12,11 +12,11 @@ use Rattle.aug_model.specs.Queries.{weight_of}
 use Rattle.aug_model.specs.declared.summary.Summary.{Summary}
 use Rattle.aug_query.specs.Tree.{IsTreeSet}
 use Rattle.aug_trie.specs.Knowledge.{Knowledge, IsKnowledge}
-use Rattle.aug_trie.specs.LastingTable.{LastingPops, TakesSeen, look_steps}
+use Rattle.aug_trie.specs.LastingTable.{IsFull, IsFullAfter, LastingFacts, LastingPops, LoadsRootLast, LooksFor, TakesSeen, look_steps, most_lasting_steps, most_pop_steps}
 use Rattle.aug_trie.specs.Node.{Keeps, Reads}
 use Rattle.aug_trie.specs.Pass.{PassFacts, GoesOn}
 use Rattle.aug_trie.specs.Pops.{member_at, pop_updates, PopsTo, Pops}
-use Rattle.aug_trie.specs.Round.{root_of}
+use Rattle.aug_trie.specs.Round.{RoundFacts, root_of}
 use Rattle.aug_trie.specs.Snapshot.{HasSnapshot, set_at, snapshot_cut}
 use Rattle.aug_trie.specs.Updates.{TakesSnapshot}
 use Rattle.aug_trie.specs.inside.Popping.{SeesMember, TakesShown}
@@ -148,6 +148,10 @@ if_ok : {T E : Type 0} {P Q : T → Type 0} (r : Result T E) → ((x : T) → P 
 if_ok (Ok x) follows is = follows x is
 if_ok (Err e) follows is = is
 
+if_err : {T E : Type 0} {P Q : E → Type 0} (r : Result T E) → ((x : E) → P x → Q x) → IfErr r P → IfErr r Q
+if_err (Ok x) follows is = is
+if_err (Err e) follows is = follows e is
+
 -- the member at an end stands in the list
 pub end_stands : (side : Side) (keys : List ℕ) (k : ℕ) → member_at side keys ≡ Some k → (i : ℕ) × (slice_get keys i ≡ Some k)
 end_stands First keys k is = (0, is)
@@ -161,23 +165,45 @@ pub end_low : (side : Side) (set : SetFacts) (k : ℕ) → IsTreeSet set → mem
 end_low side set k tree is = let at = end_stands side (list_of set) k is in one_of_all (λ z. z < 2 ^ set.bits) (list_of set) at.0 k tree.is_key_set.below at.1
 
 module _ {A B : Type 0} (summary_of : List (ℕ × ℕ) → Summary A B) where
-  -- a pop, from what its parts come to
-  pub lasting_pops : {E : Type 0} (r : Result Pop E) (side : Side) (s : Snapshot) (seen : Option (ℕ × ℕ)) (most : ℕ) (old looked mid ended new : PassFacts) → TakesSnapshot old.knows looked.knows (snapshot_cut looked s) → HasSnapshot looked s → SeesMember side (set_at looked s) seen
-      → Reads summary_of most looked mid → (steps : ℕ) × (steps ≤ 1) × GoesOn 0 steps mid ended → ended.knows ≡ mid.knows → IfOk r (λ done. TakesSeen seen done ended.knows new.knows) → IfOk r (λ done. LastingPops side done old new)
-  lasting_pops r side s seen most old looked mid ended new takes known sees reads goes same = if_ok r (λ done took. record {
-    snapshot = s;
-    looked = looked;
-    takes = takes;
-    known = known;
-    seen = seen;
-    key = sees.key;
-    weighs = sees.weighs;
-    takes_seen = subst (λ (z : Knowledge). TakesSeen seen done z new.knows) (same ∙ ap (λ (z : PassFacts). z.knows) reads.stays.same) took;
-  })
+  -- the round stays
+  round_kept : {updates steps : ℕ} (p q : PassFacts) → GoesOn updates steps p q → q.round ≡ p.round
+  round_kept p q g = ap (λ (z : PassFacts). z.round) g.same
 
-  pub lasting_pop_goes_on : (most : ℕ) (old looked mid ended new : PassFacts) → (a : ℕ) × (a ≤ look_steps) × GoesOn 0 a old looked → Reads summary_of most looked mid → (b : ℕ) × (b ≤ 1) × GoesOn 0 b mid ended → (new ≡ ended) ⊎ ((c : ℕ) × GoesOn 0 c ended new) → (steps : ℕ) × GoesOn 0 steps old new
-  lasting_pop_goes_on most old looked mid ended new x reads y z = let first = goes_reading summary_of 0 x.0 most old looked mid x.2 reads in let all = goes_on_both 0 0 (x.0 + first.0) y.0 old mid ended first.1 y.2 in
+  -- a pop, from what its parts come to
+  module _ (side : Side) (s : Snapshot) (seen : Option (ℕ × ℕ)) (most : ℕ) (old looked mid ended new : LastingFacts) (takes : TakesSnapshot old.pass.knows looked.pass.knows (snapshot_cut looked.pass s)) (loads : LoadsRootLast old.pass s.number looked.pass) (known : HasSnapshot looked.pass s)
+      (sees : SeesMember side (set_at looked.pass s) seen) (reads : Reads summary_of most looked.pass mid.pass) (same : ended.pass.knows ≡ mid.pass.knows) where
+    looks : LooksFor side seen old.pass looked.pass
+    looks = record { snapshot = s; takes = takes; loads = loads; known = known; key = sees.key; weighs = sees.weighs }
+
+    still : ended.pass.knows ≡ looked.pass.knows
+    still = same ∙ ap (λ (z : PassFacts). z.knows) reads.stays.same
+
+    pub lasting_pops : {E : Type 0} (r : Result Pop E) → IfOk r (λ done. TakesSeen seen done ended.pass.knows new.pass.knows) → IfOk r (λ done. LastingPops side done old.pass new.pass)
+    lasting_pops r = if_ok r (λ done took. record { seen = seen; looked = looked.pass; looks = looks; takes_seen = subst (λ (z : Knowledge). TakesSeen seen done z new.pass.knows) still took })
+
+    pub lasting_full : {E : Type 0} (r : Result Pop E) (full : E) → looked.stock ≡ record old.stock { era = looked.stock.era } → mid ≡ record looked { pass = mid.pass } → ended.stock ≡ record mid.stock { era = 0 } → (b : ℕ) × (b ≤ 1) × GoesOn 0 b mid.pass ended.pass
+        → IfErr r (λ e. (e ≡ full) × IsFull ended new × ((p : ℕ × ℕ) × (seen ≡ Some p))) → IfErr r (λ e. (e ≡ full) × IsFullAfter side old new)
+    lasting_full r full taken asked rests y = if_err r (λ e z. (
+      z.0,
+      record {
+        seen = z.2.0;
+        looked = looked.pass;
+        looks = subst (λ (q : Option (ℕ × ℕ)). LooksFor side q old.pass looked.pass) z.2.1 looks;
+        ended = ended;
+        same_knowledge = still;
+        steps_stay = prefix_trans looked.pass.steps mid.pass.steps ended.pass.steps reads.stays.steps_stay y.2.steps_stay;
+        same_stock = rests ∙ (λ i. record (((ap (λ (q : LastingFacts). q.stock) asked) ∙ taken) i) { era = 0 });
+        full = z.1;
+      },
+    ))
+
+  pub lasting_pop_goes_on : (old looked mid ended new : PassFacts) → (a : ℕ) × (a ≤ look_steps) × GoesOn 0 a old looked → Reads summary_of (looked.round.bits + 6) looked mid → (b : ℕ) × (b ≤ 1) × GoesOn 0 b mid ended
+      → (new ≡ ended) ⊎ ((c : ℕ) × (c ≤ most_lasting_steps ended.round.bits ended.round.workers) × GoesOn 0 c ended new) → (steps : ℕ) × (steps ≤ most_pop_steps old.round.bits old.round.workers) × GoesOn 0 steps old new
+  lasting_pop_goes_on old looked mid ended new x reads y z = let first = goes_reading summary_of 0 x.0 (looked.round.bits + 6) old looked mid x.2 reads in let all = goes_on_both 0 0 (x.0 + first.0) y.0 old mid ended first.1 y.2 in
+      let to_look = round_kept old looked x.2 in let to_end = round_kept old ended all in let bits_looked = ap (λ (w : RoundFacts). w.bits) to_look in let bits_ended = ap (λ (w : RoundFacts). w.bits) to_end in let workers_ended = ap (λ (w : RoundFacts). w.workers) to_end in
+      let a_few = x.1 in let b_few = y.1 in let few = reads.few_steps in let a_long = x.2.step_count in let long = first.1.step_count in
+      let enough : x.0 + first.0 + y.0 ≤ look_steps + (old.round.bits + 6) + 1 = omega (arith, bits_looked, a_few, b_few, few, a_long, long) in
       elim (z) [
-        | inl same ↦ (x.0 + first.0 + y.0, subst (λ (w : PassFacts). GoesOn 0 (x.0 + first.0 + y.0) old w) (sym same) all)
-        | inr took ↦ (x.0 + first.0 + y.0 + took.0, goes_on_both 0 0 (x.0 + first.0 + y.0) took.0 old ended new all took.1)
+        | inl same ↦ (x.0 + first.0 + y.0, omega (arith, enough), subst (λ (w : PassFacts). GoesOn 0 (x.0 + first.0 + y.0) old w) (sym same) all)
+        | inr took ↦ (let c_few = took.1 in (x.0 + first.0 + y.0 + took.0, omega (arith, enough, c_few, bits_ended, workers_ended), goes_on_both 0 0 (x.0 + first.0 + y.0) took.0 old ended new all took.2))
       ]

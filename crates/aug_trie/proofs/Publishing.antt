@@ -22,7 +22,7 @@ module _ (face : ℕ → ℕ → List (ℕ × ℕ) → List ℕ) where
   module _ (v : SeatView) (number : ℕ) (five : List ℕ) (may : MayStore v number) where
     -- a record that says what was loaded may be published
     pub may_publish : (q old : ℕ) → v.shape.reservations ≡ 0 → SaysLoaded face v.shape v.seen q old five → IsFilled face (filled_view v number five) q old 0 number
-    may_publish q old off says = is_filled v number five may face q old 0 says (inl off) (inl off) (inl off) (inl off)
+    may_publish q old off says = is_filled v number five may face q old 0 says (inl off) (inl off) (inl off)
 
     -- what the try tells
     pub published : (w : SeatView) (q old new found : ℕ) (done : Bool) → IsInner v.shape q → ((l r : ℕ) (pairs : List (ℕ × ℕ)) → get_or (face l r pairs) 0 0 ≡ l) → ((l r : ℕ) (pairs : List (ℕ × ℕ)) → get_or (face l r pairs) 1 0 ≡ r)

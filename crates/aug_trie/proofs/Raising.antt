@@ -14,7 +14,7 @@ use Rattle.aug_core.proofs.Showing.{shows_later, shows_rises}
 use Rattle.aug_trie.specs.inside.Batching.{IsRaised, Raises, RaisedAll}
 use Rattle.aug_trie.specs.Pass.{most_rise_steps}
 use Rattle.aug_trie.specs.inside.Goes.{Goes, Took, HasRoom}
-use Rattle.aug_trie.specs.inside.Stages.{IsCovered, HasRisen, MayRise}
+use Rattle.aug_trie.specs.inside.Stages.{HasRisen, MayRise}
 use Rattle.aug_trie.proofs.Going.{goes_self, goes_more, goes_on, took_none, took_on, room_left}
 use Rattle.aug_trie.proofs.Levels.{lifts_none, lifts_level}
 use Rattle.aug_trie.proofs.Parting.{AreOneAbove, all_rises, apart_few, first_rises, more_rises, one_above}
@@ -42,27 +42,27 @@ module _ (f : ℕ → ℕ → List (ℕ × ℕ) → List ℕ) where
   raises_none v next = λ seen key low h. h
 
   -- once the node above is covered, one level more is raised
-  pub raises_on : (v u w : SeatView) (next level node number : ℕ) → suc level ≤ v.shape.bits → u.shape ≡ v.shape → node ≡ above v.shape next (suc level) → IsCovered f u w node number → Raises next v level u → Raises next v (level + 1) w
-  raises_on v u w next level node number up shaped is c r = λ seen key low h. one_more seen key low (r seen key low h)
+  pub raises_on : {used : ℕ} (v u w : SeatView) (next level node : ℕ) → suc level ≤ v.shape.bits → u.shape ≡ v.shape → node ≡ above v.shape next (suc level) → Goes f used [] u w → NewestCovers u.shape u.seen w.seen node → Raises next v level u → Raises next v (level + 1) w
+  raises_on v u w next level node up shaped is goes covered r = λ seen key low h. one_more seen key low (r seen key low h)
     where
       s : Shape
       s = v.shape
 
       book : IsBook f s w.seen
-      book = subst (λ (z : Shape). IsBook f z w.seen) (c.goes.shaped ∙ shaped) c.goes.knows_table.book
+      book = subst (λ (z : Shape). IsBook f z w.seen) (goes.shaped ∙ shaped) goes.knows_table.book
 
       covers : NewestCovers s u.seen w.seen (above s next (suc level))
-      covers = subst (NewestCovers s u.seen w.seen) is (subst (λ (z : Shape). NewestCovers z u.seen w.seen node) shaped c.covers)
+      covers = subst (NewestCovers s u.seen w.seen) is (subst (λ (z : Shape). NewestCovers z u.seen w.seen node) shaped covered)
 
       one_more : (seen : Book) (key : ℕ) → key < 2 ^ s.bits → IsRaised s seen u.seen key next level → IsRaised s seen w.seen key next (level + 1)
       one_more seen key low before = λ l high which. ⊎_elim (λ (past : level < l). ⊎_elim (λ (le : l ≤ level + 1). let here : suc level ≡ l = omega arith in subst (Lifts s seen w.seen key) here at_next) (λ apart. stays l high (inr apart)) which) (λ le. stays l high (inl le)) (cases_lt level l)
         where
           stays : (l : ℕ) → l ≤ s.bits → (l ≤ level) ⊎ (above s key l ≢ above s next l) → Lifts s seen w.seen key l
-          stays l high which = lifts_later s seen u.seen w.seen key l low high book c.goes.later (before l high which)
+          stays l high which = lifts_later s seen u.seen w.seen key l low high book goes.later (before l high which)
 
           at_next : Lifts s seen w.seen key (suc level)
           at_next = ⊎_elim
-              (λ (same : above s key (suc level) ≡ above s next (suc level)). lifts_level f s seen u w key level low up book c.goes.later (subst (NewestCovers s u.seen w.seen) (sym same) covers) (before level (omega arith) (inl (omega arith))))
+              (λ (same : above s key (suc level) ≡ above s next (suc level)). lifts_level f s seen u w key level low up book goes.later (subst (NewestCovers s u.seen w.seen) (sym same) covers) (before level (omega arith) (inl (omega arith))))
               (λ apart. stays (suc level) up (inr apart)) (cases_eq (above s key (suc level)) (above s next (suc level)))
 
   -- a leaf's own way is raised at the leaf

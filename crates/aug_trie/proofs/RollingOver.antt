@@ -9,7 +9,7 @@ use Rattle.aug_core.specs.Counts.{changes_of}
 use Rattle.aug_core.specs.Cuts.{Cut, opening_cut, pairs_of_cut}
 use Rattle.aug_core.specs.Kinds.{load_node}
 use Rattle.aug_core.specs.Prefixes.{IsPrefix}
-use Rattle.aug_core.specs.Effects.{LoadsNode, opening_of}
+use Rattle.aug_core.specs.Effects.{LoadsNode, opening_of, KnowsBook}
 use Rattle.aug_core.specs.declared.view.PastEra.{PastEra}
 use Rattle.aug_core.specs.Eras.{opening_with, table_part}
 use Rattle.aug_core.specs.Layout.{IsLayout}
@@ -27,7 +27,7 @@ use Rattle.aug_trie.specs.History.{IsHistory, last_cut}
 use Rattle.aug_trie.specs.Knowledge.{IsKnowledge, inserts_of, removals_of}
 use Rattle.aug_trie.specs.Round.{RoundFacts, root_of, table_of}
 use Rattle.aug_trie.specs.inside.CrewState.{crew_facts, HoldsCrew}
-use Rattle.aug_trie.specs.inside.Knows.{knows, root_history}
+use Rattle.aug_trie.specs.inside.Knows.{knows, root_history, KnowsRound}
 use Rattle.aug_trie.specs.inside.RoundState.{round_of, past_rounds, facts_of}
 use Rattle.aug_trie.proofs.Accepting.{knows_on}
 use Rattle.aug_trie.proofs.Crews.{begins_crew, begins_history}
@@ -73,6 +73,30 @@ module _ (face : ℕ → ℕ → List (ℕ × ℕ) → List ℕ) (store : Store)
       let none_back : length lead.view.held ≡ 0 = ap (λ (z : SeatView). length z.held) opener_is in
       λ j. record { round = round_of lead.table lead.view; past = past_rounds lead.view.shape lead.view.past; knows = knew j; steps = lead.view.steps; handed = none_out j; back = none_back j; words = (crew_facts lead false).words; free = false }
 
+-- ---- a crew that loaded the root
+
+module _ (face : ℕ → ℕ → List (ℕ × ℕ) → List ℕ) (lead : Known) (now : CrewFacts) {free : Bool} (found : ℕ) (last : SeatView) (is : crew_facts lead free ≡ now) (kn : KnowsBook face lead.view) (l : LoadsNode face lead.view (root_place lead.view.shape) found last) where
+  abbrev looked : CrewFacts
+  looked = crew_facts (record { table = lead.table; view = last }) free
+
+  -- what contracts see of it
+  looked_is : looked ≡ record now { knows = knows last; steps = last.steps; words = looked.words }
+  looked_is = (λ i. record looked { round = round_of lead.table (l.stepped i); past = past_rounds (l.stepped i).shape (l.stepped i).past; handed = unwrap_or (l.stepped i).spare 0; back = length (l.stepped i).held })
+      ∙ ap (λ (z : CrewFacts). record z { knows = knows last; steps = last.steps; words = looked.words }) is
+
+  root_loads : last.steps ≡ now.steps ++ load_node (root_of now.round) found ∷ []
+  root_loads = ap (λ (z : SeatView). z.steps) l.stepped ∙ ap (λ (z : CrewFacts). z.steps ++ load_node (root_of z.round) found ∷ []) is
+
+  pub root_looks : KnowsRound lead.view → CrewLooks now looked
+  root_looks k = let known = loaded_knowledge face lead.view last found kn l k in record {
+    crew_is = looked_is;
+    weights = subst (λ (z : CrewFacts). KeepWeights z.words looked.words) is (λ key serial weight. weighs_later lead.view.seen last.seen key serial weight l.sees.later);
+    goes_on = subst (λ (z : CrewFacts). IsPrefix z.knows.history (knows last).history) is (knows_on face lead.view last kn (ap (λ (z : SeatView). z.shape) l.stepped) l.sees.later);
+    same_changes = ap (λ (z : SeatView). changes_of z.held) l.stepped ∙ ap (λ (z : CrewFacts). z.knows.accepted) is;
+    knowledge = record { is_history = known.is_history; stands = known.stands };
+    loads = (found, root_loads);
+  }
+
 -- ---- the round that ended
 
 module _ (face : ℕ → ℕ → List (ℕ × ℕ) → List ℕ) (lead : Known) (now : CrewFacts) {free : Bool} (back inserts removals found : ℕ) (last : SeatView) (is : crew_facts lead free ≡ now) (holds : HoldsCrew face lead.view back inserts removals) (l : LoadsNode face lead.view (root_place lead.view.shape) found last) where
@@ -97,25 +121,8 @@ module _ (face : ℕ → ℕ → List (ℕ × ℕ) → List ℕ) (lead : Known) 
   }
 
   -- what contracts see of that crew
-  pub last_is : crew_facts known free ≡ record now { knows = knows last; steps = last.steps; words = (crew_facts known free).words }
-  last_is = (λ i. let after : CrewFacts = crew_facts known free in
-      record after { round = round_of lead.table (l.stepped i); past = past_rounds (l.stepped i).shape (l.stepped i).past; handed = unwrap_or (l.stepped i).spare 0; back = length (l.stepped i).held })
-      ∙ ap (λ (z : CrewFacts). record z { knows = knows last; steps = last.steps; words = (crew_facts known free).words }) is
-
-  pub last_goes_on : IsPrefix now.knows.history (knows last).history
-  last_goes_on = subst (λ (z : CrewFacts). IsPrefix z.knows.history (knows last).history) is (knows_on face lead.view last holds.is_crew.knows_table (ap (λ (z : SeatView). z.shape) l.stepped) l.sees.later)
-
-  pub last_weights : KeepWeights now.words (crew_facts known free).words
-  last_weights = subst (λ (z : CrewFacts). KeepWeights z.words (crew_facts known free).words) is (λ key serial weight. weighs_later lead.view.seen last.seen key serial weight l.sees.later)
-
-  pub last_changes : changes_of last.held ≡ now.knows.accepted
-  last_changes = ap (λ (z : SeatView). changes_of z.held) l.stepped ∙ ap (λ (z : CrewFacts). z.knows.accepted) is
-
-  pub last_loads : last.steps ≡ now.steps ++ load_node (root_of now.round) found ∷ []
-  last_loads = ap (λ (z : SeatView). z.steps) l.stepped ∙ ap (λ (z : CrewFacts). z.steps ++ load_node (root_of z.round) found ∷ []) is
-
   pub last_looks : CrewLooks now (crew_facts known free)
-  last_looks = record { crew_is = last_is; weights = last_weights; goes_on = last_goes_on; same_changes = last_changes; knowledge = let k = last_crew.is_crew.knowledge in record { is_history = k.is_history; stands = k.stands }; loads = (found, last_loads) }
+  last_looks = root_looks face lead now found last is holds.is_crew.knows_table l holds.is_crew.knowledge
 
   -- the rounds that are over then
   pub over_now : (past : List PastEra) (s : Shape) → past ≡ last.past ++ record { members = last.members; book = last.seen } ∷ [] → s ≡ last.shape → past_rounds s past ≡ chapters (crew_chain (crew_facts known free))
@@ -125,7 +132,7 @@ module _ (face : ℕ → ℕ → List (ℕ × ℕ) → List ℕ) (lead : Known) 
   pub closes_account : (words : List ℕ) → EndWith face (opening_of last) last words → now.back ≡ now.handed → IsOver now (crew_facts known free) inserts removals
   closes_account words ends all_back =
       let crew = last_crew in let spare = crew.is_crew.hands_out in
-      let all : length last.held ≡ crew.handed = ap (λ (z : CrewFacts). z.back) last_is ∙ all_back ∙ sym (ap (λ (z : CrewFacts). z.handed) last_is) ∙ ap (λ (z : Option ℕ). unwrap_or z 0) spare in
+      let looks = last_looks in let all : length last.held ≡ crew.handed = ap (λ (z : CrewFacts). z.back) looks.crew_is ∙ all_back ∙ sym (ap (λ (z : CrewFacts). z.handed) looks.crew_is) ∙ ap (λ (z : Option ℕ). unwrap_or z 0) spare in
       let ended : EndedFacts = record {
         bits = last.shape.bits;
         members = pairs_of_cut (last_cut (knows last).history);
@@ -137,15 +144,15 @@ module _ (face : ℕ → ℕ → List (ℕ × ℕ) → List ℕ) (lead : Known) 
         root = 0;
       } in
       let t = round_ended face known (crew_facts known free) crew.handed refl crew spare ends ended refl refl refl refl (none_left face known (crew_facts known free) crew.handed refl crew spare ends all) refl in record {
-        last_is = last_is;
-        weights = last_weights;
-        goes_on = last_goes_on;
-        same_changes = last_changes;
-        loads = (found, last_loads);
+        last_is = looks.crew_is;
+        weights = looks.weights;
+        goes_on = looks.goes_on;
+        same_changes = looks.same_changes;
+        loads = looks.loads;
         ended = ended;
         ends = t.0;
         none_missing = refl;
-        sizes = t.1 refl ∙ ap (λ (z : CrewFacts). length z.round.members + inserts) last_is;
+        sizes = t.1 refl ∙ ap (λ (z : CrewFacts). length z.round.members + inserts) looks.crew_is;
         inserts_are = refl;
         removals_are = refl;
       }

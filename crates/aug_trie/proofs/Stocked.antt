@@ -1,6 +1,6 @@
 -- One try at a node by the stock's next record.
-use Rattle.std.proofs.Common.{◌==◌, Option, ◌≡◌, ◌≢◌, inl, inr, ℕ, zero, suc, ◌+◌, ◌-◌, ◌*◌, ◌^◌, ◌<◌, ◌≤◌, max, Bool, nat_lt, if◌then◌else◌, List, [], ◌∷◌, ◌++◌, length, length-append, append_assoc, get_or, lt-ltb, le-ltb, sym, refl, ap, ◌∙◌, subst, ⊎_elim, arith}
-use Rattle.std.proofs.lemmas.Bool.{cases_Bool, cases_lt, cases_eq, false≢true}
+use Rattle.std.proofs.Common.{◌==◌, ◌≡◌, ◌≢◌, inl, inr, ℕ, zero, suc, ◌+◌, ◌-◌, ◌*◌, ◌^◌, ◌<◌, ◌≤◌, max, Bool, nat_lt, if◌then◌else◌, List, [], ◌∷◌, ◌++◌, length, length-append, append_assoc, get_or, lt-ltb, le-ltb, sym, refl, ap, ◌∙◌, subst, ⊎_elim, arith}
+use Rattle.std.proofs.lemmas.Bool.{cases_Bool, cases_lt, false≢true}
 use Rattle.std.proofs.lemmas.List.{append-nil}
 use Rattle.aug_monoid.specs.Parts.{Parts}
 use Rattle.aug_monoid.specs.inside.Laws.{IsMonoid}
@@ -9,11 +9,11 @@ use Rattle.aug_core.specs.Addresses.{place_count, IsInner, left_of, right_of}
 use Rattle.aug_core.specs.Book.{Book, At, ArePrefixes, IsFresh, IsBook, IsLoaded}
 use Rattle.aug_core.specs.Counts.{changes_of}
 use Rattle.aug_core.specs.Faces.{face}
-use Rattle.aug_core.specs.Reclaiming.{reaching, releasing, own_reservation, retiring_in}
+use Rattle.aug_core.specs.Reclaiming.{reaching, releasing, retiring_in}
 use Rattle.aug_core.specs.inside.Shows.{Lifts}
 use Rattle.aug_core.specs.Records.{first_era}
 use Rattle.aug_core.specs.inside.Refreshes.{SaysLoaded, Published, Refreshed, stored}
-use Rattle.aug_core.specs.Effects.{HoldsOnly, MayStore, Covers, GuardsRecord, IsFilled, TriesNode, KnowsBook, own_lane, on_first, reserved_by, storing_in, publishing_from, last_replaced}
+use Rattle.aug_core.specs.Effects.{HoldsOnly, MayStore, Covers, GuardsRecord, IsFilled, TriesNode, KnowsBook, own_lane, on_first, storing_in, publishing_from, last_replaced}
 use Rattle.aug_core.specs.declared.step.StepTaken.{StepTaken}
 use Rattle.aug_core.specs.declared.view.Change.{Change}
 use Rattle.aug_core.specs.declared.view.Entry.{Entry}
@@ -33,9 +33,9 @@ use Rattle.aug_core.proofs.PlaceLemmas.{double_pow}
 use Rattle.aug_core.proofs.PrefixLemmas.{book_refl, book_trans, entry_stays}
 use Rattle.aug_words.specs.Seats.{Known, Store, TriedNode}
 use Rattle.aug_words.specs.Reservations.{Retires, LoadsEra, TurnsEra}
-use Rattle.aug_words.specs.Stocks.{StockFacts, Stocks, HasReserved, ReservesAnew, IsLate, Scans, scan_steps, GoesBy, LoadsThree, LoadsOver, naming, number_in_word, birth_in_word}
+use Rattle.aug_words.specs.Stocks.{StockFacts, Stocks, CoversBy, ReservesAnew, IsLate, Scans, scan_steps, GoesBy, LoadsThree, LoadsOver, naming, number_in_word, birth_in_word}
 use Rattle.aug_words.proofs.Held.{born_at, numbered_at}
-use Rattle.aug_words.proofs.Stocking.{stocks_on, stocks_stored, told}
+use Rattle.aug_words.proofs.Stocking.{stocks_same, stocks_stored, told}
 use Rattle.aug_trie.specs.declared.updates.request.Request.{Request}
 use Rattle.aug_trie.specs.inside.Batching.{LeftFrom}
 use Rattle.aug_trie.specs.inside.Goes.{Goes, Took, TookBetween, HasLeaves, KnowsLeaves, Looks, IsPartOf, part_steps, part_words}
@@ -56,15 +56,6 @@ took_by most v w g = record { steps = length g.more; least_steps = omega arith; 
 
 pub took_between : (v w : SeatView) (n : ℕ) → Took v w n → TookBetween v w n n
 took_between v w n t = record { steps = n; least_steps = omega arith; most_steps = omega arith; took = t }
-
--- something is reserved where records are used again and one is held
-pub reserved_on : (w : SeatView) (q i : ℕ) (e : Entry) → 0 < w.shape.reservations → Covers w q i e → HasReserved w
-reserved_on w q i e used (inl off) = absurd (omega (arith, off))
-reserved_on w q i e used (inr c) = (c.0, c.1)
-
-pub born_by : (w : SeatView) (q i : ℕ) (e : Entry) → 0 < w.shape.reservations → Covers w q i e → e.birth ≤ reserved_by w
-born_by w q i e used (inl off) = absurd (omega (arith, off))
-born_by w q i e used (inr c) = let below = c.2 in let is : reserved_by w ≡ c.0.era = ap (λ z. reserved_by (record w { reserved = z })) c.1 in omega (arith, below, is)
 
 -- stores leave what was replaced
 pub stored_keeps : (v : SeatView) (number : ℕ) (words : List ℕ) (n : ℕ) (h : Held) → HoldsOnly v h → (h' : Held) × HoldsOnly (stored v number words n) h' × (h'.replaced ≡ h.replaced)
@@ -132,13 +123,12 @@ module _ {A B : Type 0} (parts_a : Parts A) (parts_b : Parts B) (laws_a : IsMono
   pub record StockLoaded (v w : SeatView) (k : StockFacts) (q old left right birth m n : ℕ) (rest : List ℕ) : Type 0 where
     pub stocks : Stocks w k
     pub knows_table : KnowsBook g w
-    pub reserved : HasReserved w
     pub few : m + n < 2 ^ 64
     pub filled : (number : ℕ) (five : List ℕ) → 0 < k.free → number ≡ number_in_word (get_or k.words (k.free - 1) 0) → five ≡ left ∷ right ∷ (m + n) ∷ rest → IsFilled g (filled_view w number five) q old birth number
     pub over : (number : ℕ) (five : List ℕ) (w' : SeatView) (done : Bool) → 0 < k.free → number ≡ number_in_word (get_or k.words (k.free - 1) 0) → five ≡ left ∷ right ∷ (m + n) ∷ rest → TriedNode g (filled_view w number five) q old (naming birth number) done w' → TriedBy g v q done w'
 
   -- the loads of the children's parts leave the view as it is but for its steps
-  module _ {v w0 : SeatView} (m1 m2 : List StepTaken) {k : StockFacts} {leaves q : ℕ} {r : ℕ × ℕ × ℕ} (table : HasLeaves v.shape leaves) (inner : IsInner v.shape q) (kn : KnowsBook g v) (s0 : Stocks w0 k) (o : LoadsOver g 14 v q r w0) where
+  module _ {v w0 : SeatView} (m1 m2 : List StepTaken) {k : StockFacts} {leaves q : ℕ} {r : ℕ × ℕ × ℕ} (table : HasLeaves v.shape leaves) (inner : IsInner v.shape q) (kn : KnowsBook g v) (s0 : Stocks w0 k) (o : LoadsOver g 14 k.era v q r w0) where
     abbrev w1 : SeatView
     w1 = record w0 { steps = w0.steps ++ m1 }
 
@@ -188,19 +178,23 @@ module _ {A B : Type 0} (parts_a : Parts A) (parts_b : Parts B) (laws_a : IsMono
     numbered : (p i word : ℕ) (e : Entry) → IsInner s p → At w0.seen p i e → word ≡ e.word → number_in_word word ≡ e.number
     numbered p i word e inn at named = let below = l3.book.below p i e inn at in let all = s0.numbers in numbered_at g s w0.seen p i word e s0.used l3.book inn at named (omega arith)
 
+    -- what was loaded is held by the stock's reservation
+    held_by : (p i : ℕ) (e : Entry) → CoversBy o.holds.by p i e → Covers w0 p i e
+    held_by p i e c = inr (o.holds.by, o.holds.listed, c.0, c.1)
+
     held_l : IsInner s (left_of s q) → Covers w0 (left_of s q) t.left_index t.left × (t.left.number ≡ number_in_word r.1)
-    held_l inn = (o.holds.left_covers inn, sym (numbered (left_of s q) t.left_index r.1 t.left inn t.left_at l3.left_named))
+    held_l inn = (held_by (left_of s q) t.left_index t.left (o.holds.left_covers inn), sym (numbered (left_of s q) t.left_index r.1 t.left inn t.left_at l3.left_named))
 
     held_r : IsInner s (right_of s q) → Covers w0 (right_of s q) t.right_index t.right × (t.right.number ≡ number_in_word r.2)
-    held_r inn = (o.holds.right_covers inn, sym (numbered (right_of s q) t.right_index r.2 t.right inn t.right_at l3.right_named))
+    held_r inn = (held_by (right_of s q) t.right_index t.right (o.holds.right_covers inn), sym (numbered (right_of s q) t.right_index r.2 t.right inn t.right_at l3.right_named))
 
     -- the birth of a child's record, and 0 for a leaf
-    birth_is : (p i word : ℕ) (e : Entry) (place : ℕ) → place < place_count s → p ≡ place → At w0.seen place i e → word ≡ e.word → (IsInner s place → Covers w0 place i e) → ((if nat_lt p leaves then 0 else birth_in_word word) ≡ e.birth) × (e.birth ≤ k.era)
+    birth_is : (p i word : ℕ) (e : Entry) (place : ℕ) → place < place_count s → p ≡ place → At w0.seen place i e → word ≡ e.word → (IsInner s place → CoversBy o.holds.by place i e) → ((if nat_lt p leaves then 0 else birth_in_word word) ≡ e.birth) × (e.birth ≤ k.era)
     birth_is p i word e place low is at named held = ⊎_elim
         (λ (below : place < 2 ^ s.bits). let none = (l3.book.serials place i e below at).unborn in let are = table0.are in
         (ap (λ (z : Bool). if z then 0 else birth_in_word word) (lt-ltb p leaves (omega arith)) ∙ sym none, omega (arith, none)))
         (λ (past : 2 ^ s.bits ≤ place). let inn : IsInner s place = record { past_leaves = past; inside = low } in let are = table0.are in let all = s0.numbers in let under = l3.book.below place i e inn at in
-        let by = born_by w0 place i e s0.used (held inn) in let era = s0.era in
+        let by = (held inn).0 in let era = o.holds.era_is in
         (ap (λ (z : Bool). if z then 0 else birth_in_word word) (le-ltb p leaves (omega arith)) ∙ born_at g s w0.seen place i word e s0.used l3.book inn at named (omega arith), omega arith))
         (cases_lt place (2 ^ s.bits))
 
@@ -245,17 +239,17 @@ module _ {A B : Type 0} (parts_a : Parts A) (parts_b : Parts B) (laws_a : IsMono
           both_low b l p is low few = let e = even b p (omega arith) (omega arith) in omega arith
 
       born_l : ((if nat_lt child leaves then 0 else birth_in_word r.1) ≡ t.left.birth) × (t.left.birth ≤ k.era)
-      born_l = birth_is child t.left_index r.1 t.left (left_of s q) inside.0 left_is t.left_at l3.left_named (λ inn. (held_l inn).0)
+      born_l = birth_is child t.left_index r.1 t.left (left_of s q) inside.0 left_is t.left_at l3.left_named o.holds.left_covers
 
       born_r : ((if nat_lt child leaves then 0 else birth_in_word r.2) ≡ t.right.birth) × (t.right.birth ≤ k.era)
-      born_r = let b = birth_is (child + 1) t.right_index r.2 t.right (right_of s q) inside.1 right_is t.right_at l3.right_named (λ inn. (held_r inn).0) in (ap (λ (z : Bool). if z then 0 else birth_in_word r.2) (sym same_kind) ∙ b.0, b.1)
+      born_r = let b = birth_is (child + 1) t.right_index r.2 t.right (right_of s q) inside.1 right_is t.right_at l3.right_named o.holds.right_covers in (ap (λ (z : Bool). if z then 0 else birth_in_word r.2) (sym same_kind) ∙ b.0, b.1)
 
-      births : (t.left.birth ≤ birth) × (t.right.birth ≤ birth) × (birth ≤ reserved_by w0)
-      births = let l = born_l.0 in let l' = born_l.1 in let r = born_r.0 in let r' = born_r.1 in let era = s0.era in
+      births : (t.left.birth ≤ birth) × (t.right.birth ≤ birth) × (birth ≤ o.holds.by.era)
+      births = let l = born_l.0 in let l' = born_l.1 in let r = born_r.0 in let r' = born_r.1 in let era = o.holds.era_is in
           let b = birth_within k.era _ _ k.era (omega arith) (subst (λ (z : ℕ). z ≤ k.era) (sym l) l') (subst (λ (z : ℕ). z ≤ k.era) (sym r) r') in let b0 = b.0 in let b1 = b.1 in let b2 = b.2 in (omega arith, omega arith, omega arith)
 
       pub filled : (number : ℕ) (five : List ℕ) → MayStore w2 number → five ≡ words → IsFilled g (filled_view w2 number five) q r.0 birth number
-      filled number five may is = subst (λ (z : List ℕ). IsFilled g (filled_view w2 number z) q r.0 birth number) (sym is) (is_filled w2 number words may g q r.0 birth says o.holds.covers (inr births.0) (inr births.1) (inr births.2))
+      filled number five may is = subst (λ (z : List ℕ). IsFilled g (filled_view w2 number z) q r.0 birth number) (sym is) (is_filled w2 number words may g q r.0 birth says (inr (o.holds.by, o.holds.listed, o.holds.covers.0, o.holds.covers.1, births.2)) (inr births.0) (inr births.1))
 
       module _ (took1 : Took w0 w1 (part_steps s child)) (took2 : Took w1 w2 (part_steps s (child + 1))) (number : ℕ) (five : List ℕ) (w : SeatView) (done : Bool) (some : 0 < k.free) (next : number ≡ number_in_word (get_or k.words (k.free - 1) 0)) (is : five ≡ words)
           (tried : TriedNode g (filled_view w2 number five) q r.0 (naming birth number) done w) where
@@ -263,7 +257,7 @@ module _ {A B : Type 0} (parts_a : Parts A) (parts_b : Parts B) (laws_a : IsMono
         u = filled_view w2 number five
 
         s2 : Stocks w2 k
-        s2 = stocks_on w0 w2 k k.era s0 refl refl s0.era
+        s2 = stocks_same w0 w2 k s0 refl refl refl
 
         may : MayStore w2 number
         may = let few = s0.numbers in subst (MayStore w2) (sym next) (s2.free (k.free - 1) (omega arith))
@@ -321,12 +315,10 @@ module _ {A B : Type 0} (parts_a : Parts A) (parts_b : Parts B) (laws_a : IsMono
           hit = λ yes h only. let c : Replaced = last_replaced w.seen q in let st = keeps h only in let found = tried.decided.0 yes in let before = tries.followed found in let long = tries.newest.last in
               (publishing_from number c st.0, ap (λ (z : SeatView). z.held) (tries.hit found).0 ∙ ap (on_first (publishing_from number c)) st.1, inr (c, ap (λ (z : List Replaced). z ++ c ∷ []) st.2, refl, omega arith));
           miss = λ no h only. let st = keeps h only in (st.0, ap (λ (z : SeatView). z.held) (tries.miss (λ hit. false≢true (sym no ∙ tried.decided.1 hit))).0 ∙ st.1, st.2);
-          reserved = let x = reserved_on w0 q t.index t.from s0.used o.holds.covers in
-              ⊎_elim (λ (hit : tried.found ≡ r.0). (x.0, ap (λ (z : SeatView). z.reserved) (tries.hit hit).0 ∙ x.1)) (λ miss. (x.0, ap (λ (z : SeatView). z.reserved) (tries.miss miss).0 ∙ x.1)) (cases_eq tried.found r.0);
         }
 
   -- what was loaded, by what the calls say
-  pub stock_loaded : {v w0 w1 w2 : SeatView} {k : StockFacts} {leaves q m n : ℕ} {r : ℕ × ℕ × ℕ} {x x' : A} {y y' : B} → HasLeaves v.shape leaves → IsInner v.shape q → KnowsBook g v → Stocks w0 k → LoadsOver g 14 v q r w0
+  pub stock_loaded : {v w0 w1 w2 : SeatView} {k : StockFacts} {leaves q m n : ℕ} {r : ℕ × ℕ × ℕ} {x x' : A} {y y' : B} → HasLeaves v.shape leaves → IsInner v.shape q → KnowsBook g v → Stocks w0 k → LoadsOver g 14 k.era v q r w0
       → Looks part_words w0 w1 → Took w0 w1 (part_steps w0.shape (2 * (q - leaves))) → IsPartOf parts_a parts_b w0 (2 * (q - leaves)) r.1 (number_in_word r.1) m x y
       → Looks part_words w1 w2 → Took w1 w2 (part_steps w1.shape (2 * (q - leaves) + 1)) → IsPartOf parts_a parts_b w1 (2 * (q - leaves) + 1) r.2 (number_in_word r.2) n x' y'
       → StockLoaded v w2 k q r.0 r.1 r.2 (birth_from k.era (nat_lt (2 * (q - leaves)) leaves) r.1 r.2) m n (parts_a.to_word (parts_a.join x x') ∷ parts_b.to_word (parts_b.join y y') ∷ [])
@@ -337,27 +329,26 @@ module _ {A B : Type 0} (parts_a : Parts A) (parts_b : Parts B) (laws_a : IsMono
       let t1 = subst (λ (z : SeatView). Took w0 z (part_steps s (2 * (q - leaves)))) e1 took1 in let t2 = subst (λ (z : SeatView × SeatView). Took z.0 z.1 (part_steps z.0.shape (2 * (q - leaves) + 1))) (λ i. (e1 i, e2 i)) took2 in
       let pr = subst (λ (z : SeatView). IsPartOf parts_a parts_b z (2 * (q - leaves) + 1) r.2 (number_in_word r.2) n x' y') e1 part_r in
       subst (λ (z : SeatView). StockLoaded v z k q r.0 r.1 r.2 (birth_from k.era (nat_lt (2 * (q - leaves)) leaves) r.1 r.2) m n (parts_a.to_word (parts_a.join x x') ∷ parts_b.to_word (parts_b.join y y') ∷ [])) (sym e2) record {
-        stocks = stocks_on w0 u2 k k.era s0 refl refl s0.era;
+        stocks = stocks_same w0 u2 k s0 refl refl refl;
         knows_table = book_as g w0 refl refl refl (kn0 m1 m2 table inner kn s0 o);
-        reserved = reserved_on w0 q o.holds.loads.is_loaded.index o.holds.loads.is_loaded.from s0.used o.holds.covers;
         few = few_both m1 m2 table inner kn s0 o part_l pr;
         filled = λ number five some next is. let few = s0.numbers in
-            filled m1 m2 table inner kn s0 o part_l pr number five (subst (MayStore u2) (sym next) ((stocks_on w0 u2 k k.era s0 refl refl s0.era).free (k.free - 1) (omega arith))) is;
+            filled m1 m2 table inner kn s0 o part_l pr number five (subst (MayStore u2) (sym next) ((stocks_same w0 u2 k s0 refl refl refl).free (k.free - 1) (omega arith))) is;
         over = λ number five w done some next is tried. tried_by m1 m2 table inner kn s0 o part_l pr t1 t2 number five w done some next is tried;
       }
 
   -- both parts may be loaded
-  pub knows_leaves : {v w0 : SeatView} {k : StockFacts} {leaves q : ℕ} {r : ℕ × ℕ × ℕ} → HasLeaves v.shape leaves → KnowsBook g v → Stocks w0 k → LoadsOver g 14 v q r w0 → KnowsLeaves g w0 leaves
+  pub knows_leaves : {v w0 : SeatView} {k : StockFacts} {leaves q : ℕ} {r : ℕ × ℕ × ℕ} → HasLeaves v.shape leaves → KnowsBook g v → Stocks w0 k → LoadsOver g 14 k.era v q r w0 → KnowsLeaves g w0 leaves
   knows_leaves {v} {w0} {k} {leaves} table kn s0 o = record { leaves = subst (λ (z : Shape). HasLeaves z leaves) (sym (ap (λ (z : SeatView). z.shape) o.goes.same)) table; knows = (goes_by g 14 s0 kn o.holds.loads.book o.goes).knows_table }
 
-  pub left_guarded : {v w0 : SeatView} {k : StockFacts} {leaves q : ℕ} {r : ℕ × ℕ × ℕ} → HasLeaves v.shape leaves → IsInner v.shape q → Stocks w0 k → LoadsOver g 14 v q r w0 → IsInner w0.shape (2 * (q - leaves)) → GuardsRecord w0 (number_in_word r.1)
+  pub left_guarded : {v w0 : SeatView} {k : StockFacts} {leaves q : ℕ} {r : ℕ × ℕ × ℕ} → HasLeaves v.shape leaves → IsInner v.shape q → Stocks w0 k → LoadsOver g 14 k.era v q r w0 → IsInner w0.shape (2 * (q - leaves)) → GuardsRecord w0 (number_in_word r.1)
   left_guarded {v} {w0} {k} {leaves} {q} {r} table inner s0 o inn = let l = o.holds.loads in let t = l.is_loaded in let inn' = subst (IsInner w0.shape) (ap (λ (z : ℕ). 2 * (q - z)) (table.are ∙ ap (λ (z : Shape). 2 ^ z.bits) (sym (ap (λ (z : SeatView). z.shape) o.goes.same)))) inn in
-      guards_held g w0.shape w0 (left_of w0.shape q) t.left_index r.1 t.left refl s0.used s0.numbers l.book inn' t.left_at l.left_named (o.holds.left_covers inn')
+      guards_held g w0.shape w0 (left_of w0.shape q) t.left_index r.1 t.left refl s0.used s0.numbers l.book inn' t.left_at l.left_named (let c = o.holds.left_covers inn' in inr (o.holds.by, o.holds.listed, c.0, c.1))
 
-  pub right_guarded : {v w0 w1 : SeatView} {k : StockFacts} {leaves q : ℕ} {r : ℕ × ℕ × ℕ} → HasLeaves v.shape leaves → IsInner v.shape q → Stocks w0 k → LoadsOver g 14 v q r w0 → Looks part_words w0 w1 → IsInner w1.shape (2 * (q - leaves) + 1) → GuardsRecord w1 (number_in_word r.2)
+  pub right_guarded : {v w0 w1 : SeatView} {k : StockFacts} {leaves q : ℕ} {r : ℕ × ℕ × ℕ} → HasLeaves v.shape leaves → IsInner v.shape q → Stocks w0 k → LoadsOver g 14 k.era v q r w0 → Looks part_words w0 w1 → IsInner w1.shape (2 * (q - leaves) + 1) → GuardsRecord w1 (number_in_word r.2)
   right_guarded {v} {w0} {w1} {k} {leaves} {q} {r} table inner s0 o looks inn = let l = o.holds.loads in let t = l.is_loaded in
       let inn' = subst (λ (z : Shape × ℕ). IsInner z.0 z.1) (λ i. (ap (λ (z : SeatView). z.shape) looks.is i, 2 * (q - (table.are ∙ ap (λ (z : Shape). 2 ^ z.bits) (sym (ap (λ (z : SeatView). z.shape) o.goes.same))) i) + 1)) inn in
-      guards_looking part_words w0 w1 (number_in_word r.2) looks (guards_held g w0.shape w0 (right_of w0.shape q) t.right_index r.2 t.right refl s0.used s0.numbers l.book inn' t.right_at l.right_named (o.holds.right_covers inn'))
+      guards_looking part_words w0 w1 (number_in_word r.2) looks (guards_held g w0.shape w0 (right_of w0.shape q) t.right_index r.2 t.right refl s0.used s0.numbers l.book inn' t.right_at l.right_named (let c = o.holds.right_covers inn' in inr (o.holds.by, o.holds.listed, c.0, c.1)))
 
 -- it keeps its stock
 pub keeps_on : {f : ℕ → ℕ → List (ℕ × ℕ) → List ℕ} {store : Store} {used : ℕ} {gained : List Change} {p p' : Known} {k k' : StockFacts} → KeepsStock f store p k → p'.table ≡ p.table → Goes f used gained p.view p'.view → Stocks p'.view k' → KeepsStock f store p' k'
@@ -397,7 +388,7 @@ pub same_held : (v w : SeatView) → w.held ≡ v.held → (h : Held) → HoldsO
 same_held v w held h only = (h, held ∙ only, refl, refl)
 
 -- but for what is reserved, the era that was reached, and the steps
-pub rested_by : (v w : SeatView) {x : Option Reserved} {y : ℕ} {z : List StepTaken} → w ≡ record v { reserved = x; reached = y; steps = z } → w ≡ record v { held = w.held; reserved = w.reserved; reached = w.reached; steps = w.steps }
+pub rested_by : (v w : SeatView) {x : List Reserved} {y : ℕ} {z : List StepTaken} → w ≡ record v { reserved = x; reached = y; steps = z } → w ≡ record v { held = w.held; reserved = w.reserved; reached = w.reached; steps = w.steps }
 rested_by v w e =
     e ∙ (λ i. record v { held = ap (λ (u : SeatView). u.held) (sym e) i; reserved = ap (λ (u : SeatView). u.reserved) (sym e) i; reached = ap (λ (u : SeatView). u.reached) (sym e) i; steps = ap (λ (u : SeatView). u.steps) (sym e) i })
 
@@ -408,7 +399,7 @@ module _ (f : ℕ → ℕ → List (ℕ × ℕ) → List ℕ) where
   pub works_late : {v w : SeatView} {k : StockFacts} → Stocks v k → KnowsBook f v → IsLate v w → WorksBy f 1 [] v w
   works_late {v} {w} s kn l = let is = l.loaded.stepped in works_one f _ (goes_rested f s kn (rested_by v w is) (same_held v w (ap (λ (z : SeatView). z.held) is))) (ap (λ (z : SeatView). z.steps) is)
 
-  pub works_released : {v w : SeatView} {k : StockFacts} → Stocks v k → KnowsBook f v → w ≡ releasing v (own_reservation v) → WorksBy f 1 [] v w
+  pub works_released : {v w : SeatView} {k : StockFacts} → Stocks v k → KnowsBook f v → w ≡ releasing v (own_lane v.held) → WorksBy f 1 [] v w
   works_released {v} {w} s kn is = works_one f _ (goes_rested f s kn (rested_by v w is) (same_held v w (ap (λ (z : SeatView). z.held) is))) (ap (λ (z : SeatView). z.steps) is)
 
   pub works_retired : {v w : SeatView} {k : StockFacts} {era : ℕ} → Stocks v k → KnowsBook f v → Retires v era w → WorksBy f 1 [] v w
@@ -462,7 +453,7 @@ module _ (f : ℕ → ℕ → List (ℕ × ℕ) → List ℕ) where
   moved_one {v} {w} s kn l = let x = works_era v w _ _ s kn l.stepped in record { works = record { goes = x.goes; more = x.more; steps = x.steps; few = let few = x.few in omega arith }; same = reached_by v w _ _ l.stepped }
 
   pub moved_two : {v u w : SeatView} {k : StockFacts} {era old : ℕ} {done : Bool} → Stocks v k → KnowsBook f v → LoadsEra v era u → TurnsEra u old done w → MovesOn f v w
-  moved_two {v} {u} {w} {k} s kn l t = let s' : Stocks u k = stocks_on v u k k.era s (ap (λ (z : SeatView). z.shape) l.stepped) (ap (λ (z : SeatView). z.held) l.stepped) (s.era ∙ ap reserved_by (sym l.stepped)) in let x = works_era v u _ _ s kn l.stepped in let one = reached_by v u _ _ l.stepped in let two = reached_by u w _ _ t.stepped in record {
+  moved_two {v} {u} {w} {k} s kn l t = let s' : Stocks u k = stocks_same v u k s (ap (λ (z : SeatView). z.shape) l.stepped) (ap (λ (z : SeatView). z.held) l.stepped) (ap (λ (z : SeatView). z.reserved) l.stepped) in let x = works_era v u _ _ s kn l.stepped in let one = reached_by v u _ _ l.stepped in let two = reached_by u w _ _ t.stepped in record {
     works = works_on f 1 1 2 (omega arith) refl x (works_era u w _ _ s' x.goes.knows_table t.stepped);
     same = two ∙ (λ i. record (one i) { reached = w.reached; steps = w.steps });
   }

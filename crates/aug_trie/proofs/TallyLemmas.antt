@@ -280,7 +280,7 @@ sizes first last changes le tallies =
 -- where nothing is lost, the weights come from the changes that are there
 pub none_lost_weighs : (updates : ℕ) (first last : Cut) (history : List Cut) (changes : List Change) → TalliesWithLost updates 0 first last history changes → All (Weighs first changes) history
 none_lost_weighs updates first last history changes t =
-    subst (λ (z : List Change). All (Weighs first z) history) (ap (λ (z : List Change). changes ++ z) (gone t.lost t.one_each) ∙ append-nil changes) t.weigh
+    subst (λ (z : List Change). All (Weighs first z) history) (ap (λ (z : List Change). changes ++ z) (gone t.all.lists t.all.one_each) ∙ append-nil changes) t.all.weigh
   where
     gone : (lost : List (List Change)) → length lost ≡ 0 → flat_map (λ list. list) lost ≡ []
     gone [] none = refl

@@ -21,7 +21,7 @@ use Rattle.aug_core.proofs.Showing.{shows_leaf, above_root}
 use Rattle.aug_core.specs.Cuts.{Cut, serial_of, weight_at, pairs_of_cut, opening_cut, IsAtMost}
 use Rattle.aug_trie.specs.History.{last_cut}
 use Rattle.aug_trie.specs.Knowledge.{StandsIn}
-use Rattle.aug_trie.specs.Tallies.{times, Tallies, Weighs, TalliesWithLost}
+use Rattle.aug_trie.specs.Tallies.{times, Tallies, Weighs, TalliesWithOthers, TalliesWithLost}
 use Rattle.aug_core.specs.inside.EntryCuts.{entry_of}
 use Rattle.aug_core.specs.inside.RootCuts.{root_cut}
 use Rattle.aug_core.specs.Effects.{opening_of, KnowsBook}
@@ -65,7 +65,7 @@ same_held : (views : List SeatView) (i j a b : ℕ) (v w : SeatView) (h g : Held
 same_held views i j a b v w h g ij ab pv pw ph pg = let here : get_elem? views j ≡ some v = subst (λ (z : ℕ). get_elem? views z ≡ some v) ij pv in let same : v ≡ w = some-injective v w (sym here ∙ pw) in
     let there : get_elem? v.held b ≡ some h = subst (λ (z : ℕ). get_elem? v.held z ≡ some h) ab ph in some-injective h g (sym (subst (λ (z : SeatView). get_elem? z.held b ≡ some h) same there) ∙ pg)
 
-module _ (face : ℕ → ℕ → List (ℕ × ℕ) → List ℕ) (s : St) (id n : ℕ) (v : SeatView) (r : Kept face (opening_of v) s) (at : get_elem? s.views id ≡ some v) (spare : v.spare ≡ Some n) (off : v.shape.reservations ≡ 0) (kn : KnowsBook face v) where
+module _ (face : ℕ → ℕ → List (ℕ × ℕ) → List ℕ) (s : St) (id n : ℕ) (v : SeatView) (r : Kept face (opening_of v) s) (at : get_elem? s.views id ≡ some v) (spare : v.spare ≡ Some n) (kn : KnowsBook face v) where
   abbrev last : Cut
   last = last_cut (knows v).history
 
@@ -119,7 +119,7 @@ module _ (face : ℕ → ℕ → List (ℕ × ℕ) → List ℕ) (s : St) (id n 
   -- the changes of a lane that stand in the last cut
   record Lost (lane : ℕ) : Type 0 where
     list : List Change
-    few : length list ≤ 2 * v.shape.updates
+    few : v.shape.reservations ≡ 0 → length list ≤ 2 * v.shape.updates
     none : (key number : ℕ) → (HasChange lane (made key number) → ⊥) → times key number list ≡ 0
     past : (key number : ℕ) → serial_of last key < number → times key number list ≡ 0
     one : (key number : ℕ) → HasChange lane (made key number) → number ≤ serial_of last key → times key number list ≡ 1
@@ -151,7 +151,7 @@ module _ (face : ℕ → ℕ → List (ℕ × ℕ) → List ℕ) (s : St) (id n 
     lost_here : Lost lane
     lost_here = record {
       list = filter stays g.changes;
-      few = let short = filter_shorter stays g.changes in let t = r.changes.tallied off in let is = t.each i a w g sits ga in let le = t.few g.lane ((r.each_view i w sits).holds a g ga).exists in omega arith;
+      few = λ off. let short = filter_shorter stays g.changes in let t = r.changes.tallied off in let is = t.each i a w g sits ga in let le = t.few g.lane ((r.each_view i w sits).holds a g ga).exists in omega arith;
       none = λ key number f. let z = none_here key number f in let le = twice_less (test key number) stays g.changes in omega arith;
       past = λ key number lt. twice_none (test key number) stays
           (λ c is. let e1 = same_number key number c is in let e2 : serial_of last c.key ≡ serial_of last key = ap (serial_of last) (same_key key number c is) in
@@ -167,7 +167,7 @@ module _ (face : ℕ → ℕ → List (ℕ × ℕ) → List ℕ) (s : St) (id n 
   lost_of lane = ⊎_elim (λ t. lost_here lane t.0 t.3.0 t.1 t.3.1 t.2 t.3.2 t.3.3)
       (λ nobody. record {
         list = [];
-        few = omega arith;
+        few = λ _. omega arith;
         none = λ key number f. refl;
         past = λ key number lt. refl;
         one = λ key number f le. absurd (nobody (f.0, f.3.view, f.3.sits, (f.1, f.3.lane, f.3.held, f.4)));
@@ -329,27 +329,37 @@ module _ (face : ℕ → ℕ → List (ℕ × ℕ) → List ℕ) (s : St) (id n 
     ledger le = record { weight_of = weight_of; told = weighed_is; stored = all_stored; shown = shown; sums = sums le }
 
     -- the changes that the lead holds tally with the last cut that it knows, once those of the lanes that it does not hold are added
-    abbrev tallies_with_lost : (gone : ℕ) → gone + length v.held ≡ n → TalliesWithLost v.shape.updates gone first last (knows v).history (changes_of v.held)
-    tallies_with_lost gone total = record {
-      lost = lists;
+    abbrev tallies_with_others : (gone : ℕ) → gone + length v.held ≡ n → TalliesWithOthers gone first last (knows v).history (changes_of v.held)
+    tallies_with_others gone total = record {
+      lists = lists;
       one_each = let all = hits_all (λ (z : Held). ltb z.lane n) v.held (λ a g pa. lt-ltb g.lane n (r.apart.handed_out id id a n v v g at at spare pa)) in let c = away.counted in
           length-map away.list (λ lane. (lost_of lane).list) ∙ (let e : length away.list ≡ gone = omega arith in e);
-      few = all_map (λ (z : List Change). length z ≤ 2 * v.shape.updates) (λ lane. (lost_of lane).list) away.list (λ k lane p. (lost_of lane).few);
       together = tallies;
       weigh = weigh;
+    }
+
+    -- which are few where no record is used again
+    abbrev tallies_with_lost : v.shape.reservations ≡ 0 → (gone : ℕ) → gone + length v.held ≡ n → TalliesWithLost v.shape.updates gone first last (knows v).history (changes_of v.held)
+    tallies_with_lost off gone total = record {
+      all = tallies_with_others gone total;
+      few = all_map (λ (z : List Change). length z ≤ 2 * v.shape.updates) (λ lane. (lost_of lane).list) away.list (λ k lane p. (lost_of lane).few off);
     }
 
     pub held_few : length v.held ≤ n
     held_few = let all = hits_all (λ (z : Held). ltb z.lane n) v.held (λ a g pa. lt-ltb g.lane n (r.apart.handed_out id id a n v v g at at spare pa)) in let c = away.counted in omega arith
 
     -- and all of them keep one ledger
-    pub accounts_at_end : (back : ℕ) → length v.held ≡ back → IsAtMost first last
-        → (t : TalliesWithLost v.shape.updates (n - back) first last (knows v).history (changes_of v.held)) × IsLedger (record { shape = v.shape; book = v.seen }) v.shape.bits v.members (knows v).history (changes_of v.held ++ flat_map (λ list. list) t.lost)
-    accounts_at_end back is le = let few = held_few in (tallies_with_lost (n - back) (omega arith), ledger le)
+    pub accounts_so_far : IsAtMost first last
+        → (t : TalliesWithOthers (n - length v.held) first last (knows v).history (changes_of v.held)) × IsLedger (record { shape = v.shape; book = v.seen }) v.shape.bits v.members (knows v).history (changes_of v.held ++ flat_map (λ list. list) t.lists)
+    accounts_so_far le = let few = held_few in (tallies_with_others (n - length v.held) (omega arith), ledger le)
+
+    pub accounts_at_end : v.shape.reservations ≡ 0 → IsAtMost first last
+        → (t : TalliesWithLost v.shape.updates (n - length v.held) first last (knows v).history (changes_of v.held)) × IsLedger (record { shape = v.shape; book = v.seen }) v.shape.bits v.members (knows v).history (changes_of v.held ++ flat_map (λ list. list) t.all.lists)
+    accounts_at_end off le = let few = held_few in (tallies_with_lost off (n - length v.held) (omega arith), ledger le)
 
 -- where nothing is lost, the changes tally
 pub none_lost_tallies : (updates : ℕ) (first last : Cut) (history : List Cut) (changes : List Change) → TalliesWithLost updates 0 first last history changes → Tallies first last changes
-none_lost_tallies updates first last history changes t = subst (λ (z : List Change). Tallies first last z) (ap (λ (z : List Change). changes ++ z) (gone t.lost t.one_each) ∙ append-nil changes) t.together
+none_lost_tallies updates first last history changes t = subst (λ (z : List Change). Tallies first last z) (ap (λ (z : List Change). changes ++ z) (gone t.all.lists t.all.one_each) ∙ append-nil changes) t.all.together
   where
     gone : (lost : List (List Change)) → length lost ≡ 0 → flat_map (λ list. list) lost ≡ []
     gone [] e = refl

@@ -17,7 +17,7 @@ use Rattle.aug_core.specs.Cuts.{Cut, weight_at, set_of_cut, pairs_of_cut}
 use Rattle.aug_core.specs.inside.EntryCuts.{entry_of, IsPartOfCut}
 use Rattle.aug_core.specs.inside.RootCuts.{root_cut}
 use Rattle.aug_core.specs.Effects.{Covers, GuardsRecord, Says}
-use Rattle.aug_core.specs.Records.{IsClosed, floor_of}
+use Rattle.aug_core.specs.Records.{Lists, IsClosed, floor_of}
 use Rattle.aug_core.specs.declared.view.Entry.{Entry}
 use Rattle.aug_core.specs.declared.view.Reserved.{Reserved}
 use Rattle.aug_core.specs.declared.view.SeatView.{SeatView}
@@ -66,11 +66,9 @@ module _ {A B : Type 0} (parts_a : Parts A) (parts_b : Parts B) where
   covers_on number v reads q i e inner at (inl off) p j d born down = inl off
   covers_on number v reads q i e inner at (inr (x, is, made, past)) p j d born down = closed_on reads.closed
     where
-      closed_on : (v.shape.reservations ≡ 0) ⊎ ((y : Reserved) × (v.reserved ≡ Some y) × IsClosed v.shape v.seen (floor_of y)) → Covers v p j d
+      closed_on : (v.shape.reservations ≡ 0) ⊎ ((y : Reserved) → Lists v.reserved y → IsClosed v.shape v.seen (floor_of y)) → Covers v p j d
       closed_on (inl off) = inl off
-      closed_on (inr (y, is', closed)) = ⊎_elim (λ (used : 0 < v.shape.reservations).
-          let same : x ≡ y = ap (λ (z : Option Reserved). unwrap_or z x) (sym is ∙ is') in
-          inr (x, is, (let b = born used in omega (arith, b, made)), down (floor_of x) ((subst (λ (z : Reserved). IsClosed v.shape v.seen (floor_of z)) (sym same) closed).below q i e inner at past)))
+      closed_on (inr closed) = ⊎_elim (λ (used : 0 < v.shape.reservations). inr (x, is, (let b = born used in omega (arith, b, made)), down (floor_of x) ((closed x is).below q i e inner at past)))
           (λ (none : v.shape.reservations ≤ 0). inl (omega arith)) (cases_lt 0 v.shape.reservations)
 
   module _ (v : SeatView) (b : IsBook both v.shape v.seen) (cut : Cut) where

@@ -114,7 +114,7 @@ pub record Ends (crew : CrewFacts) (ended : EndedFacts) : Type 0 where
   pub no_calls : ended.calls ≡ 0
   pub is_history : IsHistory crew.round.bits crew.round.members crew.knows.history
   pub tallies : TalliesWithLost crew.round.updates ended.missing (opening_cut crew.round.bits crew.round.members) (last_cut crew.knows.history) crew.knows.history crew.knows.accepted
-  pub ledger : IsLedger crew.words crew.round.bits crew.round.members crew.knows.history (crew.knows.accepted ++ flat_map (λ list. list) tallies.lost)
+  pub ledger : IsLedger crew.words crew.round.bits crew.round.members crew.knows.history (crew.knows.accepted ++ flat_map (λ list. list) tallies.all.lists)
 
 -- the account of a round is closed to which all passes came back, with a load of the root, while its table is still there: the counts are those of the
 -- round, and its set is that of the last cut. All of its history is known then

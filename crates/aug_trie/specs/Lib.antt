@@ -19,7 +19,9 @@ pub mod Reader
 pub mod View
 pub mod Ended
 pub mod Crew
+pub mod LastingAccounts
 pub mod LastingTable
+pub mod LastingBatches
 pub mod Pops
 pub mod Climb
 pub mod Errors

@@ -13,6 +13,7 @@ pub mod EndedTree
 pub mod Goes
 pub mod Knows
 pub mod Lasting
+pub mod LastingRuns
 pub mod LastingState
 pub mod LeafPairs
 pub mod NamedCuts

@@ -1,6 +1,9 @@
 //! Passes of a table that lasts: they make thousands of updates with the records of a few. What an update comes to says what those before it left.
-ghost use Rattle.std.specs.Prelude.{◌≡◌, ◌+◌, ◌^◌, ◌<◌, IfErr, IfOk, None};
+ghost use Rattle.std.specs.Prelude.{◌≡◌, ◌+◌, ◌^◌, ◌<◌, ◌++◌, IfErr, IfOk, None};
+ghost use Rattle.aug_core.specs.Cuts.{opening_cut};
+ghost use Rattle.aug_trie.specs.History.{last_cut};
 ghost use Rattle.aug_trie.specs.Round.{table_of};
+ghost use Rattle.aug_trie.specs.Tallies.{Tallies};
 
 use crate::assertions::equal;
 use aug_monoid::{Extent, Sum};
@@ -252,6 +255,42 @@ fn an_update_tells_what_its_key_weighed_and_weighs(rt: HostRuntime) -> Result<()
     };
     let mut hand = next_hand(rt.alloc(), &mut crew, &table)?;
     equal(&rt, good_tells(&mut hand, &table), 9);
+    Ok(())
+}
+
+// Two passes come back, and the crew looks. If no other is out, the changes that it then knows are all that happened.
+fn taken_back(crew: &mut Crew, table: &Table, one: Hand, other: Hand)
+    requires together { table_of crew.old.round ≡ table.now }
+    requires one { one.pass.round ≡ crew.old.round }
+    requires other { other.pass.round ≡ crew.old.round }
+    ensures round { crew.new.round ≡ crew.old.round }
+    ensures changes { crew.new.knows.accepted ≡ crew.old.knows.accepted ++ one.pass.knows.accepted ++ other.pass.knows.accepted }
+    ensures all { crew.old.back + 2 ≡ crew.old.handed → Tallies (opening_cut crew.new.round.bits crew.new.round.members) (last_cut crew.new.knows.history) crew.new.knows.accepted }
+{
+    crew.back(table, one);
+    crew.back(table, other);
+    crew.look(table);
+}
+
+// The second comes back with an open look: if that still held its records, the third would soon have none, since its lane has six.
+#[test]
+fn passes_come_back_and_another_goes_on(rt: HostRuntime) -> Result<(), LastingError> {
+    let Ok((table, mut crew)) = opened(rt.alloc(), 3, 2) else {
+        return Err(LastingError::OutOfMemory);
+    };
+    let mut first = next_hand(rt.alloc(), &mut crew, &table)?;
+    let mut second = next_hand(rt.alloc(), &mut crew, &table)?;
+    equal(&rt, go_round(&mut first, &table, 0, 50), 50);
+    equal(&rt, go_round(&mut second, &table, 4, 50), 50);
+    second.look(&table);
+    taken_back(&mut crew, &table, first, second);
+    let mut third = next_hand(rt.alloc(), &mut crew, &table)?;
+    equal(&rt, go_round(&mut third, &table, 0, 500), 500);
+    equal(
+        &rt,
+        crew.pass(rt.alloc(), &table).err(),
+        Some(LastingError::NoLane),
+    );
     Ok(())
 }
 

@@ -13,6 +13,8 @@ mod granting;
 #[cfg(test)]
 mod lasting;
 #[cfg(test)]
+mod lasting_batches;
+#[cfg(test)]
 mod looks;
 #[cfg(test)]
 mod playing;

@@ -1,6 +1,5 @@
 -- The words of a node and of its children, loaded so that what is reserved holds the records that they name.
-use Rattle.std.proofs.Common.{◌≡◌, ◌⊎◌, inl, inr, ◌&&◌, ◌||◌, Bool, nat_le, nat_lt, true, Some, false, ℕ, zero, suc, ◌+◌, ◌-◌, ◌*◌, ◌^◌, ◌<◌, ◌≤◌, List, [], ◌∷◌, ◌++◌, length-append, append_assoc, refl, sym, ap, ◌∙◌, subst, arith}
-use Rattle.std.specs.Prelude.{Option, unwrap_or, option_map}
+use Rattle.std.proofs.Common.{◌≡◌, ◌⊎◌, inl, inr, ◌&&◌, ◌||◌, Bool, nat_le, nat_lt, true, false, ℕ, zero, suc, ◌+◌, ◌-◌, ◌*◌, ◌^◌, ◌<◌, ◌≤◌, List, [], ◌∷◌, ◌++◌, length-append, append_assoc, refl, sym, ap, ◌∙◌, subst, arith}
 use Rattle.std.proofs.lemmas.Bool.{true≢false, leb-true, leb-false, ltb-true, ltb-false, and_cases, and_parts, or_parts, false_from_ne_true}
 use Rattle.std.proofs.lemmas.List.{append-nil}
 use Rattle.std.proofs.lemmas.List.Elements.{All-append}
@@ -8,8 +7,8 @@ use Rattle.aug_core.specs.Places.{Shape, era_place}
 use Rattle.aug_core.specs.Addresses.{IsInner, left_of, right_of}
 use Rattle.aug_core.specs.Book.{Book, ArePrefixes, IsFresh, IsBook, At}
 use Rattle.aug_core.specs.Kinds.{load_leaf, load_node, load_era}
-use Rattle.aug_core.specs.Records.{IsClosed, floor_of}
-use Rattle.aug_core.specs.Effects.{Covers, LoadsLeaf, LoadsNode, Sees, seeing}
+use Rattle.aug_core.specs.Records.{Lists, IsClosed, floor_of}
+use Rattle.aug_core.specs.Effects.{LoadsLeaf, LoadsNode, Sees, seeing}
 use Rattle.aug_core.specs.declared.step.StepTaken.{StepTaken}
 use Rattle.aug_core.specs.declared.view.Entry.{Entry}
 use Rattle.aug_core.specs.declared.view.Reserved.{Reserved}
@@ -18,9 +17,9 @@ use Rattle.aug_core.proofs.PlaceLemmas.{double_pow}
 use Rattle.aug_core.proofs.Books.{no_shorter, fresh_now, fresh_on}
 use Rattle.aug_core.proofs.PrefixLemmas.{book_refl, book_trans, entry_stays}
 use Rattle.aug_core.proofs.Refreshing.{is_loaded}
-use Rattle.aug_words.specs.Stocks.{StockFacts, Stocks, number_in_word, birth_in_word, ReservesAnew, IsLate, GoesBy, HasSeenLater, HasSeenLaterOver, HoldsThree, LoadsOver, LoadsHeld}
+use Rattle.aug_words.specs.Stocks.{StockFacts, CoversBy, Stocks, number_in_word, birth_in_word, ReservesAnew, IsLate, GoesBy, HasSeenLater, HasSeenLaterOver, HoldsThree, LoadsOver, LoadsHeld}
 use Rattle.aug_words.specs.inside.Stocking.{covers_three, GoesStill, LoadsWord, LoadsWords}
-use Rattle.aug_words.proofs.Stocking.{tries_leaf, quiet, no_try_none, no_try_one, number_named, birth_named, named_used, stocks_on}
+use Rattle.aug_words.proofs.Stocking.{tries_leaf, quiet, no_try_none, no_try_one, number_named, birth_named, named_used, stocks_same}
 
 -- ---- steps, one after another
 
@@ -77,7 +76,7 @@ far_on a b q e x = subst (λ z. z ≤ 2 * (q - z)) e x
 
 -- the stock stays
 pub stocks_still : (most : ℕ) (v w : SeatView) (k : StockFacts) → Stocks v k → GoesStill most v w → Stocks w k
-stocks_still most v w k s c = let is = c.goes.same in stocks_on v w k k.era s (ap (λ (z : SeatView). z.shape) is) (ap (λ (z : SeatView). z.held) is) (s.era ∙ ap (λ (z : Option Reserved). unwrap_or (option_map (λ (y : Reserved). y.era) z) 0) (sym c.reserves))
+stocks_still most v w k s c = let is = c.goes.same in stocks_same v w k s (ap (λ (z : SeatView). z.shape) is) (ap (λ (z : SeatView). z.held) is) c.reserves
 
 -- what tests that were passed say
 second_true : (x y : Bool) → x ≡ false → (x || y) ≡ true → y ≡ true
@@ -148,8 +147,8 @@ module _ (face : ℕ → ℕ → List (ℕ × ℕ) → List ℕ) where
           right_no_older = let long = r.newest.newest.last in let n = no_shorter w.seen v.seen (book_trans later.later rc.later) (right_of v.shape q) in omega arith;
         };
         holds = first.holds inner;
-        left_holds = λ below x is. l.holds (subst (λ (z : Shape). IsInner z (left_of v.shape q)) (sym sa) below) x (first.still.reserves ∙ is);
-        right_holds = λ below x is. r.holds (subst (λ (z : Shape). IsInner z (right_of v.shape q)) (sym sb) below) x (l.still.reserves ∙ first.still.reserves ∙ is);
+        left_holds = λ below x is. l.holds (subst (λ (z : Shape). IsInner z (left_of v.shape q)) (sym sa) below) x (subst (λ (z : List Reserved). Lists z x) (sym first.still.reserves) is);
+        right_holds = λ below x is. r.holds (subst (λ (z : Shape). IsInner z (right_of v.shape q)) (sym sb) below) x (subst (λ (z : List Reserved). Lists z x) (sym (l.still.reserves ∙ first.still.reserves)) is);
       }
 
   -- ---- what is reserved holds them
@@ -166,9 +165,9 @@ module _ (face : ℕ → ℕ → List (ℕ × ℕ) → List ℕ) where
   even_past s q inner within = even s.bits q inner.past_leaves inner.inside within.past_leaves
 
   -- what is reserved holds the record of an entry that it is late enough for
-  pub covered : (v w : SeatView) (k : StockFacts) (q i word : ℕ) (e : Entry) (x : Reserved) → v.reserved ≡ Some x → w.reserved ≡ v.reserved → Stocks v k → IsBook face v.shape w.seen → IsInner v.shape q → At w.seen q i e → word ≡ e.word → birth_in_word word ≤ k.era → floor_of x q ≤ i → Covers w q i e
-  covered v w k q i word e x is same s book inner at named early past = let below = book.below q i e inner at in let few = s.numbers in let birth = born_at v.shape w.seen q i word e s.used book inner at named (omega arith) in
-      let era : k.era ≡ x.era = s.era ∙ ap (λ (z : Option Reserved). unwrap_or (option_map (λ (y : Reserved). y.era) z) 0) is in inr (x, same ∙ is, omega arith, past)
+  pub covered : (v w : SeatView) (k : StockFacts) (q i word : ℕ) (e : Entry) (x : Reserved) → x.era ≡ k.era → Stocks v k → IsBook face v.shape w.seen → IsInner v.shape q → At w.seen q i e → word ≡ e.word → birth_in_word word ≤ k.era → floor_of x q ≤ i → CoversBy x q i e
+  covered v w k q i word e x is s book inner at named early past = let below = book.below q i e inner at in let few = s.numbers in let birth = born_at v.shape w.seen q i word e s.used book inner at named (omega arith) in
+      (omega arith, past)
 
   -- the record of an entry that it is too early for was born later
   seen_later : (v w : SeatView) (k : StockFacts) (q i word : ℕ) (e : Entry) → w.shape ≡ v.shape → Stocks v k → IsBook face v.shape w.seen → IsInner v.shape q → At w.seen q i e → word ≡ e.word → nat_le (birth_in_word word) k.era ≡ false → HasSeenLater w q k.era
@@ -193,37 +192,54 @@ module _ (face : ℕ → ℕ → List (ℕ × ℕ) → List ℕ) where
         | inr children ↦ (let parts = or_parts (nat_lt (2 * (q - leaves)) leaves) _ children in let far : leaves ≤ 2 * (q - leaves) = ltb-false _ _ parts.0 in inr (below (far_on leaves (2 ^ v.shape.bits) q are far) parts.1))
       ])
 
-  pub word_held : (v w : SeatView) (k : StockFacts) (q r : ℕ) (x : Reserved) → v.reserved ≡ Some x → Stocks v k → IsInner v.shape q → birth_in_word r ≤ k.era → LoadsNode face v q r w → LoadsHeld face 1 v q r w
-  word_held v w k q r x is s inner low n = let l = word_of_node_loaded v w q r n in record {
+  pub word_held : (v w : SeatView) (k : StockFacts) (q r : ℕ) → 0 < k.era → Stocks v k → IsInner v.shape q → birth_in_word r ≤ k.era → LoadsNode face v q r w → LoadsHeld face 1 v q r w
+  word_held v w k q r some s inner low n = let l = word_of_node_loaded v w q r n in let y = s.era.held some in let same : (x : Reserved) → Lists w.reserved x → Lists v.reserved x = λ x. subst (λ (z : List Reserved). Lists z x) l.still.reserves in record {
     goes = l.still.goes;
+    before = [];
+    last = ap (λ (z : SeatView). z.steps) n.stepped;
     book = subst (λ (z : Shape). IsBook face z w.seen) (sym (ap (λ (z : SeatView). z.shape) n.stepped)) l.book;
     index = n.index;
     entry = n.entry;
     newest = n.newest;
     found = n.found;
     shown = n.shown;
-    covers = covered v w k q n.index r n.entry x is l.still.reserves s l.book inner n.newest.at n.found low (n.held x is).0;
-    closed = λ y found. subst (λ (z : Shape). IsClosed z w.seen (floor_of y)) (sym (ap (λ (z : SeatView). z.shape) n.stepped)) (n.held y (sym l.still.reserves ∙ found)).1;
+    covers = let c = covered v w k q n.index r n.entry y.0 y.3 s l.book inner n.newest.at n.found low (n.held y.0 y.1).0 in inr (y.0, subst (λ (z : List Reserved). Lists z y.0) (sym l.still.reserves) y.1, c.0, c.1);
+    closed = λ x found. subst (λ (z : Shape). IsClosed z w.seen (floor_of x)) (sym (ap (λ (z : SeatView). z.shape) n.stepped)) (n.held x (same x found)).1;
   }
 
   pub held_before : (m n k : ℕ) (u v w : SeatView) (q r : ℕ) → m + n ≤ k → GoesBy m u v → LoadsHeld face n v q r w → LoadsHeld face k u q r w
-  held_before m n k u v w q r fits c l = record { goes = goes_by_on m n k u v w fits c l.goes; book = l.book; index = l.index; entry = l.entry; newest = l.newest; found = l.found; shown = l.shown; covers = l.covers; closed = l.closed }
+  held_before m n k u v w q r fits c l = let load : List StepTaken = load_node q r ∷ [] in record {
+    goes = goes_by_on m n k u v w fits c l.goes;
+    before = c.more ++ l.before;
+    last = l.last ∙ ap (λ (z : List StepTaken). z ++ (l.before ++ load)) c.steps ∙ append_assoc u.steps c.more (l.before ++ load) ∙ ap (λ (z : List StepTaken). u.steps ++ z) (sym (append_assoc c.more l.before load));
+    book = l.book;
+    index = l.index;
+    entry = l.entry;
+    newest = l.newest;
+    found = l.found;
+    shown = l.shown;
+    covers = l.covers;
+    closed = l.closed;
+  }
 
-  pub three_held : (v w : SeatView) (k : StockFacts) (q : ℕ) (r : ℕ × ℕ × ℕ) (x : Reserved) → v.reserved ≡ Some x → Stocks v k → IsInner v.shape q → birth_in_word r.0 ≤ k.era → (2 ^ v.shape.bits ≤ left_of v.shape q → (birth_in_word r.1 ≤ k.era) × (birth_in_word r.2 ≤ k.era))
-      → LoadsWords face v q r w → LoadsOver face 3 v q r w
-  three_held v w k q r x is s inner low lows l = let c = l.still.goes in let shaped : w.shape ≡ v.shape = ap (λ (z : SeatView). z.shape) c.same in let o = l.loads in let t = o.is_loaded in let same = l.still.reserves in record {
+  pub three_held : (v w : SeatView) (k : StockFacts) (q : ℕ) (r : ℕ × ℕ × ℕ) → 0 < k.era → Stocks v k → IsInner v.shape q → birth_in_word r.0 ≤ k.era → (2 ^ v.shape.bits ≤ left_of v.shape q → (birth_in_word r.1 ≤ k.era) × (birth_in_word r.2 ≤ k.era))
+      → LoadsWords face v q r w → LoadsOver face 3 k.era v q r w
+  three_held v w k q r some s inner low lows l = let c = l.still.goes in let shaped : w.shape ≡ v.shape = ap (λ (z : SeatView). z.shape) c.same in let o = l.loads in let t = o.is_loaded in let y = s.era.held some in record {
     goes = c;
-    holds = subst (λ (z : Shape). HoldsThree face z v q r w) (sym shaped) record {
+    holds = subst (λ (z : Shape). HoldsThree face z k.era v q r w) (sym shaped) record {
       loads = o;
-      covers = covered v w k q t.index r.0 t.from x is same s o.book inner t.loaded t.named low (l.holds x is);
-      left_covers = λ below. covered v w k (left_of v.shape q) t.left_index r.1 t.left x is same s o.book below t.left_at o.left_named (lows below.past_leaves).0 (l.left_holds below x is);
-      right_covers = λ below. covered v w k (right_of v.shape q) t.right_index r.2 t.right x is same s o.book below t.right_at o.right_named (lows (even_past v.shape q inner below)).1 (l.right_holds below x is);
+      by = y.0;
+      listed = subst (λ (z : List Reserved). Lists z y.0) (sym l.still.reserves) y.1;
+      era_is = y.3;
+      covers = covered v w k q t.index r.0 t.from y.0 y.3 s o.book inner t.loaded t.named low (l.holds y.0 y.1);
+      left_covers = λ below. covered v w k (left_of v.shape q) t.left_index r.1 t.left y.0 y.3 s o.book below t.left_at o.left_named (lows below.past_leaves).0 (l.left_holds below y.0 y.1);
+      right_covers = λ below. covered v w k (right_of v.shape q) t.right_index r.2 t.right y.0 y.3 s o.book below t.right_at o.right_named (lows (even_past v.shape q inner below)).1 (l.right_holds below y.0 y.1);
     };
   }
 
   -- what is loaded later is no older either
-  pub over_before : (m n k : ℕ) (u v w : SeatView) (q : ℕ) (r : ℕ × ℕ × ℕ) → m + n ≤ k → GoesBy m u v → LoadsOver face n v q r w → LoadsOver face k u q r w
-  over_before m n k u v w q r fits c l = let h = l.holds in let o = h.loads in record {
+  pub over_before : (m n k era : ℕ) (u v w : SeatView) (q : ℕ) (r : ℕ × ℕ × ℕ) → m + n ≤ k → GoesBy m u v → LoadsOver face n era v q r w → LoadsOver face k era u q r w
+  over_before m n k era u v w q r fits c l = let h = l.holds in let o = h.loads in record {
     goes = goes_by_on m n k u v w fits c l.goes;
     holds = record {
       loads = record {
@@ -235,6 +251,9 @@ module _ (face : ℕ → ℕ → List (ℕ × ℕ) → List ℕ) where
         left_no_older = let a = o.left_no_older in let b = no_shorter v.seen u.seen c.later (left_of w.shape q) in omega arith;
         right_no_older = let a = o.right_no_older in let b = no_shorter v.seen u.seen c.later (right_of w.shape q) in omega arith;
       };
+      by = h.by;
+      listed = h.listed;
+      era_is = h.era_is;
       covers = h.covers;
       left_covers = h.left_covers;
       right_covers = h.right_covers;

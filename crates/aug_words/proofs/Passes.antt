@@ -1,12 +1,12 @@
 -- The seat of a pass after a step.
-use Rattle.std.proofs.Common.{arith, Bool, ◌≡◌, ℕ, ◌+◌, ◌*◌, ◌<◌, ◌≤◌, List, [], ◌∷◌, ◌++◌, refl, sym, ap, ◌∙◌, subst, ⊎_elim, Some, None}
-use Rattle.std.specs.Prelude.{Option}
+use Rattle.std.proofs.Common.{arith, Bool, ◌≡◌, ℕ, ◌+◌, ◌*◌, ◌<◌, ◌≤◌, List, [], ◌∷◌, ◌++◌, refl, sym, ap, ◌∙◌, subst, ⊎_elim}
+use Rattle.std.proofs.Math.Nat.{mod-eq_of_lt}
 use Rattle.aug_words.specs.Reservations.{HasReservations}
 use Rattle.aug_core.specs.inside.Reclaims.{MayReserve}
 use Rattle.aug_core.specs.declared.view.Reserved.{Reserved}
-use Rattle.aug_core.specs.Reclaiming.{reaching, Reserves, releasing, retiring, retiring_in, scanning, scanning_in}
+use Rattle.aug_core.specs.Reclaiming.{but_slot, reaching, Reserves, releasing, retiring, retiring_in, scanning, scanning_in}
 use Rattle.atomic_table.specs.Seated.{TableId}
-use Rattle.aug_core.specs.Places.{Shape, lane_place, record_start, record_count, record_words, word_count}
+use Rattle.aug_core.specs.Places.{Shape, lane_place, record_start, record_count, record_words, reservation_place, word_count}
 use Rattle.aug_core.specs.Book.{Book}
 use Rattle.std.proofs.lemmas.Bool.{cases_eq}
 use Rattle.aug_core.specs.Effects.{Sat, stepping, old_word, new_word, made_by, with_changes, last_replaced, publishing_from, Sees, LoadsLeaf, BeginsAtLeaf, LoadsNode, TriesLeaf, TriesNode, GuardsRecord, KnowsBook, MayStore, ReadsRecord, IsFilled, on_first, storing_in, going_from, storing, beginning, own_lane}
@@ -121,7 +121,7 @@ module _ (face : ℕ → ℕ → List (ℕ × ℕ) → List ℕ) (a a' t : Table
       (λ miss. watched me.0.began (me.0.steps ++ taken ∷ []) empty (did.miss miss).0 did.sees) (cases_eq found old)
 
   -- a pass that was shown nothing of the book
-  kept : (h : Held) (held : List Held) (reserved : Option Reserved) (reached : ℕ) (steps : List StepTaken) → held ≡ h ∷ [] → h.lane ≡ lane → h.state ≡ Taken → me'.1 ≡ [] → me'.0 ≡ record me.0 { held = held; reserved = reserved; reached = reached; steps = steps }
+  kept : (h : Held) (held : List Held) (reserved : List Reserved) (reached : ℕ) (steps : List StepTaken) → held ≡ h ∷ [] → h.lane ≡ lane → h.state ≡ Taken → me'.1 ≡ [] → me'.0 ≡ record me.0 { held = held; reserved = reserved; reached = reached; steps = steps }
       → HasPassSeat face a' t b l r lane lent me'
   kept h held reserved reached steps only named taken empty is = let seat = is_pass.seat in record {
     sits = sits_on a a' t b l r me.0 me'.0 is_pass.sits one (ap (λ (z : SeatView). z.shape) is) (ap (λ (z : SeatView). z.base) is);
@@ -151,11 +151,11 @@ module _ (face : ℕ → ℕ → List (ℕ × ℕ) → List ℕ) (a a' t : Table
   pub pass_reached : (era : ℕ) (taken : StepTaken) → me'.1 ≡ [] → me'.0 ≡ reaching me.0 era taken → HasPassSeat face a' t b l r lane lent me'
   pass_reached era taken empty is = let seat = is_pass.seat in kept seat.held me.0.held me.0.reserved era (me.0.steps ++ taken ∷ []) seat.only seat.named seat.taken empty is
 
-  pub pass_reserved : (place era : ℕ) → (me'.1 ≡ []) × Reserves me.0 place era me'.0 → HasPassSeat face a' t b l r lane lent me'
-  pass_reserved place era did = let seat = is_pass.seat in kept seat.held me.0.held (Some did.1.now) me.0.reached (me.0.steps ++ store_reservation place era ∷ []) seat.only seat.named seat.taken did.0 did.1.stepped
+  pub pass_reserved : (slot era : ℕ) → (me'.1 ≡ []) × Reserves me.0 slot era me'.0 → HasPassSeat face a' t b l r lane lent me'
+  pass_reserved slot era did = let seat = is_pass.seat in kept seat.held me.0.held (did.1.now ∷ but_slot slot me.0.reserved) me.0.reached (me.0.steps ++ store_reservation (reservation_place me.0.shape slot) era ∷ []) seat.only seat.named seat.taken did.0 did.1.stepped
 
-  pub pass_released : (place : ℕ) → (me'.1 ≡ []) × (me'.0 ≡ releasing me.0 place) → HasPassSeat face a' t b l r lane lent me'
-  pass_released place did = let seat = is_pass.seat in kept seat.held me.0.held None me.0.reached (me.0.steps ++ store_reservation place 0 ∷ []) seat.only seat.named seat.taken did.0 did.1
+  pub pass_released : (slot : ℕ) → (me'.1 ≡ []) × (me'.0 ≡ releasing me.0 slot) → HasPassSeat face a' t b l r lane lent me'
+  pass_released slot did = let seat = is_pass.seat in kept seat.held me.0.held (but_slot slot me.0.reserved) me.0.reached (me.0.steps ++ store_reservation (reservation_place me.0.shape slot) 0 ∷ []) seat.only seat.named seat.taken did.0 did.1
 
   pub pass_retired : (era : ℕ) (taken : StepTaken) → me'.1 ≡ [] → me'.0 ≡ retiring me.0 era taken → HasPassSeat face a' t b l r lane lent me'
   pass_retired era taken empty is = let seat = is_pass.seat in
@@ -174,8 +174,8 @@ module _ (face : ℕ → ℕ → List (ℕ × ℕ) → List ℕ) (lane lent : �
   own_lane_is = sym seat.named ∙ ap own_lane (sym seat.only)
 
   -- and has a reservation, where each lane has one
-  pub has_reservation : HasReservations me.0 → MayReserve me.0
-  has_reservation slots = record { lane = seat.held; only = seat.only; has_slot = subst (λ (z : ℕ). z < me.0.shape.reservations) (sym seat.named) (let low = seat.exists in omega arith) }
+  pub has_reservation : HasReservations me.0 → MayReserve me.0 lane
+  has_reservation slots = record { lane = seat.held; only = seat.only; own = mod-eq_of_lt seat.exists ∙ sym seat.named; exists = let low = seat.exists in omega arith }
 
   -- so that it is at work
   pub works_on : IsAtWork me.0

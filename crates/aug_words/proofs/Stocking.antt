@@ -1,11 +1,11 @@
 -- The records of a lane, as its pass keeps them.
-use Rattle.std.proofs.Common.{Some, true, false, ◌≡◌, ◌≢◌, ◌⊎◌, inl, inr, ℕ, zero, suc, ◌+◌, ◌-◌, ◌*◌, ◌^◌, ◌<◌, ◌≤◌, Bool, not, eqb-true, eq-eqb, ne_eqb, List, [], ◌∷◌, ◌++◌, length, map, get_or, set, length-set, get_or-set_same, get_or-set_other, length-append, if◌then◌else◌, append_assoc, add-one, refl, sym, ap, ◌∙◌, subst, ⊎_elim, arith}
-use Rattle.std.specs.Prelude.{Option, ◌==◌, unwrap_or, option_map, All}
-use Rattle.std.proofs.lemmas.Bool.{cases_eq, cases_lt}
+use Rattle.std.proofs.Common.{true, false, ◌≡◌, ◌≢◌, ◌⊎◌, inl, inr, ℕ, zero, suc, ◌+◌, ◌-◌, ◌*◌, ◌^◌, ◌<◌, ◌≤◌, Bool, not, eqb, eqb-true, eq-eqb, ne_eqb, List, [], ◌∷◌, ◌++◌, length, map, get_or, set, length-set, get_or-set_same, get_or-set_other, length-append, if◌then◌else◌, append_assoc, add-one, refl, sym, ap, ◌∙◌, subst, ⊎_elim, arith}
+use Rattle.std.specs.Prelude.{Option, ◌==◌, nat_le, nat_lt, unwrap_or, All}
+use Rattle.std.proofs.lemmas.Bool.{cases_eq, cases_lt, leb-true, ltb-true}
 use Rattle.std.proofs.lemmas.List.{append-nil, map-id}
 use Rattle.std.proofs.lemmas.List.Elements.{All-nil, All-cons, All-append}
 use Rattle.std.proofs.lemmas.List.FromFn.{length-map-range_with_len}
-use mathlib.Core.Bool.{false≢true}
+use mathlib.Core.Bool.{true≢false, false≢true}
 use Rattle.aug_core.specs.Places.{Shape, record_start, record_count, record_words, era_place, reservation_place}
 use Rattle.aug_core.specs.Lanes.{first_record, lane_records, new_lane}
 use Rattle.aug_core.specs.declared.view.LaneState.TheVariants.{Taken}
@@ -13,9 +13,9 @@ use Rattle.aug_words.specs.Leads.{HandsLaneOut}
 use Rattle.aug_words.specs.Reservations.{LoadsEra}
 use Rattle.aug_core.specs.Book.{Book, word_of_node}
 use Rattle.aug_core.specs.Kinds.{load_era, load_reservation, store_reservation, try_node}
-use Rattle.aug_core.specs.Records.{Lists, IsClosed, floor_of}
-use Rattle.aug_core.specs.Effects.{HoldsOnly, MayStore, handed_out, in_state, own_lane, own_lane_place, reserved_by, on_first, storing, storing_in, with_word, last_replaced, publishing, publishing_from, ReplacesOther, TriesNode}
-use Rattle.aug_core.specs.Reclaiming.{holds_in, passed_if, passed_record, scanning_in, scanning, retired_in, retiring_in, retiring, reaching, Reserves}
+use Rattle.aug_core.specs.Records.{Lists, IsClosed, first_era, floor_of}
+use Rattle.aug_core.specs.Effects.{HoldsOnly, MayStore, handed_out, in_state, own_lane, own_lane_place, on_first, storing, storing_in, with_word, last_replaced, publishing, publishing_from, ReplacesOther, TriesNode}
+use Rattle.aug_core.specs.Reclaiming.{holds_in, passed_if, passed_record, scanning_in, scanning, retired_in, retiring_in, retiring, reaching, releasing, but_slot, Reserves}
 use Rattle.aug_core.specs.declared.step.StepKind.{StepKind}
 use Rattle.aug_core.specs.declared.step.StepKind.TheVariants.{LoadLeaf, TryLeaf, LoadNode, TryNode, LoadRecordWord, StoreRecordWord, TakeLane, FinishLane, LoadEra, TurnEra, LoadReservation, StoreReservation}
 use Rattle.aug_core.specs.declared.step.StepTaken.{StepTaken}
@@ -26,11 +26,12 @@ use Rattle.aug_core.specs.declared.view.Replaced.{Replaced}
 use Rattle.aug_core.specs.declared.view.Reserved.{Reserved}
 use Rattle.aug_core.specs.declared.view.SeatView.{SeatView}
 use Rattle.aug_core.specs.inside.Refreshes.{stored}
+use Rattle.aug_core.proofs.Keeping.{lists_none}
 use Rattle.aug_core.proofs.Counting.{at_longer, at_after}
-use Rattle.aug_core.proofs.Owning.{map_listed, filter_listed, with_long}
+use Rattle.aug_core.proofs.Owning.{listed_first, listed_filter, map_listed, filter_listed, with_long}
 use Rattle.aug_core.proofs.Clients.{after_store, new_lane_owns, may_store_same, may_store_publishing}
 use Rattle.aug_words.specs.Seats.{IsNextLane, TriedNode}
-use Rattle.aug_words.specs.Stocks.{naming, number_in_word, birth_in_word, StockFacts, OpensStock, HasReplaced, HasWaiting, Stocks, scan_steps, IsHeld, ReservesAnew, Scans}
+use Rattle.aug_words.specs.Stocks.{naming, number_in_word, birth_in_word, StockFacts, OpensStock, HasReplaced, HasWaiting, ReservesAt, Stocks, scan_steps, IsHeld, ReservesAnew, Scans}
 use Rattle.aug_words.specs.inside.Stocking.{passed_all, passing_all, HasLoaded, Sorts}
 
 -- ---- steps that exchange no leaf
@@ -174,7 +175,7 @@ stocks_opened v opens words deaths n used numbers all long at = record {
   only = opens.only;
   used = used;
   numbers = numbers;
-  era = ap (λ (z : Option Reserved). unwrap_or (option_map (λ (x : Reserved). x.era) z) 0) (sym opens.none);
+  era = record { held = λ any. absurd (omega arith); one = λ x listed same. absurd (lists_none v.reserved x opens.none listed) };
   free = λ i low. subst (MayStore v) (sym (number_at i low)) (opens.owns i (omega arith));
   replaced = λ i past low. absurd (omega arith);
   waits = λ i past low. absurd (omega arith);
@@ -198,8 +199,22 @@ of_lane v k i s low = ⊎_elim
     (λ late. let t = s.waits i late low in let exists = t.exists in let numbers = s.numbers in
     inl (s.lane, s.only, t.own, t.listed, sym (ap number_in_word t.named ∙ number_named t.own.life.birth t.own.number (omega arith)))) (cases_lt i (k.free + k.replaced))) (cases_lt i k.free)
 
+-- a reservation with this place is none of the others
+not_there : (slot : ℕ) (reserved : List Reserved) (y : Reserved) → Lists (but_slot slot reserved) y → y.slot ≡ slot → ⊥
+not_there slot reserved y listed same = true≢false (sym (listed_filter (λ z. not (eqb z.slot slot)) reserved y listed).1 ∙ ap not (eq-eqb y.slot slot same))
+
+-- what is reserved after a reservation was made, and after it was let go of
+pub reserves_now : (x : Reserved) (slot era : ℕ) (reserved : List Reserved) → 0 < era → x.slot ≡ slot → x.era ≡ era → ReservesAt (x ∷ but_slot slot reserved) slot era
+reserves_now x slot era reserved some is era_is = record {
+  held = λ any. (x, (0, refl), is, era_is);
+  one = λ y listed same. ⊎_elim (λ first. (ap (λ (z : Reserved). z.era) first ∙ era_is, some)) (λ other. absurd (not_there slot reserved y other same)) (listed_first x (but_slot slot reserved) y listed);
+}
+
+pub reserves_none : (slot : ℕ) (reserved : List Reserved) → ReservesAt (but_slot slot reserved) slot 0
+reserves_none slot reserved = record { held = λ any. absurd (omega arith); one = λ y listed same. absurd (not_there slot reserved y listed same) }
+
 -- a step that leaves the lane as it was leaves its stock
-pub stocks_on : (v w : SeatView) (k : StockFacts) (era : ℕ) → Stocks v k → w.shape ≡ v.shape → w.held ≡ v.held → era ≡ reserved_by w → Stocks w (record k { era = era })
+pub stocks_on : (v w : SeatView) (k : StockFacts) (era : ℕ) → (s : Stocks v k) → w.shape ≡ v.shape → w.held ≡ v.held → ReservesAt w.reserved s.lane.lane era → Stocks w (record k { era = era })
 stocks_on v w k era s shaped held is = record {
   lane = s.lane;
   only = held ∙ s.only;
@@ -212,6 +227,10 @@ stocks_on v w k era s shaped held is = record {
   counted = s.counted;
   once = s.once;
 }
+
+-- and so does one that leaves what is reserved too
+pub stocks_same : (v w : SeatView) (k : StockFacts) → Stocks v k → w.shape ≡ v.shape → w.held ≡ v.held → w.reserved ≡ v.reserved → Stocks w k
+stocks_same v w k s shaped held reserved = stocks_on v w k k.era s shaped held (subst (λ (z : List Reserved). ReservesAt z s.lane.lane k.era) (sym reserved) s.era)
 
 pub named_used : (s : Shape) (birth number : ℕ) → 0 < s.reservations → word_of_node s birth number ≡ naming birth number
 named_used s birth number used = ap (λ (b : Bool). if b then number else birth * 2 ^ 24 + number) (ne_eqb s.reservations 0 (λ is. absurd (omega arith)))
@@ -364,6 +383,18 @@ module _ (i f : ℕ) where
 pub sorts_none : (eras : List ℕ) (k : StockFacts) → k.free ≤ length k.words → Sorts eras k k k.free
 sorts_none eras k few = record { frees = omega arith; few = few; long = refl; long_deaths = refl; replaced = refl; era = refl; was = λ i. i; inside = λ i low. low; words = λ i low. refl; deaths = λ i low. refl; once = λ i j low low' same. same; first = λ i low. refl; past = λ i le. le; freed = λ i past low. absurd (omega arith); held = λ i past low. absurd (omega arith) }
 
+-- what is held was retired no earlier than in the first era of what holds it
+held_ends : (some_era born died : Bool) → (if some_era then (if born then died else false) else false) ≡ true → (some_era ≡ true) × (died ≡ true)
+held_ends true true died held = (refl, held)
+held_ends true false died held = cc
+held_ends false born died held = cc
+
+-- so what was retired before all of them is held by none
+pub none_before : (eras : List ℕ) (lowest birth death : ℕ) → ((slot : ℕ) → slot < length eras → 0 < get_or eras slot 0 → lowest ≤ first_era (get_or eras slot 0)) → death < lowest
+    → (slot : ℕ) → slot < length eras → IsHeld (get_or eras slot 0) birth death → ⊥
+none_before eras lowest birth death least early slot low held = let era = get_or eras slot 0 in let ends = held_ends (nat_lt 0 era) (nat_le birth era) (nat_le (first_era era) death) held in
+    let le = least slot low (ltb-true 0 era ends.0) in let died = leb-true (first_era era) death ends.1 in omega arith
+
 module _ (eras : List ℕ) (k a : StockFacts) (i : ℕ) (low : i < length k.words) (s : Sorts eras k a i) where
   -- one more is held
   pub sorts_held : (slot : ℕ) × (slot < length eras) × IsHeld (get_or eras slot 0) (birth_in_word (get_or a.words i 0)) (get_or a.deaths i 0) → Sorts eras k a (i + 1)
@@ -485,7 +516,7 @@ module _ (v w : SeatView) (k after : StockFacts) (eras : ℕ → ℕ) (list : Li
     only = only_now s.lane s.only;
     used = subst (λ (z : Shape). 0 < z.reservations) (sym same_shape) s.used;
     numbers = subst (λ (z : Shape). record_count z ≤ 2 ^ 24) (sym same_shape) s.numbers;
-    era = sorted.era ∙ s.era ∙ ap reserved_by (sym l.same);
+    era = subst (λ (z : List Reserved × ℕ). ReservesAt z.0 s.lane.lane z.1) (λ i. (ap (λ (z : SeatView). z.reserved) (sym l.same) i, sym sorted.era i)) s.era;
     free = free_now;
     replaced = λ i past low. absurd (omega arith);
     waits = λ i past low. let le = sorted.past i (omega arith) in let inside = sorted.inside i (omega arith) in
@@ -503,7 +534,7 @@ module _ (v w : SeatView) (k after : StockFacts) (eras : ℕ → ℕ) (list : Li
     same = l.same;
     lane = λ h only. (passing_all eras all h, only_now h only, refl, refl, refl);
     frees = sorted.frees;
-    keeps = (sorted.long, sorted.replaced);
+    keeps = (sorted.long, sorted.replaced, sorted.era);
     held = λ i past low. let same = sorted.long in let t = sorted.held i past (omega arith) in let below = t.1 in let inside : t.0 < all = omega arith in
         (t.0, inside, subst (λ (z : ℕ). IsHeld z (birth_in_word (get_or after.words i 0)) (get_or after.deaths i 0)) (are t.0 inside) t.2);
   }
@@ -522,28 +553,32 @@ module _ (face : ℕ → ℕ → List (ℕ × ℕ) → List ℕ) (v w : SeatView
 
   pub stocks_missed : done ≡ false → Stocks w k
   stocks_missed misses = let miss = told.miss (λ hit. false≢true (sym misses ∙ tried.decided.1 hit)) in
-      stocks_on v w k k.era s (ap (λ (z : SeatView). z.shape) miss.0) (ap (λ (z : SeatView). z.held) miss.0) (s.era ∙ ap reserved_by (sym miss.0))
+      stocks_same v w k s (ap (λ (z : SeatView). z.shape) miss.0) (ap (λ (z : SeatView). z.held) miss.0) (ap (λ (z : SeatView). z.reserved) miss.0)
 
 -- an era was loaded and reserved, and perhaps turned in between
-module _ (v u t w : SeatView) (found place era : ℕ) (more : List StepTaken) (word : ℕ → ℕ) (loaded : LoadsEra v found u) (after : t ≡ record u { reached = t.reached; steps = u.steps ++ more }) (none : All quiet more) (is : era ≡ word found) (r : Reserves t place era w) where
+module _ (v u t w : SeatView) (found era : ℕ) (more : List StepTaken) (word : ℕ → ℕ) (loaded : LoadsEra v found u) (after : t ≡ record u { reached = t.reached; steps = u.steps ++ more }) (none : All quiet more) (is : era ≡ word found) (r : Reserves t (own_lane t.held) era w) where
   same_u : u ≡ record v { reached = found; steps = v.steps ++ load_era (era_place v.shape) found ∷ [] }
   same_u = loaded.stepped
 
   same_t : t ≡ record v { reached = t.reached; steps = (v.steps ++ load_era (era_place v.shape) found ∷ []) ++ more }
   same_t = after ∙ (λ i. record (same_u i) { reached = t.reached; steps = (ap (λ (z : SeatView). z.steps) same_u i) ++ more })
 
+  abbrev store : StepTaken
+  store = store_reservation (reservation_place t.shape (own_lane t.held)) era
+
   pub reserves_anew : (most : ℕ) → length more + 2 ≤ most → ReservesAnew word most v w era
   reserves_anew most few = record {
     now = r.now;
-    same = r.stepped ∙ (λ i. record (same_t i) { reserved = Some r.now; reached = t.reached; steps = t.steps ++ store_reservation place era ∷ [] }) ∙ (λ i. record v { reserved = Some r.now; reached = ap (λ (z : SeatView). z.reached) (sym r.stepped) i; steps = ap (λ (z : SeatView). z.steps) (sym r.stepped) i });
+    same = r.stepped ∙ (λ i. record (same_t i) { reserved = r.now ∷ but_slot (own_lane (ap (λ (z : SeatView). z.held) same_t i)) (ap (λ (z : SeatView). z.reserved) same_t i); reached = t.reached; steps = t.steps ++ store ∷ [] })
+        ∙ (λ i. record v { reserved = r.now ∷ but_slot (own_lane v.held) v.reserved; reached = ap (λ (z : SeatView). z.reached) (sym r.stepped) i; steps = ap (λ (z : SeatView). z.steps) (sym r.stepped) i });
     found = found;
-    more = more ++ store_reservation place era ∷ [];
-    steps = ap (λ (z : SeatView). z.steps) r.stepped ∙ ap (λ (z : SeatView). z.steps ++ store_reservation place era ∷ []) same_t ∙ append_assoc (v.steps ++ load_era (era_place v.shape) found ∷ []) more (store_reservation place era ∷ [])
-        ∙ append_assoc v.steps (load_era (era_place v.shape) found ∷ []) (more ++ store_reservation place era ∷ []);
-    few = let long = length-append more (store_reservation place era ∷ []) in omega arith;
-    no_try = All-append quiet more (store_reservation place era ∷ []) none (no_try_one (store_reservation place era) refl);
+    more = more ++ store ∷ [];
+    steps = ap (λ (z : SeatView). z.steps) r.stepped ∙ ap (λ (z : SeatView). z.steps ++ store ∷ []) same_t ∙ append_assoc (v.steps ++ load_era (era_place v.shape) found ∷ []) more (store ∷ [])
+        ∙ append_assoc v.steps (load_era (era_place v.shape) found ∷ []) (more ++ store ∷ []);
+    few = let long = length-append more (store ∷ []) in omega arith;
+    no_try = All-append quiet more (store ∷ []) none (no_try_one (store) refl);
     era_found = is;
-    slot = r.slot ∙ ap (λ (z : SeatView). own_lane z.held) same_t;
+    slot = r.slot_is ∙ ap (λ (z : SeatView). own_lane z.held) same_t;
     era_is = r.era_is;
     closed = subst (λ (z : SeatView). IsClosed z.shape z.seen (floor_of r.now)) same_t r.closed;
   }
@@ -554,9 +589,15 @@ turned_on u t era taken is = is ∙ (λ i. record u { reached = ap (λ (z : Seat
 pub not_turned : (u t : SeatView) → t ≡ u → t ≡ record u { reached = t.reached; steps = u.steps ++ [] }
 not_turned u t is = is ∙ (λ i. record u { reached = ap (λ (z : SeatView). z.reached) (sym is) i; steps = sym (append-nil u.steps) i })
 
+-- what was reserved there was let go of
+pub stocks_released : (v w : SeatView) (k : StockFacts) → Stocks v k → w ≡ releasing v (own_lane v.held) → Stocks w (record k { era = 0 })
+stocks_released v w k s is = let own : own_lane v.held ≡ s.lane.lane = ap own_lane s.only in stocks_on v w k 0 s (ap (λ (z : SeatView). z.shape) is) (ap (λ (z : SeatView). z.held) is)
+    (subst (λ (z : List Reserved). ReservesAt z s.lane.lane 0) (sym (ap (λ (z : SeatView). z.reserved) is)) (subst (λ (z : ℕ). ReservesAt (but_slot z v.reserved) s.lane.lane 0) (sym own) (reserves_none s.lane.lane v.reserved)))
+
 -- the stock stays
-pub stocks_anew : (word : ℕ → ℕ) (most : ℕ) (v w : SeatView) (k : StockFacts) (era : ℕ) → Stocks v k → ReservesAnew word most v w era → Stocks w (record k { era = era })
-stocks_anew word most v w k era s r = stocks_on v w k era s (ap (λ (z : SeatView). z.shape) r.same) (ap (λ (z : SeatView). z.held) r.same) (sym r.era_is ∙ ap reserved_by (sym r.same))
+pub stocks_anew : (word : ℕ → ℕ) (most : ℕ) (v w : SeatView) (k : StockFacts) (era : ℕ) → 0 < era → Stocks v k → ReservesAnew word most v w era → Stocks w (record k { era = era })
+stocks_anew word most v w k era some s r = let own : own_lane v.held ≡ s.lane.lane = ap own_lane s.only in stocks_on v w k era s (ap (λ (z : SeatView). z.shape) r.same) (ap (λ (z : SeatView). z.held) r.same)
+    (subst (λ (z : List Reserved). ReservesAt z s.lane.lane era) (sym (ap (λ (z : SeatView). z.reserved) r.same)) (subst (λ (z : ℕ). ReservesAt (r.now ∷ but_slot z v.reserved) s.lane.lane era) (sym own) (reserves_now r.now s.lane.lane era v.reserved some (r.slot ∙ own) r.era_is)))
 
 -- the stock of a pass that was just handed out
 pub opens_stock : (face : ℕ → ℕ → List (ℕ × ℕ) → List ℕ) (lead after v : SeatView) (lane : ℕ) → IsNextLane lead lane → HandsLaneOut face lead after v → OpensStock v

@@ -1,15 +1,15 @@
 -- The records of a lane as its pass keeps them, in a table that uses records again: first those that it may write, then those that it replaced since it last
 -- retired any, and then those that wait until no reservation holds them. In a table of 1 bit and two lanes with the records of three updates each, lane 1
 -- opens with the records 5, 6 and 7, all of which it may write. Once it published 7 in place of the root's record 1, it may write 5 and 6, and the third is 1.
-use Rattle.std.specs.Prelude.{◌≡◌, ◌≢◌, ◌⊎◌, ℕ, suc, zero, ◌+◌, ◌-◌, ◌*◌, ◌/◌, ◌%◌, ◌^◌, ◌<◌, ◌≤◌, max, min, true, false, Some, None, List, [], ◌∷◌, ◌++◌, length, slice_index, All}
+use Rattle.std.specs.Prelude.{◌≡◌, ◌≢◌, ◌⊎◌, ℕ, suc, zero, ◌+◌, ◌-◌, ◌*◌, ◌/◌, ◌%◌, ◌^◌, ◌<◌, ◌≤◌, max, min, true, false, List, [], ◌∷◌, ◌++◌, length, slice_index, All}
 use Rattle.aug_core.specs.Places.{Shape, record_count, record_words, era_place, reservation_place}
 use Rattle.aug_core.specs.Addresses.{IsInner, left_of, right_of}
 use Rattle.aug_core.specs.Book.{history_of, At, ArePrefixes, IsFresh, IsNewest, IsBook, IsLoaded}
 use Rattle.aug_core.specs.Lanes.{first_record, lane_records}
-use Rattle.aug_core.specs.Kinds.{load_era, load_reservation}
+use Rattle.aug_core.specs.Kinds.{load_node, load_era, load_reservation}
 use Rattle.aug_core.specs.Records.{Lists, IsClosed, floor_of}
-use Rattle.aug_core.specs.Effects.{HoldsOnly, MayStore, Covers, reserved_by, own_lane}
-use Rattle.aug_core.specs.Reclaiming.{holds_in}
+use Rattle.aug_core.specs.Effects.{HoldsOnly, MayStore, Covers, own_lane}
+use Rattle.aug_core.specs.Reclaiming.{but_slot, holds_in}
 use Rattle.aug_core.specs.declared.step.StepKind.TheVariants.{TryLeaf}
 use Rattle.aug_core.specs.declared.step.StepTaken.{StepTaken}
 use Rattle.aug_core.specs.declared.view.Entry.{Entry}
@@ -45,7 +45,7 @@ pub record OpensStock (v : SeatView) : Type 0 where
   pub only : HoldsOnly v lane
   pub owns : (k : ℕ) → k < lane_records v.shape → MayStore v (first_record v.shape lane.lane + k)
   pub replaced : lane.replaced ≡ []
-  pub none : v.reserved ≡ None
+  pub none : v.reserved ≡ []
 
 -- the record was replaced from the lane, which does not own it yet
 pub record HasReplaced (s : Shape) (h : Held) (word : ℕ) : Type 0 where
@@ -64,13 +64,18 @@ pub record HasWaiting (s : Shape) (h : Held) (word death : ℕ) : Type 0 where
   pub long : length own.words ≡ record_words
   pub scanned : own.life.scanned ≤ s.reservations
 
+-- what the reservation with this place among all holds, or 0
+pub record ReservesAt (reserved : List Reserved) (slot era : ℕ) : Type 0 where
+  pub held : 0 < era → (x : Reserved) × Lists reserved x × (x.slot ≡ slot) × (x.era ≡ era)
+  pub one : (x : Reserved) → Lists reserved x → x.slot ≡ slot → (x.era ≡ era) × (0 < era)
+
 -- the stock is that of the view's lane
 pub record Stocks (v : SeatView) (k : StockFacts) : Type 0 where
   pub lane : Held
   pub only : HoldsOnly v lane
   pub used : 0 < v.shape.reservations
   pub numbers : record_count v.shape ≤ 2 ^ 24
-  pub era : k.era ≡ reserved_by v
+  pub era : ReservesAt v.reserved lane.lane k.era
   -- each of its records is one of the lane's
   pub free : (i : ℕ) → i < k.free → MayStore v (number_in_word (slice_index k.words i))
   pub replaced : (i : ℕ) → k.free ≤ i → i < k.free + k.replaced → HasReplaced v.shape lane (slice_index k.words i)
@@ -97,7 +102,7 @@ pub record Scans (v : SeatView) (k : StockFacts) (w : SeatView) (after : StockFa
   -- the lane has the same changes, and what it replaced is the same
   pub lane : (h : Held) → HoldsOnly v h → (h' : Held) × HoldsOnly w h' × (h'.lane ≡ h.lane) × (h'.changes ≡ h.changes) × (h'.replaced ≡ h.replaced)
   pub frees : k.free ≤ after.free
-  pub keeps : (length after.words ≡ length k.words) × (after.replaced ≡ k.replaced)
+  pub keeps : (length after.words ≡ length k.words) × (after.replaced ≡ k.replaced) × (after.era ≡ k.era)
   pub held : (i : ℕ) → after.free ≤ i → i < length after.words → (slot : ℕ) × (slot < v.shape.reservations) × IsHeld (eras slot) (birth_in_word (slice_index after.words i)) (slice_index after.deaths i)
 
 -- a reservation of the era that was found: no era is before 1, to which the first who finds 0 moves it on
@@ -111,7 +116,7 @@ later_eras found = 2 ^ 63 + min found (2 ^ 40 - 1)
 -- the view loaded the era and reserved what this makes of it, by at most so many steps
 pub record ReservesAnew (word : ℕ → ℕ) (most : ℕ) (v w : SeatView) (era : ℕ) : Type 0 where
   pub now : Reserved
-  pub same : w ≡ record v { reserved = Some now; reached = w.reached; steps = w.steps }
+  pub same : w ≡ record v { reserved = now ∷ but_slot (own_lane v.held) v.reserved; reached = w.reached; steps = w.steps }
   pub found : ℕ
   pub more : List StepTaken
   pub steps : w.steps ≡ v.steps ++ load_era (era_place v.shape) found ∷ more
@@ -128,9 +133,9 @@ pub record IsLate (v w : SeatView) : Type 0 where
   pub loaded : LoadsEra v found w
   pub late : 2 ^ 40 ≤ found
 
--- the view reserved something
-abbrev pub HasReserved : SeatView → Type 0
-HasReserved v = (x : Reserved) × (v.reserved ≡ Some x)
+-- the reservation holds the entry i of a node
+abbrev pub CoversBy : Reserved → ℕ → ℕ → Entry → Type 0
+CoversBy x q i e = (e.birth ≤ x.era) × (floor_of x q ≤ i)
 
 -- the view made at most so many steps, none of which tried a leaf. It has seen more, and what it reserved may be another; nothing else in it changed
 pub record GoesBy (most : ℕ) (v w : SeatView) : Type 0 where
@@ -169,21 +174,26 @@ module _ (face : ℕ → ℕ → List (ℕ × ℕ) → List ℕ) where
     pub left_no_older : IsNoOlder v (left_of s q) is_loaded.left_index
     pub right_no_older : IsNoOlder v (right_of s q) is_loaded.right_index
 
-  -- and what is reserved holds the records that they name
-  pub record HoldsThree (s : Shape) (v : SeatView) (q : ℕ) (r : ℕ × ℕ × ℕ) (w : SeatView) : Type 0 where
+  -- and the reservation of this era holds the records that they name
+  pub record HoldsThree (s : Shape) (era : ℕ) (v : SeatView) (q : ℕ) (r : ℕ × ℕ × ℕ) (w : SeatView) : Type 0 where
     pub loads : LoadsThree s v q r w
-    pub covers : Covers w q loads.is_loaded.index loads.is_loaded.from
-    pub left_covers : IsInner s (left_of s q) → Covers w (left_of s q) loads.is_loaded.left_index loads.is_loaded.left
-    pub right_covers : IsInner s (right_of s q) → Covers w (right_of s q) loads.is_loaded.right_index loads.is_loaded.right
+    pub by : Reserved
+    pub listed : Lists w.reserved by
+    pub era_is : by.era ≡ era
+    pub covers : CoversBy by q loads.is_loaded.index loads.is_loaded.from
+    pub left_covers : IsInner s (left_of s q) → CoversBy by (left_of s q) loads.is_loaded.left_index loads.is_loaded.left
+    pub right_covers : IsInner s (right_of s q) → CoversBy by (right_of s q) loads.is_loaded.right_index loads.is_loaded.right
 
   -- within so many steps
-  pub record LoadsOver (most : ℕ) (v : SeatView) (q : ℕ) (r : ℕ × ℕ × ℕ) (w : SeatView) : Type 0 where
+  pub record LoadsOver (most era : ℕ) (v : SeatView) (q : ℕ) (r : ℕ × ℕ × ℕ) (w : SeatView) : Type 0 where
     pub goes : GoesBy most v w
-    pub holds : HoldsThree w.shape v q r w
+    pub holds : HoldsThree w.shape era v q r w
 
-  -- the word of a node was loaded within so many steps, and what is reserved holds the record that it names
+  -- the word of a node was loaded by the last of at most so many steps, and what is reserved holds the record that it names
   pub record LoadsHeld (most : ℕ) (v : SeatView) (q r : ℕ) (w : SeatView) : Type 0 where
     pub goes : GoesBy most v w
+    pub before : List StepTaken
+    pub last : w.steps ≡ v.steps ++ (before ++ load_node q r ∷ [])
     pub book : IsBook face w.shape w.seen
     pub index : ℕ
     pub entry : Entry
@@ -192,4 +202,4 @@ module _ (face : ℕ → ℕ → List (ℕ × ℕ) → List ℕ) where
     pub shown : entry.passed ≡ false
     pub covers : Covers w q index entry
     -- from each that it holds it holds those below
-    pub closed : (x : Reserved) → w.reserved ≡ Some x → IsClosed w.shape w.seen (floor_of x)
+    pub closed : (x : Reserved) → Lists w.reserved x → IsClosed w.shape w.seen (floor_of x)

@@ -4,7 +4,7 @@ ghost use Rattle.aug_core.specs.Addresses.{place_count, IsInner};
 ghost use Rattle.aug_core.specs.Faces.{face};
 ghost use Rattle.aug_words.specs.Reservations.{HasReservations};
 ghost use Rattle.aug_words.specs.Seats.{AreTogether, StaysAt};
-ghost use Rattle.aug_words.specs.Stocks.{GoesBy, HasReserved, HasSeenLater, HasSeenLaterOver, LoadsHeld, LoadsOver, Stocks};
+ghost use Rattle.aug_words.specs.Stocks.{GoesBy, HasSeenLater, HasSeenLaterOver, LoadsHeld, LoadsOver, Stocks};
 ghost use Rattle.aug_words.specs.inside.Stocking.{GoesStill, LoadsWord, LoadsWords, covers_three};
 
 use crate::pass::WordPass;
@@ -63,10 +63,10 @@ impl Stock {
         requires leaves { leaves ≡ 2 ^ pass.old.view.shape.bits }
         requires inner { IsInner pass.old.view.shape node }
         requires stocks { Stocks pass.old.view self.now }
-        requires reserved { HasReserved pass.old.view }
+        requires reserved { 0 < self.now.era }
         ensures still { StaysAt pass.old pass.new (GoesStill 3 pass.old.view pass.new.view) }
         ensures stocks { Stocks pass.new.view self.now }
-        ensures loads { IfSome result (λ r. LoadsOver (face A.parts B.parts) 3 pass.old.view node r pass.new.view) }
+        ensures loads { IfSome result (λ r. LoadsOver (face A.parts B.parts) 3 self.now.era pass.old.view node r pass.new.view) }
         ensures late { IfNone result (HasSeenLaterOver pass.new.view node self.now.era) }
     {
         let found = load_words(pass, leaves, node);
@@ -83,7 +83,7 @@ impl Stock {
         requires slots { HasReservations pass.old.view }
         requires stocks { Stocks pass.old.view self.old }
         ensures goes { StaysAt pass.old pass.new (GoesBy 3 pass.old.view pass.new.view) }
-        ensures reserved { HasReserved pass.new.view }
+        ensures reserved { 0 < self.new.era }
         ensures stocks { Stocks pass.new.view self.new }
         ensures same { self.new ≡ record self.old { era = self.new.era } }
     {
@@ -96,7 +96,7 @@ impl Stock {
     fn try_held<A: Monoid, B: Monoid>(&self, pass: &mut WordPass<A, B>, node: usize) -> Option<u64>
         requires inner { IsInner pass.old.view.shape node }
         requires stocks { Stocks pass.old.view self.now }
-        requires reserved { HasReserved pass.old.view }
+        requires reserved { 0 < self.now.era }
         ensures still { StaysAt pass.old pass.new (GoesStill 1 pass.old.view pass.new.view) }
         ensures stocks { Stocks pass.new.view self.now }
         ensures loads { IfSome result (λ r. LoadsHeld (face A.parts B.parts) 1 pass.old.view node r pass.new.view) }
@@ -121,10 +121,11 @@ impl Stock {
         requires together { AreTogether words.now pass.old }
         requires slots { HasReservations pass.old.view }
         requires stocks { Stocks pass.old.view self.old }
-        requires reserved { HasReserved pass.old.view }
+        requires reserved { 0 < self.old.era }
         requires inner { IsInner pass.old.view.shape node }
         ensures loads { StaysAt pass.old pass.new (LoadsHeld (face A.parts B.parts) 8 pass.old.view node result pass.new.view) }
         ensures stocks { Stocks pass.new.view self.new }
+        ensures reserved { 0 < self.new.era }
         ensures same { self.new ≡ record self.old { era = self.new.era } }
         ensures kept { (self.new.era ≡ self.old.era) ⊎ HasSeenLater pass.new.view node self.old.era }
     {
@@ -149,7 +150,7 @@ impl Stock {
         requires slots { HasReservations pass.old.view }
         requires stocks { Stocks pass.old.view self.old }
         ensures goes { StaysAt pass.old pass.new (GoesBy 3 pass.old.view pass.new.view) }
-        ensures reserved { HasReserved pass.new.view }
+        ensures reserved { 0 < self.new.era }
         ensures stocks { Stocks pass.new.view self.new }
         ensures same { self.new ≡ record self.old { era = self.new.era } }
     {
@@ -189,11 +190,12 @@ impl Stock {
         requires together { AreTogether words.now pass.old }
         requires slots { HasReservations pass.old.view }
         requires stocks { Stocks pass.old.view self.old }
-        requires reserved { HasReserved pass.old.view }
+        requires reserved { 0 < self.old.era }
         requires leaves { leaves ≡ 2 ^ pass.old.view.shape.bits }
         requires inner { IsInner pass.old.view.shape node }
-        ensures loads { StaysAt pass.old pass.new (LoadsOver (face A.parts B.parts) 14 pass.old.view node result pass.new.view) }
+        ensures loads { StaysAt pass.old pass.new (LoadsOver (face A.parts B.parts) 14 self.new.era pass.old.view node result pass.new.view) }
         ensures stocks { Stocks pass.new.view self.new }
+        ensures reserved { 0 < self.new.era }
         ensures same { self.new ≡ record self.old { era = self.new.era } }
         ensures kept { (self.new.era ≡ self.old.era) ⊎ HasSeenLaterOver pass.new.view node self.old.era }
     {

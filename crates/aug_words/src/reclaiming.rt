@@ -1,7 +1,8 @@
 //! The steps by which a pass comes to use records again.
 ghost use Rattle.std.specs.Prelude.{◌≡◌, ◌≤◌, ◌<◌, ◌^◌};
 ghost use Rattle.aug_core.specs.Records.{first_era};
-ghost use Rattle.aug_core.specs.Reclaiming.{Reserves, releasing, own_reservation};
+ghost use Rattle.aug_core.specs.Effects.{own_lane};
+ghost use Rattle.aug_core.specs.Reclaiming.{Reserves, releasing};
 ghost use Rattle.aug_words.specs.Seats.{AreTogether, StaysAt};
 ghost use Rattle.aug_words.specs.Reservations.{HasReservations, LoadsEra, TurnsEra, Retires, MayRetire, PassesReservation};
 
@@ -37,13 +38,13 @@ impl<'r, A: Monoid, B: Monoid> WordPass<'r, A, B> {
     }
 
     /// Reserves an era that it has reached, or with the upmost bit set that and all later ones: of the records that are in use or named from then on, those
-    /// that were made by these eras are not written while the reservation stands. What it reserved before it lets go of.
+    /// that were made by these eras are not written while the reservation stands. What it reserved there before it lets go of.
     pub fn reserve_era(&mut self, words: &Words<A, B>, era: u64)
         requires together { AreTogether words.now self.old }
         requires slots { HasReservations self.old.view }
         requires some_era { 1 ≤ era }
         requires reached { first_era era ≤ self.old.view.reached }
-        ensures { StaysAt self.old self.new (Reserves self.old.view (own_reservation self.old.view) era self.new.view) }
+        ensures { StaysAt self.old self.new (Reserves self.old.view (own_lane self.old.view.held) era self.new.view) }
     {
         let place = self.base + words.layout.reservation(self.lane);
         self.words.store::<ReserveEra>(&mut self.seat, place, era);
@@ -53,7 +54,7 @@ impl<'r, A: Monoid, B: Monoid> WordPass<'r, A, B> {
     pub fn release_era(&mut self, words: &Words<A, B>)
         requires together { AreTogether words.now self.old }
         requires slots { HasReservations self.old.view }
-        ensures { StaysAt self.old self.new (self.new.view ≡ releasing self.old.view (own_reservation self.old.view)) }
+        ensures { StaysAt self.old self.new (self.new.view ≡ releasing self.old.view (own_lane self.old.view.held)) }
     {
         let place = self.base + words.layout.reservation(self.lane);
         self.words.store::<ReleaseEra>(&mut self.seat, place, 0);

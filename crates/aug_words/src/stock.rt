@@ -6,7 +6,7 @@ ghost use Rattle.aug_core.specs.Effects.{IsFilled, KnowsBook, own_lane};
 ghost use Rattle.aug_core.specs.Faces.{face};
 ghost use Rattle.aug_core.specs.Lanes.{lane_records};
 ghost use Rattle.aug_core.specs.Records.{first_era};
-ghost use Rattle.aug_core.specs.Reclaiming.{releasing, own_reservation};
+ghost use Rattle.aug_core.specs.Reclaiming.{releasing};
 ghost use Rattle.aug_words.specs.Reservations.{HasReservations, MayRetire, Retires};
 ghost use Rattle.aug_words.specs.Seats.{AreTogether, Known, StaysAt, TriedNode};
 ghost use Rattle.aug_words.specs.Stocks.{IsHeld, IsLate, OpensStock, ReservesAnew, Scans, Stocks, birth_in_word, later_eras, naming, number_in_word, that_era};
@@ -51,6 +51,19 @@ fn is_held(eras: &[u64], birth: u64, death: u64) -> bool
         }
     }
     false
+}
+
+// The first era of all that these reservations hold: none of them holds a record that was retired before it. 0 is none.
+fn lowest_era(eras: &[u64]) -> u64
+    ensures { (slot : ℕ) → slot < length eras.now → 0 < slice_index eras.now slot → result ≤ first_era (slice_index eras.now slot) }
+{
+    let mut lowest = u64::MAX;
+    for era in eras {
+        if 0 < *era {
+            lowest = lowest.min(*era % LATER);
+        }
+    }
+    lowest
 }
 
 /// The records of a pass's lane, in a table that uses records again. A pass takes its next record from it, gives it the one that it replaced, and gets that back
@@ -244,8 +257,9 @@ impl Stock {
         requires { self.old.replaced ≡ 0 }
         ensures { Sorts eras.now self.old self.new (length self.old.words) }
     {
+        let lowest = lowest_era(eras);
         for i in self.free..self.words.len() {
-            if !self.is_held(i, eras) {
+            if self.deaths[i] < lowest || !self.is_held(i, eras) {
                 self.set_free(i);
             }
         }
@@ -332,7 +346,7 @@ impl Stock {
         requires together { AreTogether words.now pass.old }
         requires slots { HasReservations pass.old.view }
         requires stocks { Stocks pass.old.view self.old }
-        ensures step { StaysAt pass.old pass.new (pass.new.view ≡ releasing pass.old.view (own_reservation pass.old.view)) }
+        ensures step { StaysAt pass.old pass.new (pass.new.view ≡ releasing pass.old.view (own_lane pass.old.view.held)) }
         ensures stocks { Stocks pass.new.view self.new }
         ensures same { self.new ≡ record self.old { era = 0 } }
     {

@@ -1,13 +1,13 @@
 -- What the tests of records that are used again need: one node over two leaves, in a table with reservations.
-use Rattle.std.proofs.Common.{◌*◌, ◌⊎◌, inr, Some, ◌≡◌, ℕ, zero, suc, true, Bool, ◌+◌, ◌-◌, ◌^◌, ◌<◌, ◌≤◌, eq-eqb, ne_eqb, if◌then◌else◌, List, [], ◌∷◌, ◌++◌, length, get_or, refl, sym, ap, ◌∙◌, subst, ⊎_elim, arith}
-use Rattle.std.specs.Prelude.{Option, unwrap_or, option_map, ◌==◌}
+use Rattle.std.proofs.Common.{◌*◌, inr, ◌≡◌, ℕ, zero, suc, true, Bool, ◌+◌, ◌-◌, ◌^◌, ◌<◌, ◌≤◌, eq-eqb, ne_eqb, if◌then◌else◌, List, [], ◌∷◌, ◌++◌, length, get_or, refl, sym, ap, ◌∙◌, subst, ⊎_elim, arith}
+use Rattle.std.specs.Prelude.{◌==◌}
 use Rattle.std.proofs.lemmas.Bool.{cases_eq}
 use mathlib.Core.Option.{some-injective, some-ne-none}
 use Rattle.aug_core.specs.Places.{Shape}
 use Rattle.aug_core.specs.Addresses.{place_count, IsInner, left_of, right_of}
 use Rattle.aug_core.specs.Book.{history_of, At, IsSerial, IsLoaded}
-use Rattle.aug_core.specs.Records.{Lists, floor_of}
-use Rattle.aug_core.specs.Effects.{Covers, IsFilled, IsBornBy, MayStore, reserved_by, LoadsNode, GuardsRecord, on_first, last_replaced, publishing_from, TriesNode}
+use Rattle.aug_core.specs.Records.{Lists, first_era}
+use Rattle.aug_core.specs.Effects.{CoversUntil, IsFilled, MayStore, LoadsNode, GuardsRecord, on_first, last_replaced, publishing_from, TriesNode}
 use Rattle.aug_core.specs.declared.view.Entry.{Entry}
 use Rattle.aug_core.specs.declared.view.Replaced.{Replaced}
 use Rattle.aug_core.specs.declared.view.Reserved.{Reserved}
@@ -17,15 +17,11 @@ use Rattle.aug_core.proofs.Books.{at_below}
 use Rattle.aug_core.proofs.Filling.{filled_view, is_filled}
 use Rattle.aug_words.specs.Reservations.{MayRetire}
 use Rattle.aug_words.specs.Seats.{TriedNode}
-use Rattle.aug_words.specs.Stocks.{StockFacts, Stocks, HasReserved, LoadsThree, LoadsOver, LoadsHeld, naming, number_in_word, birth_in_word}
+use Rattle.aug_words.specs.Stocks.{StockFacts, Stocks, LoadsThree, LoadsOver, LoadsHeld, naming, number_in_word, birth_in_word}
 use Rattle.aug_words.proofs.Held.{covered, word_held}
-use Rattle.aug_words.proofs.Stocking.{number_named, named_used, stocks_on, told}
+use Rattle.aug_words.proofs.Stocking.{number_named, named_used, stocks_same, told}
 use Rattle.aug_words_tests.specs.Reuse.{IsSmall}
 use Rattle.aug_words_tests.proofs.StepTests.{node_inner, there, there_is}
-
--- a stock stays where the lane and what is reserved do
-pub stocks_same : (v w : SeatView) (k : StockFacts) → Stocks v k → w.shape ≡ v.shape → w.held ≡ v.held → w.reserved ≡ v.reserved → Stocks w k
-stocks_same v w k s shaped held reserved = stocks_on v w k k.era s shaped held (s.era ∙ ap (λ (z : Option Reserved). unwrap_or (option_map (λ (y : Reserved). y.era) z) 0) (sym reserved))
 
 -- ---- a node's record that what is reserved holds
 
@@ -38,28 +34,26 @@ guards_held face most v w k from one s l = let inner = node_inner w.shape one in
   numbered = sym (ap number_in_word (l.found ∙ l.book.named 2 l.index l.entry inner l.newest.at ∙ named_used w.shape l.entry.birth l.entry.number s.used) ∙ number_named l.entry.birth l.entry.number (omega arith));
 }
 
--- so something is reserved
-pub reserved_still : (v : SeatView) (q i : ℕ) (e : Entry) → 0 < v.shape.reservations → Covers v q i e → HasReserved v
-reserved_still v q i e used c = ⊎_elim (λ off. absurd (omega arith)) (λ t. (t.0, t.1)) c
-
 -- a word that was loaded alone names one, if that was made by the era that was reserved
-module _ (face : ℕ → ℕ → List (ℕ × ℕ) → List ℕ) (v w : SeatView) (k : StockFacts) (from : ℕ) (small : IsSmall v.shape) (s : Stocks v k) (node : LoadsNode face v 2 from w) (x : Reserved) (is : v.reserved ≡ Some x) (low : birth_in_word from ≤ k.era) where
+module _ (face : ℕ → ℕ → List (ℕ × ℕ) → List ℕ) (v w : SeatView) (k : StockFacts) (from : ℕ) (small : IsSmall v.shape) (s : Stocks v k) (node : LoadsNode face v 2 from w) (some : 0 < k.era) (low : birth_in_word from ≤ k.era) where
   shaped : w.shape ≡ v.shape
   shaped = ap (λ (z : SeatView). z.shape) node.stepped
 
   same : w.reserved ≡ v.reserved
   same = ap (λ (z : SeatView). z.reserved) node.stepped
 
-  pub covers : (u : SeatView) → u.shape ≡ v.shape → u.reserved ≡ v.reserved → Covers u 2 node.index node.entry
-  covers u shape reserved = subst (λ (z : Shape × Option Reserved). (z.0.reservations ≡ 0) ⊎ ((y : Reserved) × (z.1 ≡ Some y) × (node.entry.birth ≤ y.era) × (floor_of y 2 ≤ node.index))) (λ i. ((shaped ∙ sym shape) i, (same ∙ sym reserved) i))
-      (covered face v w k 2 node.index from node.entry x is same s node.sees.book (node_inner v.shape small.bits) node.newest.at node.found low (node.held x is).0)
+  -- and what is made in place of it, by that era too
+  pub covers_until : (u : SeatView) → u.reserved ≡ v.reserved → CoversUntil u 2 node.index node.entry (first_era k.era)
+  covers_until u reserved = let y = s.era.held some in let is = y.3 in
+      let c = covered face v w k 2 node.index from node.entry y.0 is s node.sees.book (node_inner v.shape small.bits) node.newest.at node.found low (node.held y.0 y.1).0 in
+      inr (y.0, subst (λ (z : List Reserved). Lists z y.0) (sym reserved) y.1, c.0, c.1, (omega arith))
 
   pub guards : GuardsRecord w (number_in_word from)
-  guards = guards_held face 1 v w k from (ap (λ (z : Shape). z.bits) shaped ∙ small.bits) (stocks_same v w k s shaped (ap (λ (z : SeatView). z.held) node.stepped) same) (word_held face v w k 2 from x is s (node_inner v.shape small.bits) low node)
+  guards = guards_held face 1 v w k from (ap (λ (z : Shape). z.bits) shaped ∙ small.bits) (stocks_same v w k s shaped (ap (λ (z : SeatView). z.held) node.stepped) same) (word_held face v w k 2 from some s (node_inner v.shape small.bits) low node)
 
 -- ---- the next record, filled from the words that were loaded over the two leaves
 
-module _ (face : ℕ → ℕ → List (ℕ × ℕ) → List ℕ) (most : ℕ) (v w : SeatView) (r : ℕ × ℕ × ℕ) (one : w.shape.bits ≡ 1) (l : LoadsOver face most v 2 r w) (five : List ℕ) (are : five ≡ face r.1 r.2 (there 0 r.1 ++ there 1 r.2)) (first : get_or five 0 0 ≡ r.1) (second : get_or five 1 0 ≡ r.2) where
+module _ (face : ℕ → ℕ → List (ℕ × ℕ) → List ℕ) (most era : ℕ) (v w : SeatView) (r : ℕ × ℕ × ℕ) (one : w.shape.bits ≡ 1) (l : LoadsOver face most era v 2 r w) (five : List ℕ) (are : five ≡ face r.1 r.2 (there 0 r.1 ++ there 1 r.2)) (first : get_or five 0 0 ≡ r.1) (second : get_or five 1 0 ≡ r.2) where
   abbrev loads : LoadsThree face w.shape v 2 r w
   loads = l.holds.loads
 
@@ -80,8 +74,9 @@ module _ (face : ℕ → ℕ → List (ℕ × ℕ) → List ℕ) (most : ℕ) (v
     five_are = are ∙ (λ i. face (sym first i) (sym second i) (sym (there_is 0 o.left_index r.1 o.left left_leaf (sym loads.left_named)) i ++ sym (there_is 1 o.right_index r.2 o.right right_leaf (sym loads.right_named)) i));
   }
 
-  pub may_publish_over : (birth number : ℕ) (may : MayStore w number) → IsBornBy w birth (reserved_by w) → IsFilled face (filled_view w number five) 2 r.0 birth number
-  may_publish_over birth number may by = let a = left_leaf.unborn in let b = right_leaf.unborn in is_filled w number five may face 2 r.0 birth says l.holds.covers (inr (omega arith)) (inr (omega arith)) by
+  pub may_publish_over : (number : ℕ) (may : MayStore w number) → IsFilled face (filled_view w number five) 2 r.0 (first_era era) number
+  may_publish_over number may = let h = l.holds in let is = h.era_is in let a = left_leaf.unborn in let b = right_leaf.unborn in
+      is_filled w number five may face 2 r.0 (first_era era) says (inr (h.by, h.listed, h.covers.0, h.covers.1, (omega arith))) (inr (omega arith)) (inr (omega arith))
 
 -- ---- what was replaced, once the node names the next
 

@@ -7,7 +7,7 @@ use Rattle.aug_core.specs.Places.{Shape, shape_of, own_records}
 use Rattle.aug_core.specs.Addresses.{IsInner, left_of, right_of}
 use Rattle.aug_core.specs.Book.{IsSerial, IsBook, IsNewest}
 use Rattle.aug_core.specs.inside.Refreshes.{HasNewest, SaysLoaded}
-use Rattle.aug_core.specs.Effects.{Covers, MayStore, TriesLeaf, LoadsLeaf, BeginsAtLeaf, LoadsNode, IsFilled, IsBornBy, reserved_by}
+use Rattle.aug_core.specs.Effects.{CoversUntil, MayStore, TriesLeaf, LoadsLeaf, BeginsAtLeaf, LoadsNode, IsFilled}
 use Rattle.aug_core.specs.declared.view.Entry.{Entry}
 use Rattle.aug_core.specs.declared.view.SeatView.{SeatView}
 use Rattle.aug_core.proofs.Clients.{may_store_same, may_store_tried}
@@ -143,10 +143,10 @@ module _ (face : ℕ → ℕ → List (ℕ × ℕ) → List ℕ) (v v1 v2 v3 : S
     unborn : (at_left.entry.birth ≡ 0) × (at_right.entry.birth ≡ 0)
     unborn = let e : 2 ^ v.shape.bits ≡ 2 = ap (λ (b : ℕ). 2 ^ b) one in ((book2.serials 0 at_left.index at_left.entry (omega arith) at_left.newest.at).unborn, (book3.serials 1 at_right.index at_right.entry (omega arith) at_right.newest.at).unborn)
 
-    pub may_publish : (birth number : ℕ) (may : MayStore v3 number) → Covers v3 2 node.index node.entry → IsBornBy v3 birth (reserved_by v3) → IsFilled face (filled_view v3 number five) 2 from birth number
-    may_publish birth number may covers by = let born = unborn in let a = born.0 in let b = born.1 in
-        is_filled v3 number five may face 2 from birth (subst (λ (z : Shape). SaysLoaded face z v3.seen 2 from five) (sym shape3) says) covers (inr (omega arith)) (inr (omega arith)) by
+    pub may_publish : (birth number : ℕ) (may : MayStore v3 number) → CoversUntil v3 2 node.index node.entry birth → IsFilled face (filled_view v3 number five) 2 from birth number
+    may_publish birth number may covers = let born = unborn in let a = born.0 in let b = born.1 in
+        is_filled v3 number five may face 2 from birth (subst (λ (z : Shape). SaysLoaded face z v3.seen 2 from five) (sym shape3) says) covers (inr (omega arith)) (inr (omega arith))
 
   -- in a round there is nothing to ask
-  pub covers_round : v.shape.reservations ≡ 0 → Covers v3 2 node.index node.entry
-  covers_round off = inl (ap (λ (z : Shape). z.reservations) shape3 ∙ off)
+  pub covers_round : (birth : ℕ) → v.shape.reservations ≡ 0 → CoversUntil v3 2 node.index node.entry birth
+  covers_round birth off = inl (ap (λ (z : Shape). z.reservations) shape3 ∙ off)

@@ -5,7 +5,7 @@ ghost use Rattle.aug_core.specs.Faces.{face};
 ghost use Rattle.aug_core.specs.Effects.{IsFilled};
 ghost use Rattle.aug_core.specs.Records.{first_era};
 ghost use Rattle.aug_words.specs.Seats.{AreTogether};
-ghost use Rattle.aug_words.specs.Stocks.{HasReserved, Stocks, number_in_word};
+ghost use Rattle.aug_words.specs.Stocks.{Stocks, number_in_word};
 ghost use Rattle.aug_words_tests.specs.Reuse.{IsSmall};
 
 use super::steps::{NODE, fill, words_over};
@@ -51,11 +51,11 @@ fn look<A: Monoid, B: Monoid>(
     requires together { AreTogether words.now pass.old }
     requires small { IsSmall words.now.shape }
     requires stocks { Stocks pass.old.view stock.old }
-    requires reserved { HasReserved pass.old.view }
+    requires reserved { 0 < stock.old.era }
     ensures together { AreTogether words.now pass.new }
     ensures stocks { Stocks pass.new.view stock.new }
     ensures same { stock.new ≡ record stock.old { era = stock.new.era } }
-    ensures reserved { HasReserved pass.new.view }
+    ensures reserved { 0 < stock.new.era }
 {
     let from = stock.load_held(pass, words, NODE);
     pass.load_record_word(from % (1 << 24), RecordField::Count)
@@ -71,7 +71,7 @@ fn refill<A: Monoid, B: Monoid>(
     requires small { IsSmall words.now.shape }
     requires stocks { Stocks pass.old.view stock.old }
     requires some { 0 < stock.old.free }
-    requires reserved { HasReserved pass.old.view }
+    requires reserved { 0 < stock.old.era }
     ensures together { AreTogether words.now pass.new }
     ensures stocks { Stocks pass.new.view stock.new }
     ensures same { stock.new ≡ record stock.old { era = stock.new.era } }
@@ -128,7 +128,7 @@ fn try_once<A: Monoid, B: Monoid>(
     requires stocks { Stocks pass.old.view stock.old }
     requires some { 0 < stock.old.free }
     requires none { stock.old.replaced ≡ 0 }
-    requires reserved { HasReserved pass.old.view }
+    requires reserved { 0 < stock.old.era }
     ensures together { AreTogether words.now pass.new }
     ensures stocks { Stocks pass.new.view stock.new }
     ensures none { stock.new.replaced ≡ 0 }
@@ -157,7 +157,7 @@ fn reserve<A: Monoid, B: Monoid>(
     ensures together { AreTogether words.now pass.new }
     ensures stocks { Stocks pass.new.view stock.new }
     ensures same { stock.new ≡ record stock.old { era = stock.new.era } }
-    ensures reserved { result ≡ true → HasReserved pass.new.view }
+    ensures reserved { result ≡ true → 0 < stock.new.era }
 {
     if later {
         stock.reserve_later(pass, words);
@@ -283,7 +283,7 @@ fn look_slowly<A: Monoid, B: Monoid>(
 ) -> (Option<u64>, u32)
     requires small { IsSmall pass.old.view.shape × IsSmall words.now.shape }
     requires stocks { Stocks pass.old.view stock.now }
-    requires reserved { HasReserved pass.old.view }
+    requires reserved { 0 < stock.now.era }
     requires other { AreTogether words.now other.old × Stocks other.old.view theirs.old × (theirs.old.replaced ≡ 0) }
     ensures same { (pass.new.table ≡ pass.old.table) × (pass.new.view.shape ≡ pass.old.view.shape) × (pass.new.view.reserved ≡ pass.old.view.reserved) }
     ensures stocks { Stocks pass.new.view stock.now }
@@ -310,7 +310,7 @@ fn refill_slowly<A: Monoid, B: Monoid>(
     requires small { IsSmall pass.old.view.shape × IsSmall words.now.shape }
     requires stocks { Stocks pass.old.view stock.now }
     requires some { 0 < stock.now.free }
-    requires reserved { HasReserved pass.old.view }
+    requires reserved { 0 < stock.now.era }
     requires other { AreTogether words.now other.old × Stocks other.old.view theirs.old × (theirs.old.replaced ≡ 0) }
     ensures same { (pass.new.table ≡ pass.old.table) × (pass.new.view.shape ≡ pass.old.view.shape) }
     ensures stocks { Stocks pass.new.view stock.now }
@@ -344,7 +344,7 @@ fn try_anew<A: Monoid, B: Monoid>(
     requires stocks { Stocks pass.old.view stock.old }
     requires some { 0 < stock.old.free }
     requires none { stock.old.replaced ≡ 0 }
-    requires reserved { HasReserved pass.old.view }
+    requires reserved { 0 < stock.old.era }
     requires other { AreTogether words.now other.old × Stocks other.old.view theirs.old × (theirs.old.replaced ≡ 0) }
     ensures together { AreTogether words.now pass.new }
     ensures stocks { Stocks pass.new.view stock.new }
@@ -379,7 +379,7 @@ fn try_slowly<A: Monoid, B: Monoid>(
     requires stocks { Stocks pass.old.view stock.old }
     requires some { 0 < stock.old.free }
     requires none { stock.old.replaced ≡ 0 }
-    requires reserved { HasReserved pass.old.view }
+    requires reserved { 0 < stock.old.era }
     requires other { AreTogether words.now other.old × Stocks other.old.view theirs.old × (theirs.old.replaced ≡ 0) }
     ensures together { AreTogether words.now pass.new }
     ensures stocks { Stocks pass.new.view stock.new }

@@ -1,11 +1,11 @@
 -- What the steps of a pass leave of what it knew, and what they add.
-use Rattle.std.specs.Prelude.{◌≡◌, ◌⊎◌, Some, ℕ, ◌+◌, ◌-◌, ◌*◌, ◌^◌, ◌<◌, ◌≤◌, Bool, false, nat_lt, if◌then◌else◌, List, ◌++◌, length}
+use Rattle.std.specs.Prelude.{◌≡◌, ◌⊎◌, ℕ, ◌+◌, ◌-◌, ◌*◌, ◌^◌, ◌<◌, ◌≤◌, Bool, false, nat_lt, if◌then◌else◌, List, ◌++◌, length}
 use Rattle.aug_monoid.specs.Parts.{Parts}
 use Rattle.aug_monoid.specs.Fold.{fold_of}
 use Rattle.aug_core.specs.Places.{Shape, record_words}
 use Rattle.aug_core.specs.Book.{At, ArePrefixes, IsFresh}
 use Rattle.aug_core.specs.Counts.{changes_of}
-use Rattle.aug_core.specs.Records.{IsClosed, floor_of}
+use Rattle.aug_core.specs.Records.{Lists, IsClosed, floor_of}
 use Rattle.aug_core.specs.Addresses.{IsInner}
 use Rattle.aug_core.specs.Effects.{HoldsOnly, MayStore, Covers, own_lane, KnowsBook}
 use Rattle.aug_core.specs.inside.Refreshes.{Refreshed}
@@ -75,7 +75,7 @@ pub record KnowsRecords (face : ℕ → ℕ → List (ℕ × ℕ) → List ℕ) 
 -- the view knows its table, may read the records below each entry that it covers, and numbers records by the words that name them
 pub record ReadsBelow (face : ℕ → ℕ → List (ℕ × ℕ) → List ℕ) (number : ℕ → ℕ) (v : SeatView) : Type 0 where
   pub knows_table : KnowsBook face v
-  pub closed : (v.shape.reservations ≡ 0) ⊎ ((x : Reserved) × (v.reserved ≡ Some x) × IsClosed v.shape v.seen (floor_of x))
+  pub closed : (v.shape.reservations ≡ 0) ⊎ ((x : Reserved) → Lists v.reserved x → IsClosed v.shape v.seen (floor_of x))
   pub numbered : (q i : ℕ) (e : Entry) → IsInner v.shape q → At v.seen q i e → number e.word ≡ e.number
 
 -- the table has `leaves` leaves

@@ -1,5 +1,6 @@
 -- A pass over the stock of its lane: what an update keeps on its way to the root.
-use Rattle.std.specs.Prelude.{◌≡◌, ◌≢◌, ◌⊎◌, ℕ, suc, ◌+◌, ◌*◌, ◌^◌, ◌<◌, ◌≤◌, Bool, true, false, max, if◌then◌else◌, List, [], ◌∷◌, ◌++◌, length, slice_index}
+use Rattle.std.specs.Prelude.{◌≡◌, ◌≢◌, ◌⊎◌, ℕ, ◌+◌, ◌*◌, ◌^◌, ◌<◌, ◌≤◌, Bool, true, false, max, if◌then◌else◌, List, [], ◌∷◌, ◌++◌, length, slice_index}
+use Rattle.aug_core.specs.Places.{Shape}
 use Rattle.aug_core.specs.Addresses.{place_count, root_place, IsInner, left_of, right_of}
 use Rattle.aug_core.specs.Book.{history_of, At, ArePrefixes}
 use Rattle.aug_core.specs.Counts.{changes_of}
@@ -15,10 +16,11 @@ use Rattle.aug_core.specs.declared.view.Replaced.{Replaced}
 use Rattle.aug_core.specs.declared.view.SeatView.{SeatView}
 use Rattle.aug_words.specs.Reservations.{HasReservations}
 use Rattle.aug_words.specs.Seats.{Known, Store, AreTogether}
-use Rattle.aug_words.specs.Stocks.{StockFacts, Stocks, HasReserved, IsHeld, LoadsHeld, birth_in_word, scan_steps}
+use Rattle.aug_words.specs.Stocks.{StockFacts, Stocks, IsHeld, LoadsHeld, birth_in_word, scan_steps}
 use Rattle.aug_trie.specs.declared.updates.request.Request.{Request}
 use Rattle.aug_trie.specs.declared.updates.told.LeafUpdate.{LeafUpdate}
 use Rattle.aug_trie.specs.LastingTable.{look_steps}
+use Rattle.aug_trie.specs.inside.Batching.{Raises}
 use Rattle.aug_trie.specs.inside.Climbing.{CameBy, ChangesLeaf}
 use Rattle.aug_trie.specs.inside.Goes.{Goes, TookBetween, part_steps, part_words, try_steps}
 
@@ -34,11 +36,18 @@ most_try_steps part = try_steps part + 11
 abbrev pub birth_from : ℕ → Bool → ℕ → ℕ → ℕ
 birth_from era over_leaves left right = max (max (first_era era) (if over_leaves then 0 else birth_in_word left)) (if over_leaves then 0 else birth_in_word right)
 
--- what was replaced from the lane is older than what the nodes show: each shows an entry over those that its children show, but for this next one, which may stand over older ones
-pub record ShowsBelow (v : SeatView) (lane : Held) (next : ℕ) : Type 0 where
+-- the word is not on the way of a key above this level
+abbrev pub IsOff : Shape → ℕ → ℕ → ℕ → Type 0
+IsOff s key level q = (l : ℕ) → level < l → l ≤ s.bits → q ≢ above s key l
+
+-- what was replaced from the lane is older than what the nodes show: each shows an entry over those that its children show, but for those on the way of a key above this level, which may stand
+-- over older ones
+pub record ShowsBelow (v : SeatView) (key level : ℕ) : Type 0 where
+  pub lane : Held
+  pub only : HoldsOnly v lane
   pub from : ℕ → ℕ
   pub reached : (q : ℕ) → q < place_count v.shape → from q < length (history_of v.seen q)
-  pub over : (q : ℕ) → IsInner v.shape q → q ≢ next → (e : Entry) × At v.seen q (from q) e × (from (left_of v.shape q) ≤ e.left) × (from (right_of v.shape q) ≤ e.right)
+  pub over : (q : ℕ) → IsInner v.shape q → IsOff v.shape key level q → (e : Entry) × At v.seen q (from q) e × (from (left_of v.shape q) ≤ e.left) × (from (right_of v.shape q) ≤ e.right)
   pub past : (c : Replaced) → Lists lane.replaced c → c.index < from c.place
 
 -- at most one more entry was replaced from the lane, at the node, and the node shows a later one
@@ -60,7 +69,6 @@ module _ (face : ℕ → ℕ → List (ℕ × ℕ) → List ℕ) where
     pub refreshed : Refreshed v.shape v.seen q done w.seen
     pub hit : done ≡ true → (h : Held) → HoldsOnly v h → (h' : Held) × HoldsOnly w h' × ReplacesAt h q w h'
     pub miss : done ≡ false → (h : Held) → HoldsOnly v h → (h' : Held) × HoldsOnly w h' × (h'.replaced ≡ h.replaced)
-    pub reserved : HasReserved w
 
   -- one or two
   pub record CoveredBy (v : SeatView) (q : ℕ) (w : SeatView) : Type 0 where
@@ -74,7 +82,8 @@ module _ (face : ℕ → ℕ → List (ℕ × ℕ) → List ℕ) where
     pub goes : Goes face all_records [] v w
     pub took : TookBetween v w 0 (level * (2 * most_try_steps part_words))
     pub lifts : Lifts v.shape v.seen w.seen key level
-    pub shows : (h : Held) × HoldsOnly w h × ShowsBelow w h (above v.shape key (suc level))
+    pub raises : Raises key v level w
+    pub shows : ShowsBelow w key level
 
   -- steps that gained these changes, at most so many
   pub record WorksBy (most : ℕ) (gained : List Change) (v w : SeatView) : Type 0 where

@@ -1,7 +1,9 @@
 -- What the fields of a table that lasts keep, and those of its crew and of its passes.
-use Rattle.std.specs.Prelude.{◌≡◌, ℕ, ◌^◌, ◌≤◌, Option, Some, None, List, []}
+use Rattle.std.specs.Prelude.{◌≡◌, ℕ, ◌^◌, ◌≤◌, Option, Some, None, List}
 use Rattle.aug_core.specs.Places.{Shape, with_reservations}
-use Rattle.aug_core.specs.Effects.{KnowsBook}
+use Rattle.aug_core.specs.Effects.{KnowsBook, own_lane}
+use Rattle.aug_core.specs.Records.{Lists}
+use Rattle.aug_core.specs.declared.view.Reserved.{Reserved}
 use Rattle.aug_core.specs.declared.view.SeatView.{SeatView}
 use Rattle.aug_words.specs.Seats.{Known, Store}
 use Rattle.aug_words.specs.Stocks.{StockFacts, Stocks, number_in_word}
@@ -26,6 +28,10 @@ pub record LastsBy (layout : Shape) (store : Store) : Type 0 where
 abbrev pub lasting_facts : Known → StockFacts → Option Snapshot → LastingFacts
 lasting_facts known stock look = record { pass = pass_facts known known.view.shape.updates; stock = stock; look = look }
 
+-- nothing is reserved for the view's lane
+abbrev pub ReservesNothing : SeatView → Type 0
+ReservesNothing v = (x : Reserved) → Lists v.reserved x → x.slot ≡ own_lane v.held → ⊥
+
 module _ (face : ℕ → ℕ → List (ℕ × ℕ) → List ℕ) where
   -- a crew that handed so many lanes out
   pub record IsLastingCrew (v : SeatView) (handed : ℕ) : Type 0 where
@@ -33,7 +39,6 @@ module _ (face : ℕ → ℕ → List (ℕ × ℕ) → List ℕ) where
     pub knows_table : KnowsBook face v
     pub hands_out : v.spare ≡ Some handed
     pub few : handed ≤ v.shape.workers
-    pub none_back : v.held ≡ []
     pub knowledge : KnowsRound v
 
   abbrev pub HasLastingCrew : Known → Type 0

@@ -1,17 +1,23 @@
-//! The crew of a table that lasts, which hands its passes out.
+//! The crew of a table that lasts, which hands its passes out and takes them back.
 ghost use Rattle.std.specs.Prelude.{◌≡◌, ◌↔◌, ◌*◌, length, IsErrOf, OnErr, IfErr, IfOk};
-ghost use Rattle.aug_trie.specs.Crew.{HandsOut};
+ghost use Rattle.aug_core.specs.Faces.{face};
+ghost use Rattle.aug_trie.specs.Crew.{CrewLooks, HandsOut, TakesBack};
+ghost use Rattle.aug_trie.specs.LastingAccounts.{LastingAccount};
 ghost use Rattle.aug_trie.specs.Round.{table_of};
+ghost use Rattle.aug_trie.specs.inside.LastingState.{ReservesNothing};
+ghost use Rattle.aug_words.specs.Leads.{TakesLaneBack};
+ghost use Rattle.aug_words.specs.Seats.{IsOfLead, StaysAt};
 
 use crate::error::LastingError;
 use crate::lasting::pass::LastingPass;
 use crate::lasting::table::Lasting;
+use crate::lasting::working::release;
 use aug_monoid::Monoid;
-use aug_words::{Lead, Stock};
+use aug_words::{Lead, Stock, WordPass};
 use std::alloc::Global;
 use std::marker::Model;
 
-/// The crew of a table that lasts. It hands its passes out.
+/// The crew of a table that lasts. It hands its passes out and takes them back.
 #[derive(Drop)]
 pub struct LastingCrew<A: Monoid, B: Monoid> {
     pub(crate) lead: Lead<A, B>,
@@ -66,4 +72,37 @@ impl<A: Monoid, B: Monoid> LastingCrew<A, B> {
             look: None,
         })
     }
+
+    /// Takes a pass back, and learns what it knows. Its lane ends, and is not handed out again. A look that the pass holds is ended before.
+    pub fn back(&mut self, table: &Lasting<A, B>, pass: LastingPass<A, B>)
+        requires together { table_of self.old.round ≡ table.now }
+        requires of_crew { pass.pass.round ≡ self.old.round }
+        ensures { TakesBack self.old self.new pass.pass }
+    {
+        let LastingPass { words, stock, .. } = pass;
+        let Some(half) = words else { unreachable!() };
+        let mut words = table.words.pass(half);
+        let mut stock = stock;
+        release(&mut words, &mut stock, &table.words);
+        take_in(&mut self.lead, words);
+    }
+
+    /// Loads the root. The crew then knows all that was published, and its account is complete: the changes that it knows, with those of the passes that are
+    /// out, are all that happened since the table was opened. The account never ends, so each later look tells more.
+    pub fn look(&mut self, table: &Lasting<A, B>)
+        requires together { table_of self.old.round ≡ table.now }
+        ensures looks { CrewLooks self.old self.new }
+        ensures account { LastingAccount self.new }
+    {
+        self.lead.survey(&table.words);
+    }
+}
+
+// Takes a pass in that holds no record any more.
+fn take_in<'r, A: Monoid, B: Monoid>(lead: &mut Lead<A, B>, pass: WordPass<'r, A, B>)
+    requires of_lead { IsOfLead lead.old pass }
+    requires rests { ReservesNothing pass.view }
+    ensures { StaysAt lead.old lead.new (TakesLaneBack (face A.parts B.parts) lead.old.view pass.entry.view lead.new.view) }
+{
+    lead.join(pass);
 }

@@ -2,10 +2,8 @@
 ghost use Rattle.std.specs.Prelude.{◌≡◌, ◌+◌, ◌*◌, ◌^◌, ◌<◌, ◌≤◌, nat_lt, if◌then◌else◌};
 ghost use Rattle.aug_core.specs.Addresses.{IsInner};
 ghost use Rattle.aug_core.specs.Faces.{face};
-ghost use Rattle.aug_words.specs.Reservations.{MayRetire};
-ghost use Rattle.aug_words.specs.Stocks.{HasReserved};
 ghost use Rattle.aug_trie.specs.inside.Goes.{HasLeaves};
-ghost use Rattle.aug_trie.specs.inside.Lasting.{KeepsStock, TriedBy, CoveredBy, LiftedTo, birth_from};
+ghost use Rattle.aug_trie.specs.inside.Lasting.{KeepsStock, TriedBy, CoveredBy, LiftedTo, ShowsBelow, birth_from};
 
 use crate::queries::record_words::NUMBERS;
 use crate::updates::parts::any_part;
@@ -36,12 +34,12 @@ fn try_lift<A: Monoid, B: Monoid>(
     node: usize,
 ) -> bool
     requires keeps { KeepsStock (face A.parts B.parts) words.now pass.old stock.old }
-    requires reserved { HasReserved pass.old.view }
+    requires reserved { 0 < stock.old.era }
     requires leaves { HasLeaves pass.old.view.shape leaves }
     requires inner { IsInner pass.old.view.shape node }
     requires some { 0 < stock.old.free }
     ensures keeps { KeepsStock (face A.parts B.parts) words.now pass.new stock.new }
-    ensures reserved { HasReserved pass.new.view }
+    ensures reserved { 0 < stock.new.era }
     ensures tried { TriedBy (face A.parts B.parts) pass.old.view node result pass.new.view }
     ensures free { stock.new.free + (if result then 1 else 0) ≡ stock.old.free }
 {
@@ -64,12 +62,12 @@ fn lift<A: Monoid, B: Monoid>(
     node: usize,
 )
     requires keeps { KeepsStock (face A.parts B.parts) words.now pass.old stock.old }
-    requires reserved { HasReserved pass.old.view }
+    requires reserved { 0 < stock.old.era }
     requires leaves { HasLeaves pass.old.view.shape leaves }
     requires inner { IsInner pass.old.view.shape node }
     requires some { 0 < stock.old.free }
     ensures keeps { KeepsStock (face A.parts B.parts) words.now pass.new stock.new }
-    ensures reserved { HasReserved pass.new.view }
+    ensures reserved { 0 < stock.new.era }
     ensures covered { CoveredBy (face A.parts B.parts) pass.old.view node pass.new.view }
     ensures free { stock.old.free ≤ stock.new.free + 1 }
 {
@@ -79,31 +77,30 @@ fn lift<A: Monoid, B: Monoid>(
     try_lift(pass, stock, words, leaves, node);
 }
 
-// Brings all nodes above a leaf up to their children. Then what was replaced on the way may be retired.
+// Brings the nodes above a leaf up to their children, from the leaf's parent up to a level.
 #[inline(always)]
 pub(crate) fn lift_all<A: Monoid, B: Monoid>(
     pass: &mut WordPass<A, B>,
     stock: &mut Stock,
     words: &Words<A, B>,
     leaves: usize,
-    bits: u32,
+    levels: u32,
     leaf: usize,
 )
     requires keeps { KeepsStock (face A.parts B.parts) words.now pass.old stock.old }
-    requires reserved { HasReserved pass.old.view }
+    requires reserved { 0 < stock.old.era }
     requires leaves { HasLeaves pass.old.view.shape leaves }
     requires leaf { leaf < 2 ^ pass.old.view.shape.bits }
-    requires bits { bits ≡ pass.old.view.shape.bits }
-    requires records { bits ≤ stock.old.free }
-    requires none { stock.old.replaced ≡ 0 }
+    requires levels { levels ≤ pass.old.view.shape.bits }
+    requires records { levels ≤ stock.old.free }
+    requires below { ShowsBelow pass.old.view leaf 0 }
     ensures keeps { KeepsStock (face A.parts B.parts) words.now pass.new stock.new }
-    ensures reserved { HasReserved pass.new.view }
-    ensures lifted { LiftedTo (face A.parts B.parts) leaf pass.old.view bits pass.new.view }
-    ensures later { MayRetire pass.new.view }
-    ensures records { stock.old.free ≤ stock.new.free + bits }
+    ensures reserved { 0 < stock.new.era }
+    ensures lifted { LiftedTo (face A.parts B.parts) leaf pass.old.view levels pass.new.view }
+    ensures records { stock.old.free ≤ stock.new.free + levels }
 {
     let mut node = leaf;
-    for level in 0..bits {
+    for level in 0..levels {
         let _ = level;
         node = leaves + node / 2;
         lift(pass, stock, words, leaves, node);

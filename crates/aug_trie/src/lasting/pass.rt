@@ -1,7 +1,7 @@
 //! A pass of a table that lasts.
 ghost use Rattle.std.specs.Prelude.{◌≡◌, ◌+◌, ◌^◌, ◌<◌, ◌≤◌, ℕ, IfErr, IfOk, None, Some};
 ghost use Rattle.aug_model.specs.Folds.{summary_of};
-ghost use Rattle.aug_trie.specs.LastingTable.{IsFull, look_steps, most_lasting_steps};
+ghost use Rattle.aug_trie.specs.LastingTable.{IsFull, LoadsRootLast, look_steps, most_lasting_steps};
 ghost use Rattle.aug_trie.specs.Node.{Reads, steps_for};
 ghost use Rattle.aug_trie.specs.Pass.{GoesOn, chain_of};
 ghost use Rattle.aug_trie.specs.Passes.{HasLearnt};
@@ -25,7 +25,7 @@ use std::marker::{Model, PhantomData};
 /// A pass of a table that lasts. It has a lane and its records, so it makes updates without end, takes no memory, and waits for nobody.
 #[derive(Drop)]
 pub struct LastingPass<A: Monoid, B: Monoid> {
-    // What it knows of the words. An update takes it out and puts it back.
+    // What it knows of the words. A call takes it out and puts it back.
     pub(crate) words: Option<WordHalf<A, B>>,
     pub(crate) stock: Stock,
     // How many leaves the table has, and how many bits the keys.
@@ -114,6 +114,7 @@ impl<A: Monoid, B: Monoid> LastingPass<A, B> {
         ensures looks { self.new.look ≡ Some result }
         ensures takes { TakesSnapshot self.old.pass.knows self.new.pass.knows (snapshot_cut self.new.pass result) }
         ensures known { HasSnapshot self.new.pass result }
+        ensures last_step { LoadsRootLast self.old.pass result.number self.new.pass }
         ensures goes_on { (steps : ℕ) × (steps ≤ look_steps) × GoesOn 0 steps self.old.pass self.new.pass }
         ensures stock { self.new.stock ≡ record self.old.stock { era = self.new.stock.era } }
     {

@@ -1,7 +1,6 @@
 //! A whole update over a stock.
 ghost use Rattle.std.specs.Prelude.{◌≡◌, ◌+◌, ◌^◌, ◌<◌, ◌≤◌, true, false, []};
 ghost use Rattle.aug_core.specs.Faces.{face};
-ghost use Rattle.aug_words.specs.Stocks.{HasReserved};
 ghost use Rattle.aug_trie.specs.inside.Goes.{HasLeaves};
 ghost use Rattle.aug_trie.specs.inside.Knows.{knows};
 ghost use Rattle.aug_trie.specs.inside.Lasting.{KeepsStock, IsScanned, LooksAt, MovesOn, UpdatedHeld, UpdatedOver, WorksBy};
@@ -21,7 +20,7 @@ pub(crate) fn reserve<A: Monoid, B: Monoid>(
 )
     requires keeps { KeepsStock (face A.parts B.parts) words.now pass.old stock.old }
     ensures keeps { KeepsStock (face A.parts B.parts) words.now pass.new stock.new }
-    ensures reserved { HasReserved pass.new.view }
+    ensures reserved { 0 < stock.new.era }
     ensures same { stock.new ≡ record stock.old { era = stock.new.era } }
     ensures works { WorksBy (face A.parts B.parts) 3 [] pass.old.view pass.new.view }
 {
@@ -72,7 +71,7 @@ pub(crate) fn update_over<A: Monoid, B: Monoid>(
     request: Request,
 ) -> LeafUpdate
     requires keeps { KeepsStock (face A.parts B.parts) words.now pass.old stock.old }
-    requires reserved { HasReserved pass.old.view }
+    requires reserved { 0 < stock.old.era }
     requires leaves { HasLeaves pass.old.view.shape leaves }
     requires bits { bits ≡ pass.old.view.shape.bits }
     requires key { key < 2 ^ pass.old.view.shape.bits }

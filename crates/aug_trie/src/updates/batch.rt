@@ -102,7 +102,7 @@ pub(crate) fn at_leaves<A: Monoid, B: Monoid>(
 
 // The highest level at which the ways of two keys are apart, or 0.
 #[inline(always)]
-fn levels_apart(bits: u32, key: u32, next: u32) -> u32
+pub(crate) fn levels_apart(bits: u32, key: u32, next: u32) -> u32
     ensures { result ≡ apart bits key next }
 {
     let mut node = key;

@@ -1,10 +1,10 @@
 -- What a stock's fields keep, and what sorting and loading do.
-use Rattle.std.specs.Prelude.{◌≡◌, ◌&&◌, ◌||◌, Bool, nat_le, ℕ, suc, zero, ◌+◌, ◌^◌, ◌<◌, ◌≤◌, Some, List, ◌++◌, length, map, slice_index}
+use Rattle.std.specs.Prelude.{◌≡◌, ◌&&◌, ◌||◌, Bool, nat_le, ℕ, suc, zero, ◌+◌, ◌^◌, ◌<◌, ◌≤◌, List, ◌++◌, length, map, slice_index}
 use Rattle.aug_core.specs.Addresses.{IsInner, left_of, right_of}
 use Rattle.aug_core.specs.Book.{IsBook}
 use Rattle.aug_core.specs.inside.Refreshes.{HasNewest}
 use Rattle.aug_core.specs.Effects.{on_first}
-use Rattle.aug_core.specs.Records.{first_era, floor_of}
+use Rattle.aug_core.specs.Records.{Lists, first_era, floor_of}
 use Rattle.aug_core.specs.Reclaiming.{passed_record}
 use Rattle.aug_core.specs.declared.view.Held.{Held}
 use Rattle.aug_core.specs.declared.view.Owned.{Owned}
@@ -66,12 +66,12 @@ module _ (face : ℕ → ℕ → List (ℕ × ℕ) → List ℕ) where
     pub still : GoesStill 1 v w
     pub book : IsBook face v.shape w.seen
     pub newest : HasNewest w.seen q r
-    pub holds : IsInner v.shape q → (x : Reserved) → v.reserved ≡ Some x → floor_of x q ≤ newest.index
+    pub holds : IsInner v.shape q → (x : Reserved) → Lists v.reserved x → floor_of x q ≤ newest.index
 
   -- those of a node and of its children were loaded, by three steps after what is reserved was
   pub record LoadsWords (v : SeatView) (q : ℕ) (r : ℕ × ℕ × ℕ) (w : SeatView) : Type 0 where
     pub still : GoesStill 3 v w
     pub loads : LoadsThree face v.shape v q r w
-    pub holds : (x : Reserved) → v.reserved ≡ Some x → floor_of x q ≤ loads.is_loaded.index
-    pub left_holds : IsInner v.shape (left_of v.shape q) → (x : Reserved) → v.reserved ≡ Some x → floor_of x (left_of v.shape q) ≤ loads.is_loaded.left_index
-    pub right_holds : IsInner v.shape (right_of v.shape q) → (x : Reserved) → v.reserved ≡ Some x → floor_of x (right_of v.shape q) ≤ loads.is_loaded.right_index
+    pub holds : (x : Reserved) → Lists v.reserved x → floor_of x q ≤ loads.is_loaded.index
+    pub left_holds : IsInner v.shape (left_of v.shape q) → (x : Reserved) → Lists v.reserved x → floor_of x (left_of v.shape q) ≤ loads.is_loaded.left_index
+    pub right_holds : IsInner v.shape (right_of v.shape q) → (x : Reserved) → Lists v.reserved x → floor_of x (right_of v.shape q) ≤ loads.is_loaded.right_index

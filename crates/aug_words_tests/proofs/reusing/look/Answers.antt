@@ -2,7 +2,8 @@ use Rattle.std.proofs.Common.{inl, ap, ◌∙◌}
 use Rattle.aug_core.specs.Faces.{face}
 use Rattle.aug_core.specs.Places.{Shape}
 use Rattle.aug_core.specs.declared.view.SeatView.{SeatView}
-use Rattle.aug_words_tests.proofs.ReuseTests.{guards_held, reserved_still, stocks_same}
+use Rattle.aug_words.proofs.Stocking.{stocks_same}
+use Rattle.aug_words_tests.proofs.ReuseTests.{guards_held}
 use Rattle.aug_words_tests.proofs.reusing.look.Goals as goal
 
 pub load_record_word-requires : goal.load_record_word-requires
@@ -12,7 +13,3 @@ load_record_word-requires g c = let l = c.load_held-from.ensures.loads.view in l
 pub returns-clause-stocks : goal.returns-clause-stocks
 returns-clause-stocks g c = let b = c.load_record_word.ensures.view.stepped in
     stocks_same c.load_held-from.new.pass.view c.load_record_word.new.self.view c.load_held-from.new.self c.load_held-from.ensures.stocks (ap (λ (z : SeatView). z.shape) b) (ap (λ (z : SeatView). z.held) b) (ap (λ (z : SeatView). z.reserved) b)
-
-pub returns-clause-reserved : goal.returns-clause-reserved
-returns-clause-reserved g c = let l = c.load_held-from.ensures.loads.view in let x = reserved_still c.load_held-from.new.pass.view 2 l.index l.entry c.load_held-from.ensures.stocks.used l.covers in
-    (x.0, ap (λ (z : SeatView). z.reserved) c.load_record_word.ensures.view.stepped ∙ x.1)

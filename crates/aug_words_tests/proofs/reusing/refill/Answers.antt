@@ -1,4 +1,4 @@
-use Rattle.std.proofs.Common.{inr, ◌≡◌, ◌-◌, ◌<◌, ◌∙◌, ℕ, ap, get_or, sym, subst, arith}
+use Rattle.std.proofs.Common.{◌≡◌, ◌-◌, ◌<◌, ◌∙◌, ℕ, ap, get_or, sym, subst, arith}
 use Rattle.aug_core.specs.Effects.{IsFilled}
 use Rattle.aug_core.specs.Faces.{face}
 use Rattle.aug_core.specs.Places.{Shape}
@@ -19,4 +19,4 @@ returns-clause-filled g c = let m = g.A.Monoid.parts in let b = g.B.Monoid.parts
     let one = ap (λ (z : Shape). z.bits) (ap (λ (z : SeatView). z.shape) l.goes.same ∙ c.requires.together.one_shape) ∙ c.requires.small.bits in let five = c.words_over.result in let are = c.words_over.ensures in
     let number : ℕ = number_in_word (get_or k.words (k.free - 1) 0) in let some : 0 < k.free = subst (λ (z : ℕ). 0 < z) (ap (λ (z : StockFacts). z.free) (sym c.load_over-from.ensures.same)) c.requires.some in
     subst (λ (z : SeatView). IsFilled f z 2 c.load_over-from.result.0 (first_era k.era) number) (sym (subst (λ (z : ℕ). c.fill.new.pass.view ≡ stored w z five 5) c.next.ensures c.fill.ensures.1))
-    (may_publish_over f 14 c.args.pass.now.view w c.load_over-from.result one l five are (first_is m b five _ _ _ are) (second_is m b five _ _ _ are) (first_era k.era) number (s.free (k.free - 1) (omega arith)) (inr (let is = s.era in omega arith)))
+    (may_publish_over f 14 k.era c.args.pass.now.view w c.load_over-from.result one l five are (first_is m b five _ _ _ are) (second_is m b five _ _ _ are) number (s.free (k.free - 1) (omega arith)))

@@ -40,6 +40,3 @@ returns-clause-tried g c = let o = c.load_over-from.ensures in let l = c.any_par
 pub returns-clause-keeps : goal.returns-clause-keeps
 returns-clause-keeps g c = let o = c.load_over-from.ensures in let l = c.any_part-l.ensures in let r = c.any_part-r.ensures in let tried = returns-clause-tried g c in
     keeps_on c.requires.keeps (c.try_node.ensures.step.table ∙ c.fill.ensures.table ∙ r.table ∙ l.table ∙ o.loads.table) tried.goes c.try_node.ensures.stocks
-
-pub returns-clause-reserved : goal.returns-clause-reserved
-returns-clause-reserved g c = (returns-clause-tried g c).reserved

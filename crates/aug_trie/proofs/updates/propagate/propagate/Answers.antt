@@ -31,7 +31,7 @@ loop-level-preserved g c = let f = face g.A.Monoid.parts g.B.Monoid.parts in let
       table = c.refresh_twice.ensures.table ∙ inv.table;
       node = is ∙ ap (above v.shape c.args.leaf) (sym (add-one level));
       risen = risen_on f c.args.pass.view.shape.bits c.args.number c.args.leaf v m level u low inv.risen node w is covered;
-      raises = raises_on f v u w c.args.leaf level node (c.args.number + level) (omega arith) inv.risen.goes.shaped is covered inv.raises;
+      raises = raises_on f v u w c.args.leaf level node (omega arith) inv.risen.goes.shaped is covered.goes covered.covers inv.raises;
     }
 
 pub returns-clause-risen : goal.returns-clause-risen

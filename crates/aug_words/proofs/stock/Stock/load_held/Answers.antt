@@ -21,7 +21,7 @@ returns-clause-loads g c = let f = face g.A.Monoid.parts g.B.Monoid.parts in let
     let shaped = ap (λ (z : SeatView). z.shape) before.same in let era = anew.era_found in let far : 2 ^ 63 ≤ k.era = omega arith in record {
       table = c.load_node.ensures.table ∙ c.reserve_later.ensures.step.table ∙ c.try_held-2.ensures.still.table ∙ c.reserve_any.ensures.goes.table ∙ c.try_held.ensures.still.table;
       view = held_before f 7 1 8 v u w c.args.node r (omega arith) before
-          (word_held f u w k c.args.node r anew.now (ap (λ (z : SeatView). z.reserved) anew.same) c.reserve_later.ensures.stocks (subst (λ (z : Shape). IsInner z c.args.node) (sym shaped) c.requires.inner) (omega arith) c.load_node.ensures.view);
+          (word_held f u w k c.args.node r (omega arith) c.reserve_later.ensures.stocks (subst (λ (z : Shape). IsInner z c.args.node) (sym shaped) c.requires.inner) (omega arith) c.load_node.ensures.view);
     }
 
 pub returns-clause-stocks : goal.returns-clause-stocks

@@ -10,7 +10,7 @@ use Rattle.aug_words.proofs.stock.Stock.load_over.Goals as goal
 pub returns-in-Some-try_over-clause-loads : goal.returns-in-Some-try_over-clause-loads
 returns-in-Some-try_over-clause-loads g c = let f = face g.A.Monoid.parts g.B.Monoid.parts in let v : SeatView = c.args.pass.now.view in let a : SeatView = c.try_over.new.pass.view in let b : SeatView = c.reserve_any.new.pass.view in record {
   table = c.try_over-2.ensures.still.table ∙ c.reserve_any.ensures.goes.table ∙ c.try_over.ensures.still.table;
-  view = over_before f 6 3 14 v b c.try_over-2.new.pass.view c.args.node c.in-Some-try_over.found (omega arith) (goes_by_on 3 3 6 v a b (omega arith) c.try_over.ensures.still.view.goes c.reserve_any.ensures.goes.view) c.in-Some-try_over.ensures.loads;
+  view = over_before f 6 3 14 _ v b c.try_over-2.new.pass.view c.args.node c.in-Some-try_over.found (omega arith) (goes_by_on 3 3 6 v a b (omega arith) c.try_over.ensures.still.view.goes c.reserve_any.ensures.goes.view) c.in-Some-try_over.ensures.loads;
 }
 
 pub returns-clause-loads : goal.returns-clause-loads
@@ -20,8 +20,8 @@ returns-clause-loads g c = let f = face g.A.Monoid.parts g.B.Monoid.parts in let
     (goes_by_anew later_eras 2 d u _ anew) in
     let shaped = ap (λ (z : SeatView). z.shape) before.same in let era = anew.era_found in let far : 2 ^ 63 ≤ k.era = omega arith in record {
       table = c.load_words.ensures.table ∙ c.reserve_later.ensures.step.table ∙ c.try_over-2.ensures.still.table ∙ c.reserve_any.ensures.goes.table ∙ c.try_over.ensures.still.table;
-      view = over_before f 11 3 14 v u w c.args.node r (omega arith) before
-          (three_held f u w k c.args.node r anew.now (ap (λ (z : SeatView). z.reserved) anew.same) c.reserve_later.ensures.stocks (subst (λ (z : Shape). IsInner z c.args.node) (sym shaped) c.requires.inner) (omega arith) (λ past. (omega arith, omega arith)) c.load_words.ensures.view);
+      view = over_before f 11 3 14 _ v u w c.args.node r (omega arith) before
+          (three_held f u w k c.args.node r (omega arith) c.reserve_later.ensures.stocks (subst (λ (z : Shape). IsInner z c.args.node) (sym shaped) c.requires.inner) (omega arith) (λ past. (omega arith, omega arith)) c.load_words.ensures.view);
     }
 
 pub returns-clause-stocks : goal.returns-clause-stocks

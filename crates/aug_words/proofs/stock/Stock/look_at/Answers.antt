@@ -1,4 +1,4 @@
-use Rattle.std.proofs.Common.{◌+◌, ◌≤◌, ◌∙◌, arith}
+use Rattle.std.proofs.Common.{◌∙◌, arith}
 use Rattle.aug_core.specs.Faces.{face}
 use Rattle.aug_words.proofs.Held.{held_before}
 use Rattle.aug_words.proofs.stock.Stock.look_at.Goals as goal

@@ -7,7 +7,7 @@ use Rattle.aug_words.proofs.stock.Stock.try_held.Goals as goal
 
 pub returns-then-covers-clause-loads : goal.returns-then-covers-clause-loads
 returns-then-covers-clause-loads g c = let test = c.covers.ensures in let low : birth_in_word c.load_node-found.result ≤ c.args.self.now.era = leb-true _ _ (sym test ∙ c.if-covers.true) in
-    word_held (face g.A.Monoid.parts g.B.Monoid.parts) c.args.pass.now.view c.load_node-found.new.self.view c.args.self.now c.args.node c.load_node-found.result c.requires.reserved.0 c.requires.reserved.1 c.requires.stocks c.requires.inner low c.load_node-found.ensures.view
+    word_held (face g.A.Monoid.parts g.B.Monoid.parts) c.args.pass.now.view c.load_node-found.new.self.view c.args.self.now c.args.node c.load_node-found.result c.requires.reserved c.requires.stocks c.requires.inner low c.load_node-found.ensures.view
 
 pub returns-then-covers-clause-still : goal.returns-then-covers-clause-still
 returns-then-covers-clause-still g c = record { table = c.load_node-found.ensures.table; view = (word_of_node_loaded (face g.A.Monoid.parts g.B.Monoid.parts) c.args.pass.now.view c.load_node-found.new.self.view c.args.node c.load_node-found.result c.load_node-found.ensures.view).still }

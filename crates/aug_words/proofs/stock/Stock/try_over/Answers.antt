@@ -5,7 +5,7 @@ use Rattle.aug_words.proofs.stock.Stock.try_over.Goals as goal
 
 pub returns-then-covers_all-clause-loads : goal.returns-then-covers_all-clause-loads
 returns-then-covers_all-clause-loads g c = let are = c.requires.leaves in let told = all_early c.args.self.now.era c.args.leaves (2 * (c.args.node - c.args.leaves)) c.load_words-found.result (sym c.covers_all.ensures ∙ c.if-covers_all.true) in
-    three_held (face g.A.Monoid.parts g.B.Monoid.parts) c.args.pass.now.view c.load_words-found.new.pass.view c.args.self.now c.args.node c.load_words-found.result c.requires.reserved.0 c.requires.reserved.1 c.requires.stocks c.requires.inner told.0
+    three_held (face g.A.Monoid.parts g.B.Monoid.parts) c.args.pass.now.view c.load_words-found.new.pass.view c.args.self.now c.args.node c.load_words-found.result c.requires.reserved c.requires.stocks c.requires.inner told.0
     (λ past. told.1 (omega arith)) c.load_words-found.ensures.view
 
 pub returns-then-covers_all-clause-stocks : goal.returns-then-covers_all-clause-stocks
